@@ -1,0 +1,184 @@
+// Scripts through `run`, over sources and sinks in memory.
+use crate::{INPUT_LIMIT, Status, run};
+use gl_plane::NoMemory;
+use gl_port::{MemSink, MemSource};
+use std::alloc::Global;
+use std::test::Fail;
+
+const DONE: Status = Status::Done { refused: false };
+
+const REFUSED: Status = Status::Done { refused: true };
+
+const SUM: &[u8] = b"set A1 2\nset B1 40\nset C1 =A1+B1\nshow C1\n";
+
+const SUM_REPLIES: &[u8] = b"ok\nok\nok\n42\n";
+
+// How a run is cut, which of its reads and writes fail, and the room of its sink.
+#[derive(Clone, Copy)]
+struct Plan<'a> {
+    step: usize,
+    reads: &'a [u64],
+    writes: &'a [u64],
+    room: usize,
+}
+
+// Nothing fails.
+fn cut_at(step: usize) -> Plan<'static> {
+    Plan {
+        step,
+        reads: &[],
+        writes: &[],
+        room: 1000,
+    }
+}
+
+fn ends(
+    alloc: Global,
+    script: &[u8],
+    plan: &Plan<'_>,
+    status: Status,
+    replies: &[u8],
+) -> Result<bool, NoMemory> {
+    let step = plan.step.max(1);
+    let reads = plan.reads.to_vec(alloc)?;
+    let writes = plan.writes.to_vec(alloc)?;
+    let mut source = MemSource::new(script.to_vec(alloc)?, step, reads);
+    let mut sink = MemSink::new(alloc, plan.room, step, writes)?;
+    let ended = run(alloc, &[], &mut source, &mut sink);
+    Ok(ended == status && sink.taken() == replies)
+}
+
+#[test]
+fn scripts_are_answered(rt: HostRuntime) -> Result<(), Fail> {
+    for (script, replies, status) in [
+        (b"".as_slice(), b"".as_slice(), DONE),
+        (SUM, SUM_REPLIES, DONE),
+        // a sum that leaves the range of numbers
+        (
+            b"set A1 =9223372036854775807+1\nshow A1\n".as_slice(),
+            b"ok\n#NUM!\n".as_slice(),
+            DONE,
+        ),
+        // what follows `quit` is not read
+        (b"quit\nfoo\n".as_slice(), b"bye\n".as_slice(), DONE),
+        // a cycle, and a cell that reads it
+        (
+            b"set A1 =B1+1\nset B1 =A1\nshow A1\nshow C1\nset A1 07\nshow B1\nshow A0\nset A1 =(1)\n".as_slice(),
+            b"ok\nok\n#CYCLE!\n.\nok\n7\nerror address\nerror syntax\n".as_slice(),
+            REFUSED,
+        ),
+        // off the grid
+        (
+            b"show A0\nshow A10000\nshow AAA1\n".as_slice(),
+            b"error address\nerror address\nerror address\n".as_slice(),
+            REFUSED,
+        ),
+        // the payload is no script
+        (
+            b"set A1 2\nimport A1 5\nquit\nshow A1\n".as_slice(),
+            b"ok\nerror command\n2\n".as_slice(),
+            REFUSED,
+        ),
+        (
+            b"import A1 6\nquit\n".as_slice(),
+            b"error truncated\n".as_slice(),
+            REFUSED,
+        ),
+    ] {
+        assert!(rt; ends(rt.alloc(), script, &cut_at(4096), status, replies)?);
+    }
+    Ok(())
+}
+
+#[test]
+fn long_lines_are_refused(rt: HostRuntime) -> Result<(), Fail> {
+    let alloc = rt.alloc();
+    for (byte, len, replies, status) in [
+        (b'a', 32769usize, b"error line\n".as_slice(), REFUSED),
+        (b';', 32768, b"".as_slice(), DONE),
+    ] {
+        let mut script = vec![in alloc; byte; len]?;
+        script.push(b'\n')?;
+        assert!(rt; ends(alloc, &script, &cut_at(4096), status, replies)?);
+    }
+    Ok(())
+}
+
+#[test]
+fn every_cut_has_the_same_replies(rt: HostRuntime) -> Result<(), Fail> {
+    for step in 1usize..41 {
+        assert!(rt; ends(rt.alloc(), SUM, &cut_at(step), DONE, SUM_REPLIES)?, "{step}");
+        let script = b"set A1 2\r\nimport A1 5\r\nquit\nshow A1";
+        let replies = b"ok\nerror command\n2\n";
+        assert!(rt; ends(rt.alloc(), script, &cut_at(step), REFUSED, replies)?, "{step}");
+    }
+    Ok(())
+}
+
+#[test]
+fn each_read_fails(rt: HostRuntime) -> Result<(), Fail> {
+    for (numbers, replies) in [
+        (0u64..9, b"".as_slice()),
+        (9..19, b"ok\n".as_slice()),
+        (19..33, b"ok\nok\n".as_slice()),
+        (33..41, b"ok\nok\nok\n".as_slice()),
+        (41..42, SUM_REPLIES),
+    ] {
+        for number in numbers {
+            let plan = Plan {
+                reads: &[number],
+                ..cut_at(1)
+            };
+            assert!(rt; ends(rt.alloc(), SUM, &plan, Status::ReadFault, replies)?, "{number}");
+        }
+    }
+    Ok(())
+}
+
+#[test]
+fn each_write_fails(rt: HostRuntime) -> Result<(), Fail> {
+    for (number, replies) in [
+        (0u64, b"".as_slice()),
+        (1, b"ok\n".as_slice()),
+        (2, b"ok\nok\n".as_slice()),
+        (3, b"ok\nok\nok\n".as_slice()),
+    ] {
+        let plan = Plan {
+            writes: &[number],
+            ..cut_at(3)
+        };
+        assert!(rt; ends(rt.alloc(), SUM, &plan, Status::WriteFault, replies)?, "{number}");
+    }
+    let plan = Plan {
+        room: 5,
+        ..cut_at(4096)
+    };
+    assert!(rt; ends(rt.alloc(), SUM, &plan, Status::WriteFault, b"ok\nok")?);
+    Ok(())
+}
+
+#[test]
+fn words_are_refused(rt: HostRuntime) -> Result<(), Fail> {
+    let alloc = rt.alloc();
+    let words = [String::from_str(alloc, "--what")?];
+    let mut source = MemSource::new(SUM.to_vec(alloc)?, 1, Vec::new(alloc));
+    let mut sink = MemSink::new(alloc, 100, 1, Vec::new(alloc))?;
+    assert!(rt; run(alloc, &words, &mut source, &mut sink) == Status::Usage);
+    assert!(rt; sink.taken().is_empty());
+    Ok(())
+}
+
+#[test]
+fn the_input_has_a_limit(rt: HostRuntime) -> Result<(), Fail> {
+    let alloc = rt.alloc();
+    let mut line = vec![in alloc; b';'; 32767]?;
+    line.push(b'\n')?;
+    let mut script = Vec::with_capacity(alloc, INPUT_LIMIT + 1)?;
+    for _ in 0..512 {
+        script.extend_from_slice(&line)?;
+    }
+    assert!(rt; ends(alloc, &script, &cut_at(4096), DONE, b"")?);
+    script.push(b';')?;
+    assert!(rt; ends(alloc, &script, &cut_at(4096), Status::InputLimit, b"")?);
+    Ok(())
+}

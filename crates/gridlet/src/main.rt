@@ -1,0 +1,43 @@
+//! Gridlet: a spreadsheet run by a script. Commands come in on standard input, and one reply to each
+//! goes out on standard output.
+#![tactic(auto)]
+
+use gl_port::{StdIn, StdOut};
+use gl_run::{Status, run};
+use std::io::{self, ErrorKind};
+use std::process::ExitCode;
+
+// The status that the process ends with.
+fn exit_status(status: Status) -> u8 {
+    match status {
+        Status::Done { refused: false } => 0,
+        Status::Done { refused: true } => 1,
+        Status::Usage => 2,
+        Status::NoMemory => 3,
+        Status::ReadFault => 4,
+        Status::WriteFault => 5,
+        Status::InputLimit => 6,
+    }
+}
+
+// The words behind the program's name.
+fn words(rt: &HostRuntime) -> io::Result<Vec<String>> {
+    let mut all = std::env::args(rt)?;
+    let _program = all.next();
+    Ok(all.collect(rt.alloc())?)
+}
+
+fn main(rt: HostRuntime) -> ExitCode {
+    let words = match words(&rt) {
+        Ok(words) => words,
+        Err(error) if error.kind() == ErrorKind::OutOfMemory => {
+            return ExitCode::from(exit_status(Status::NoMemory));
+        }
+        // a word is no UTF-8
+        Err(_) => return ExitCode::from(exit_status(Status::Usage)),
+    };
+    let mut source = StdIn::new(rt.stdin());
+    let mut sink = StdOut::new(rt.stdout());
+    let status = run(rt.alloc(), &words, &mut source, &mut sink);
+    ExitCode::from(exit_status(status))
+}
