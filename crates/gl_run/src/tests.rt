@@ -1,5 +1,6 @@
 // Scripts through `run`, over sources and sinks in memory.
-use crate::{INPUT_LIMIT, Status, run};
+use crate::top::INPUT_LIMIT;
+use crate::{Status, run};
 use gl_plane::NoMemory;
 use gl_port::{MemSink, MemSource};
 use std::alloc::Global;
@@ -107,10 +108,16 @@ fn long_lines_are_refused(rt: HostRuntime) -> Result<(), Fail> {
 #[test]
 fn every_cut_has_the_same_replies(rt: HostRuntime) -> Result<(), Fail> {
     for step in 1usize..41 {
-        assert!(rt; ends(rt.alloc(), SUM, &cut_at(step), DONE, SUM_REPLIES)?, "{step}");
+        assert!(rt;
+            ends(rt.alloc(), SUM, &cut_at(step), DONE, SUM_REPLIES)?,
+            "{step}"
+        );
         let script = b"set A1 2\r\nimport A1 5\r\nquit\nshow A1";
         let replies = b"ok\nerror command\n2\n";
-        assert!(rt; ends(rt.alloc(), script, &cut_at(step), REFUSED, replies)?, "{step}");
+        assert!(rt;
+            ends(rt.alloc(), script, &cut_at(step), REFUSED, replies)?,
+            "{step}"
+        );
     }
     Ok(())
 }
@@ -129,7 +136,10 @@ fn each_read_fails(rt: HostRuntime) -> Result<(), Fail> {
                 reads: &[number],
                 ..cut_at(1)
             };
-            assert!(rt; ends(rt.alloc(), SUM, &plan, Status::ReadFault, replies)?, "{number}");
+            assert!(rt;
+                ends(rt.alloc(), SUM, &plan, Status::ReadFault, replies)?,
+                "{number}"
+            );
         }
     }
     Ok(())
@@ -147,7 +157,10 @@ fn each_write_fails(rt: HostRuntime) -> Result<(), Fail> {
             writes: &[number],
             ..cut_at(3)
         };
-        assert!(rt; ends(rt.alloc(), SUM, &plan, Status::WriteFault, replies)?, "{number}");
+        assert!(rt;
+            ends(rt.alloc(), SUM, &plan, Status::WriteFault, replies)?,
+            "{number}"
+        );
     }
     let plan = Plan {
         room: 5,
