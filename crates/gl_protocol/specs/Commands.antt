@@ -17,7 +17,8 @@ use Rattle.gl_language.specs.Token.{is_digit, digits_value, Decodes, LexFault}
 use Rattle.gl_language.specs.Token as T
 use Rattle.gl_language.specs.Grammar.{Parses, IsParseFault, ParseFault}
 use Rattle.gl_language.specs.Grammar as G
-use Rattle.gl_protocol.specs.Framing.{Item, Line, Import, Long, Truncated, cut_at, pieces, is_number}
+use Rattle.gl_protocol.specs.Framing.{Item, Line, Import, Long, Truncated}
+use Rattle.gl_protocol.specs.Pieces.{cut_at, pieces, is_number}
 use Rattle.gl_calculus.specs.Calculation.{Answer, SpentKind, IsAnswer, Shown, IsShown}
 use Rattle.gl_calculus.specs.Calculation as A
 use Rattle.gl_calculus.specs.Oracle as O
