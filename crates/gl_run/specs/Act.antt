@@ -9,14 +9,7 @@ use Rattle.gl_protocol.specs.Tables.{line}
 use Rattle.gl_protocol.specs.Framing.{Item, Line, Import, Long, Truncated}
 use Rattle.gl_protocol.specs.Commands.{Is, Not, Word, LineWord, CommandWord, TruncatedWord, Nothing, Quit, Set, Show, with_content, error_line, ok_line}
 use Rattle.gl_run.specs.Reading.{ReadsLine}
-
--- the contents of the sheet
-abbrev pub State : Type 0
-State = Cells
-
--- the state at the start
-abbrev pub start : State
-start = []
+use Rattle.gl_run.specs.State.{State}
 
 -- a reply is a refusal where it begins as one
 unfoldable pub is_error : Bytes → Bool

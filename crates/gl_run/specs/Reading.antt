@@ -80,13 +80,16 @@ pub data ReadsSet (place : Bytes) : TextForm → Read Request → Type 0 where
   sum_place : {t : Bytes} → NoAddress place → ReadsSet place (Equals t) (Not AddressWord)
   neither : ReadsSet place Neither (Not CommandWord)
 
+-- no command that is known here
+abbrev pub IsOther : Option Words → Type 0
+IsOther ws = (ws ≢ Some QuitWords) × ((place : Bytes) → ws ≢ Some (ShowWords place)) × ((place t : Bytes) → ws ≢ Some (SetWords place t))
+
 pub data ReadsWords : Option Words → Read Request → Type 0 where
   quit : ReadsWords (Some QuitWords) (Is Quit)
   show : {place : Bytes} {a : Addr} → IsAddress place a → ReadsWords (Some (ShowWords place)) (Is (Show a))
   show_place : {place : Bytes} → NoAddress place → ReadsWords (Some (ShowWords place)) (Not AddressWord)
   set : {place t : Bytes} {r : Read Request} → ReadsSet place (text_form t) r → ReadsWords (Some (SetWords place t)) r
-  -- no other command is known
-  other : {ws : Option Words} → ws ≢ Some QuitWords → ((place : Bytes) → ws ≢ Some (ShowWords place)) → ((place t : Bytes) → ws ≢ Some (SetWords place t)) → ReadsWords ws (Not CommandWord)
+  other : {ws : Option Words} → IsOther ws → ReadsWords ws (Not CommandWord)
 
 pub data ReadsLine (l : Bytes) : Read Request → Type 0 where
   comment : IsTrue (is_comment l) → ReadsLine l (Is Nothing)

@@ -14,7 +14,7 @@ use Rattle.gl_calculus.specs.Formula.{Formula, Cells, Form, content}
 use Rattle.gl_calculus.specs.Facts.{facts}
 use Rattle.gl_calculus.specs.Key.{Key, Cell, Settle, Outcome, Eval}
 use Rattle.gl_calculus.specs.Evaluation.{program, eval}
-use Rattle.gl_calculus.specs.Calculation.{TopHas, TopLoops}
+use Rattle.gl_calculus.specs.Calculation.{TopHas, TopLoops, Shown, Cycle}
 use Rattle.gl_run.specs.Contents.{addr_cmp, plain_sum}
 use Rattle.gl_run.specs.declared.sheet_content.Content.{Content}
 use Rattle.gl_run.specs.declared.sheet_content.Content.TheVariants as c
@@ -25,6 +25,11 @@ abbrev pub plain_scalar : Scalar → V.Scalar
 plain_scalar s.Blank = V.Scalar.Blank
 plain_scalar (s.Int n) = V.Scalar.Int n
 plain_scalar s.TooLarge = V.Scalar.Err ErrKind.Num
+
+-- what is shown, where `None` is a cycle
+abbrev pub plain_shown : Option Scalar → Shown
+plain_shown None = Cycle
+plain_shown (Some x) = Shown.Value (plain_scalar x)
 
 abbrev pub outcome_of : Scalar → Outcome
 outcome_of x = Outcome.Value (One (plain_scalar x))
