@@ -1,0 +1,79 @@
+//! The words of a line.
+ghost use Rattle.std.specs.Prelude.{◌≡◌};
+ghost use Rattle.std.specs.Option.{option_copied};
+ghost use Rattle.gl_protocol.specs.Framing.{cut_at};
+ghost use Rattle.gl_protocol.specs.Commands.{words_of};
+ghost use Rattle.gl_run.specs.Lines.{HasWords};
+
+/// A command with its arguments as they stand.
+pub enum Words<'a> {
+    Quit,
+    Show(&'a [u8]),
+    Set(&'a [u8], &'a [u8]),
+    /// Another command, or none.
+    Other,
+}
+
+/// What stands before the first separator, and what follows it if there is one.
+pub fn cut(bytes: &[u8], separator: u8) -> (&[u8], Option<&[u8]>)
+    ensures front { result.0.now ≡ (cut_at separator bytes.now).0 }
+    ensures back { option_copied result.1 ≡ (cut_at separator bytes.now).1 }
+{
+    match bytes.iter().position(|b| *b == separator) {
+        Some(i) => (&bytes[..i], Some(&bytes[i + 1..])),
+        None => (bytes, None),
+    }
+}
+
+/// The words of a line: it is cut at each space, and the text of `set` is all behind the second.
+pub fn split_words(line: &[u8]) -> Words<'_>
+    ensures { HasWords (words_of line.now) result }
+{
+    let (word, rest) = cut(line, b' ');
+    match rest {
+        None => {
+            if word == b"quit".as_slice() {
+                Words::Quit
+            } else {
+                Words::Other
+            }
+        }
+        Some(rest) => {
+            if word == b"set".as_slice() {
+                set_words(rest)
+            } else if word == b"show".as_slice() {
+                show_words(rest)
+            } else {
+                Words::Other
+            }
+        }
+    }
+}
+
+fn show_words(rest: &[u8]) -> Words<'_> {
+    let (place, more) = cut(rest, b' ');
+    match more {
+        None => {
+            if place.is_empty() {
+                Words::Other
+            } else {
+                Words::Show(place)
+            }
+        }
+        Some(_) => Words::Other,
+    }
+}
+
+fn set_words(rest: &[u8]) -> Words<'_> {
+    let (place, text) = cut(rest, b' ');
+    match text {
+        None => Words::Other,
+        Some(text) => {
+            if place.is_empty() || text.is_empty() {
+                Words::Other
+            } else {
+                Words::Set(place, text)
+            }
+        }
+    }
+}
