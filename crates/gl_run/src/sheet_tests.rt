@@ -1,5 +1,6 @@
 //! Scripts with their replies.
-use crate::{Sheet, answer_line, answer_long, answer_payload, answer_truncated, is_error};
+use crate::sheet::Sheet;
+use crate::sheet_answers::{answer_line, answer_long, answer_payload, answer_truncated, is_error};
 use gl_plane::NoMemory;
 use std::alloc::Global;
 use std::test::Fail;
