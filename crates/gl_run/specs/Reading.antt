@@ -10,7 +10,7 @@ use Rattle.gl_calculus.specs.Formula as F
 use Rattle.gl_calculus.specs.Formula.{Formula, Operands, Const, Form}
 use Rattle.gl_language.specs.Text.{Bytes}
 use Rattle.gl_language.specs.Token.{is_digit, IsRow, digits_value}
-use Rattle.gl_protocol.specs.Framing.{pieces}
+use Rattle.gl_protocol.specs.Pieces.{pieces}
 use Rattle.gl_protocol.specs.Commands.{Words, QuitWords, SetWords, ShowWords, words_of, signed_value, is_comment, IsAddress, NoAddress, Read, Is, Not, Word, CommandWord, AddressWord, SyntaxWord, Request, Nothing, Quit, Set, Show}
 
 -- ---- sums

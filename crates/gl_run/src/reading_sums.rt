@@ -1,13 +1,14 @@
 //! Sums of addresses and integers.
-ghost use Rattle.std.specs.Prelude.{◌≡◌, IfOk, IfSome, IfNone, MatchOption, reverse};
+ghost use Rattle.std.specs.Prelude.{◌≡◌, ◌<◌, ◌^◌, pos, SomeIff, IfOk, IfSome, IfNone, MatchOption, reverse};
 ghost use Rattle.gl_calculus.specs.Formula.{Formula};
+ghost use Rattle.gl_language.specs.Token.{is_digit, IsRow, digits_value};
 ghost use Rattle.gl_run.specs.Reading.{IsTerm, IsSum, without_front, trimmed};
 ghost use Rattle.gl_run.specs.Contents.{plain_term, plain_sum};
 
 use crate::reading_numbers::read_digits;
-use crate::reading_words::cut;
+use crate::reading_words::{cut, read_address};
 use crate::sheet_content::Term;
-use gl_plane::{Addr, NoMemory};
+use gl_plane::NoMemory;
 use std::alloc::Global;
 
 /// The most bytes of a formula behind its `=`.
@@ -39,9 +40,22 @@ fn trim(bytes: &[u8]) -> &[u8]
     without_back(without_front(bytes))
 }
 
-fn read_integer(bytes: &[u8]) -> Option<i64> {
+fn token_number(n: u64) -> Option<i64>
+    ensures { SomeIff result (n < 2 ^ 63) (pos n) }
+{
+    match i64::try_from(n) {
+        Ok(number) => Some(number),
+        Err(_) => None,
+    }
+}
+
+// The number of an integer token.
+fn read_integer(bytes: &[u8]) -> Option<i64>
+    ensures some { IfSome result (λ n. IsRow is_digit bytes.now × (digits_value bytes.now < 2 ^ 63) × (n ≡ pos (digits_value bytes.now))) }
+    ensures none { IfNone result (IsRow is_digit bytes.now → digits_value bytes.now < 2 ^ 63 → ⊥) }
+{
     match read_digits(bytes) {
-        Some(n) => 0i64.checked_add_unsigned(n),
+        Some(n) => token_number(n),
         None => None,
     }
 }
@@ -51,7 +65,7 @@ fn read_term(bytes: &[u8]) -> Option<Term>
     ensures some { IfSome result (λ t. IsTerm bytes.now (plain_term t)) }
     ensures none { IfNone result ((f : Formula) → IsTerm bytes.now f → ⊥) }
 {
-    match Addr::read(bytes) {
+    match read_address(bytes) {
         Some(a) => Some(Term::At(a)),
         None => match read_integer(bytes) {
             Some(n) => Some(Term::Int(n)),

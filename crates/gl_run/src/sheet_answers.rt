@@ -1,8 +1,15 @@
 //! The replies to the items of a script.
-ghost use Rattle.std.specs.Prelude.{◌≡◌, IfOk, OnErr};
-ghost use Rattle.gl_language.specs.Text.{shown_text};
+ghost use Rattle.std.specs.Prelude.{◌≡◌, [], IfOk, OnErr};
+ghost use Rattle.std.specs.Fmt.{signed_decimal};
+ghost use Rattle.gl_calculus.specs.Formula.{Version};
+ghost use Rattle.gl_calculus.specs.Calculation.{Shown, IsShown};
+ghost use Rattle.gl_language.specs.Text.{Bytes, shown_text};
 ghost use Rattle.gl_protocol.specs.Framing.{Line, Import, Long, Truncated};
 ghost use Rattle.gl_protocol.specs.Tables.{line};
+ghost use Rattle.gl_protocol.specs.Commands.{Is, ok_line, with_content};
+ghost use Rattle.gl_run.specs.Reading.{ReadsLine};
+ghost use Rattle.gl_run.specs.Contents.{plain_content};
+ghost use Rattle.gl_run.specs.Lines.{plain_request};
 ghost use Rattle.gl_run.specs.State.{state_of};
 ghost use Rattle.gl_run.specs.Act.{Act, is_error};
 ghost use Rattle.gl_run.specs.Values.{plain_shown};
@@ -21,7 +28,9 @@ pub fn is_error(reply: &[u8]) -> bool
     reply.starts_with(b"error ".as_slice())
 }
 
-fn number_line(alloc: Global, n: i64) -> Result<Vec<u8>, NoMemory> {
+fn number_line(alloc: Global, n: i64) -> Result<Vec<u8>, NoMemory>
+    ensures { IfOk result (λ reply. reply.items ≡ line (signed_decimal n)) }
+{
     let text = format!(in alloc; "{n}\n")?;
     Ok(text.into_bytes())
 }
@@ -38,7 +47,9 @@ fn shown_line(alloc: Global, shown: Option<Scalar>) -> Result<Vec<u8>, NoMemory>
     }
 }
 
-fn show(alloc: Global, sheet: &Sheet, a: Addr) -> Result<Vec<u8>, NoMemory> {
+fn show(alloc: Global, sheet: &Sheet, a: Addr) -> Result<Vec<u8>, NoMemory>
+    ensures { IfOk result (λ reply. (x : Shown) × IsShown Version.One (state_of sheet.now) [] a x × (reply.items ≡ line (shown_text x))) }
+{
     match sheet.shown(alloc, a) {
         Ok(shown) => shown_line(alloc, shown),
         Err(NoMemory) => Err(NoMemory),
@@ -46,11 +57,31 @@ fn show(alloc: Global, sheet: &Sheet, a: Addr) -> Result<Vec<u8>, NoMemory> {
 }
 
 // The reply is made first, so that the sheet changes only with it.
-fn set(alloc: Global, sheet: &mut Sheet, a: Addr, content: Content) -> Result<Vec<u8>, NoMemory> {
+fn set(alloc: Global, sheet: &mut Sheet, a: Addr, content: Content) -> Result<Vec<u8>, NoMemory>
+    ensures ok { IfOk result (λ reply. (reply.items ≡ ok_line) × (state_of sheet.new ≡ with_content (state_of sheet.old) a (plain_content content))) }
+    ensures err { OnErr result (state_of sheet.new ≡ state_of sheet.old) }
+{
     let reply = b"ok\n".to_vec(alloc)?;
     match sheet.set(a, content) {
         Ok(()) => Ok(reply),
         Err(NoMemory) => Err(NoMemory),
+    }
+}
+
+// Does what is asked.
+fn answer_request(
+    alloc: Global,
+    sheet: &mut Sheet,
+    request: Request,
+) -> Result<Vec<u8>, NoMemory>
+    ensures ok { IfOk result (λ reply. (l : Bytes) → ReadsLine l (Is (plain_request request)) → Act (state_of sheet.old) (Line l) (state_of sheet.new) reply.items) }
+    ensures err { OnErr result (state_of sheet.new ≡ state_of sheet.old) }
+{
+    match request {
+        Request::Nothing => Ok(Vec::new(alloc)),
+        Request::Quit => Ok(b"bye\n".to_vec(alloc)?),
+        Request::Set(a, content) => set(alloc, sheet, a, content),
+        Request::Show(a) => show(alloc, sheet, a),
     }
 }
 
@@ -60,10 +91,7 @@ pub fn answer_line(alloc: Global, sheet: &mut Sheet, bytes: &[u8]) -> Result<Vec
     ensures err { OnErr result (state_of sheet.new ≡ state_of sheet.old) }
 {
     match read_line(alloc, bytes) {
-        Ok(Request::Nothing) => Ok(Vec::new(alloc)),
-        Ok(Request::Quit) => Ok(b"bye\n".to_vec(alloc)?),
-        Ok(Request::Set(a, content)) => set(alloc, sheet, a, content),
-        Ok(Request::Show(a)) => show(alloc, sheet, a),
+        Ok(request) => answer_request(alloc, sheet, request),
         Err(Fault::Command) => Ok(b"error command\n".to_vec(alloc)?),
         Err(Fault::Address) => Ok(b"error address\n".to_vec(alloc)?),
         Err(Fault::Syntax) => Ok(b"error syntax\n".to_vec(alloc)?),
