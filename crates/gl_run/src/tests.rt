@@ -49,44 +49,65 @@ fn ends(
     Ok(ended == status && sink.taken() == replies)
 }
 
+// Scripts, their replies, and how they end.
+const ROWS: [(&[u8], &[u8], Status); 12] = [
+    (b"", b"", DONE),
+    (SUM, SUM_REPLIES, DONE),
+    // a sum that leaves the range of numbers
+    (
+        b"set A1 =9223372036854775807+1\nshow A1\n",
+        b"ok\n#NUM!\n",
+        DONE,
+    ),
+    // what follows `quit` is not used
+    (b"quit\nfoo\n", b"bye\n", DONE),
+    (b"; a comment\n\nquit", b"bye\n", DONE),
+    // a cycle, and a cell that is blank
+    (
+        b"set A1 =B1+1\nset B1 =A1\nshow A1\nshow C1\nset A1 07\nshow B1\nshow A0\nset A1 =(1)\n",
+        b"ok\nok\n#CYCLE!\n.\nok\n7\nerror address\nerror syntax\n",
+        REFUSED,
+    ),
+    // a cell that is not on the ring, and reads a cell of it
+    (
+        b"set A1 =B1\nset B1 =A1\nset C1 =1+A1\nshow C1\n",
+        b"ok\nok\nok\n#CYCLE!\n",
+        DONE,
+    ),
+    // off the grid
+    (
+        b"show A0\nshow A10000\nshow AAA1\n",
+        b"error address\nerror address\nerror address\n",
+        REFUSED,
+    ),
+    // the least number, and blanks
+    (
+        b"set ZZ9999 -9223372036854775808\nset A1 = ZZ9999 + 1 \nshow A1\nset A2 =C9\nshow A2\nset A2 =C9+C9\nshow A2",
+        b"ok\nok\n-9223372036854775807\nok\n.\nok\n0\n",
+        DONE,
+    ),
+    // lines that are no command
+    (
+        b"show  A1\nshow A1 \nset A1\nset A1 \nset A1 9223372036854775808\nset A0 x\nset A0 =\nset A1 =1 2\nlist\n\xff",
+        b"error command\nerror command\nerror command\nerror command\nerror command\nerror command\nerror address\nerror syntax\nerror command\nerror command\n",
+        REFUSED,
+    ),
+    // a payload is no part of the script
+    (
+        b"set A1 2\nimport A1 5\nquit\nshow A1\n",
+        b"ok\nerror command\n2\n",
+        REFUSED,
+    ),
+    (b"import A1 6\nquit\n", b"error truncated\n", REFUSED),
+];
+
 #[test]
 fn scripts_are_answered(rt: HostRuntime) -> Result<(), Fail> {
-    for (script, replies, status) in [
-        (b"".as_slice(), b"".as_slice(), DONE),
-        (SUM, SUM_REPLIES, DONE),
-        // a sum that leaves the range of numbers
-        (
-            b"set A1 =9223372036854775807+1\nshow A1\n".as_slice(),
-            b"ok\n#NUM!\n".as_slice(),
-            DONE,
-        ),
-        // what follows `quit` is not read
-        (b"quit\nfoo\n".as_slice(), b"bye\n".as_slice(), DONE),
-        // a cycle, and a cell that reads it
-        (
-            b"set A1 =B1+1\nset B1 =A1\nshow A1\nshow C1\nset A1 07\nshow B1\nshow A0\nset A1 =(1)\n".as_slice(),
-            b"ok\nok\n#CYCLE!\n.\nok\n7\nerror address\nerror syntax\n".as_slice(),
-            REFUSED,
-        ),
-        // off the grid
-        (
-            b"show A0\nshow A10000\nshow AAA1\n".as_slice(),
-            b"error address\nerror address\nerror address\n".as_slice(),
-            REFUSED,
-        ),
-        // the payload is no script
-        (
-            b"set A1 2\nimport A1 5\nquit\nshow A1\n".as_slice(),
-            b"ok\nerror command\n2\n".as_slice(),
-            REFUSED,
-        ),
-        (
-            b"import A1 6\nquit\n".as_slice(),
-            b"error truncated\n".as_slice(),
-            REFUSED,
-        ),
-    ] {
-        assert!(rt; ends(rt.alloc(), script, &cut_at(4096), status, replies)?);
+    for (script, replies, status) in ROWS {
+        assert!(rt;
+            ends(rt.alloc(), script, &cut_at(4096), status, replies)?,
+            "{script:?}"
+        );
     }
     Ok(())
 }
