@@ -7,7 +7,7 @@ use Rattle.gl_calculus.specs.Formula as F
 use Rattle.gl_calculus.specs.Formula.{Formula}
 use Rattle.gl_language.specs.Text.{Bytes}
 use Rattle.gl_language.specs.Token.{is_digit, digits_value, IsRow}
-use Rattle.gl_protocol.specs.Framing.{cut_at, pieces}
+use Rattle.gl_protocol.specs.Pieces.{cut_at, pieces}
 use Rattle.gl_protocol.specs.Commands.{NoAddress}
 use Rattle.gl_run.specs.Reading.{IsTerm, integer, address, trimmed, AreTerms, no_term, term_and, sum_tree, IsSum}
 use Rattle.gl_run.specs.Contents.{plain_term, plain_sum}

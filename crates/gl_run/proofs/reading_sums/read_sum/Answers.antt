@@ -1,7 +1,7 @@
 use Rattle.std.proofs.Common.{◌≡◌, ◌∙◌, ◌<◌, ◌∷◌, [], List, ℕ, Option, Some, sym, subst, ap, arith}
 use Rattle.std.specs.Option.{option_copied}
 use Rattle.gl_language.specs.Text.{Bytes}
-use Rattle.gl_protocol.specs.Framing.{pieces}
+use Rattle.gl_protocol.specs.Pieces.{pieces}
 use Rattle.gl_run.specs.Reading.{IsTerm, trimmed}
 use Rattle.gl_run.specs.Contents.{plain_term}
 use Rattle.gl_run.specs.declared.sheet_content.Term.{Term}
