@@ -69,11 +69,7 @@ fn set(alloc: Global, sheet: &mut Sheet, a: Addr, content: Content) -> Result<Ve
 }
 
 // Does what is asked.
-fn answer_request(
-    alloc: Global,
-    sheet: &mut Sheet,
-    request: Request,
-) -> Result<Vec<u8>, NoMemory>
+fn answer_request(alloc: Global, sheet: &mut Sheet, request: Request) -> Result<Vec<u8>, NoMemory>
     ensures ok { IfOk result (λ reply. (l : Bytes) → ReadsLine l (Is (plain_request request)) → Act (state_of sheet.old) (Line l) (state_of sheet.new) reply.items) }
     ensures err { OnErr result (state_of sheet.new ≡ state_of sheet.old) }
 {

@@ -17,7 +17,10 @@ fn replies(alloc: Global, script: &[u8]) -> Result<Vec<u8>, NoMemory> {
 const ROWS: [(&[u8], &[u8]); 8] = [
     (b"", b""),
     (b"; a comment\n\nquit", b"bye\n"),
-    (b"set A1 2\nset B1 40\nset C1 =A1+B1\nshow C1", b"ok\nok\nok\n42\n"),
+    (
+        b"set A1 2\nset B1 40\nset C1 =A1+B1\nshow C1",
+        b"ok\nok\nok\n42\n",
+    ),
     (b"set A1 =9223372036854775807+1\nshow A1", b"ok\n#NUM!\n"),
     (
         b"set A1 =B1+1\nset B1 =A1\nshow A1\nshow C1\nset A1 07\nshow B1\nshow A0\nset A1 =(1)",
@@ -50,7 +53,12 @@ fn rows(rt: HostRuntime) -> Result<(), Fail> {
 fn other_items(rt: HostRuntime) -> Result<(), Fail> {
     let alloc = rt.alloc();
     let mut sheet = Sheet::new(alloc);
-    let import = answer_payload(alloc, &mut sheet, b"import A1 1".as_slice(), b"1".as_slice())?;
+    let import = answer_payload(
+        alloc,
+        &mut sheet,
+        b"import A1 1".as_slice(),
+        b"1".as_slice(),
+    )?;
     assert!(rt; import.as_slice() == b"error command\n".as_slice());
     let long = answer_long(alloc, &mut sheet)?;
     assert!(rt; long.as_slice() == b"error line\n".as_slice());
