@@ -1,18 +1,13 @@
 -- What is read of a line, by what is read of its words.
-use Rattle.std.proofs.Common.{◌≡◌, ℕ, Bool, true, false, Option, Some, Result, Ok, Err, IsTrue, IfOk, refl, sym, ap}
+use Rattle.std.proofs.Common.{◌≡◌, ℕ, Bool, true, false, Option, Some, Result, Ok, Err, IsTrue, refl, sym, ap}
 use Rattle.std.specs.Prelude.{IsFalse}
 use Rattle.std.specs.Str.{is_utf8, IsUtf8}
-use Rattle.std.specs.declared.vec.Vec.{Vec}
 use Rattle.std.proofs.lemmas.Str.{IsUtf8-from_is_utf8}
-use Rattle.gl_calculus.specs.Formula.{Cells}
 use Rattle.gl_language.specs.Text.{Bytes}
-use Rattle.gl_plane.specs.declared.NoMemory.{NoMemory}
-use Rattle.gl_protocol.specs.Framing.{Line}
-use Rattle.gl_run.specs.Act.{Act}
-use Rattle.gl_run.specs.Reading.{text_form, ReadsSet, ReadsWords, set, ReadsLine}
+use Rattle.gl_run.specs.Reading.{text_form, ReadsSet, ReadsWords, set}
 use Rattle.gl_protocol.specs.Commands as C
-use Rattle.gl_protocol.specs.Commands.{Read, Is}
-use Rattle.gl_run.specs.Lines.{Reads, plain_request}
+use Rattle.gl_protocol.specs.Commands.{Read}
+use Rattle.gl_run.specs.Lines.{Reads}
 use Rattle.gl_run.specs.declared.reading.Request.{Request}
 use Rattle.gl_run.specs.declared.reading.Fault.{Fault}
 use Rattle.gl_run.specs.declared.reading.Fault.TheVariants as f
@@ -33,8 +28,3 @@ is_false false h = refl
 
 pub no_utf8 : (bs : Bytes) → (IsUtf8 bs → ⊥) → IsFalse (is_utf8 bs)
 no_utf8 bs h = is_false (is_utf8 bs) (λ e. h (IsUtf8-from_is_utf8 bs e))
-
--- the reply to a line, by the reply to what it asks
-pub asked_reply : (S S' : Cells) (l : Bytes) (x : Request) (r : Result (Vec ℕ) NoMemory) → ReadsLine l (Is (plain_request x)) → IfOk r (λ reply. (l : Bytes) → ReadsLine l (Is (plain_request x)) → Act S (Line l) S' reply.items) → IfOk r (λ reply. Act S (Line l) S' reply.items)
-asked_reply S S' l x (Ok v) h k = k l h
-asked_reply S S' l x (Err e) h k = k

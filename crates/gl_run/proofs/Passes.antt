@@ -47,7 +47,7 @@ pub missing_less : (vs ws : Values) (a : Addr) (x : Scalar) → WithValue vs ws 
 missing_less vs ws a x h [] = omega arith
 missing_less vs ws a x h (e ∷ es) =
     let one : (if is_missing ws e then 1 else 0) ≤ (if is_missing vs e then 1 else 0) =
-      at_most_one (is_missing vs e) (is_missing ws e) (λ t. still (is_sum e.1) (is_at (addr_cmp a) e.0) x (value_at vs e.0) (subst (λ o. (is_sum e.1 && not (is_some o)) ≡ true) (h e.0) t)) in
+    at_most_one (is_missing vs e) (is_missing ws e) (λ t. still (is_sum e.1) (is_at (addr_cmp a) e.0) x (value_at vs e.0) (subst (λ o. (is_sum e.1 && not (is_some o)) ≡ true) (h e.0) t)) in
     let rest = missing_less vs ws a x h es in
     omega (arith, one, rest)
 
@@ -66,7 +66,7 @@ missing_fewer vs ws a x h v c s (e ∷ es) l =
           rw (p, q) (omega (arith, rest))
       | false ↦ λ t m.
           let one : (if is_missing ws e then 1 else 0) ≤ (if is_missing vs e then 1 else 0) =
-            at_most_one (is_missing vs e) (is_missing ws e) (λ t. still (is_sum e.1) (is_at (addr_cmp a) e.0) x (value_at vs e.0) (subst (λ o. (is_sum e.1 && not (is_some o)) ≡ true) (h e.0) t)) in
+          at_most_one (is_missing vs e) (is_missing ws e) (λ t. still (is_sum e.1) (is_at (addr_cmp a) e.0) x (value_at vs e.0) (subst (λ o. (is_sum e.1 && not (is_some o)) ≡ true) (h e.0) t)) in
           let rest = missing_fewer vs ws a x h v c s es m in
           omega (arith, one, rest)
     ]) refl l

@@ -1,5 +1,5 @@
 -- What an item of a script does to the sheet, and what is replied.
-use Rattle.std.specs.Prelude.{ℕ, Bool, List, [], take, bytes_eq, codes}
+use Rattle.std.specs.Prelude.{[], codes}
 use Rattle.gl_calculus.specs.Grid.{Addr}
 use Rattle.gl_calculus.specs.Formula as F
 use Rattle.gl_calculus.specs.Formula.{Cells, Content}
@@ -10,10 +10,6 @@ use Rattle.gl_protocol.specs.Framing.{Item, Line, Import, Long, Truncated}
 use Rattle.gl_protocol.specs.Commands.{Is, Not, Word, LineWord, CommandWord, TruncatedWord, Nothing, Quit, Set, Show, with_content, error_line, ok_line}
 use Rattle.gl_run.specs.Reading.{ReadsLine}
 use Rattle.gl_run.specs.State.{State}
-
--- a reply is a refusal where it begins as one
-unfoldable pub is_error : Bytes → Bool
-is_error reply = bytes_eq (codes "error ") (take 6 reply)
 
 -- the item leads from one state to the next, with this reply; a refused one leaves the state
 pub data Act : State → Item → State → Bytes → Type 0 where

@@ -51,7 +51,8 @@ fn token_number(n: u64) -> Option<i64>
 
 // The number of an integer token.
 fn read_integer(bytes: &[u8]) -> Option<i64>
-    ensures some { IfSome result (λ n. IsRow is_digit bytes.now × (digits_value bytes.now < 2 ^ 63) × (n ≡ pos (digits_value bytes.now))) }
+    ensures some { IfSome result (λ n. IsRow is_digit bytes.now × (digits_value bytes.now < 2 ^ 63)
+        × (n ≡ pos (digits_value bytes.now))) }
     ensures none { IfNone result (IsRow is_digit bytes.now → digits_value bytes.now < 2 ^ 63 → ⊥) }
 {
     match read_digits(bytes) {
@@ -76,7 +77,8 @@ fn read_term(bytes: &[u8]) -> Option<Term>
 
 /// The terms of a sum; `None` where the text is none.
 pub fn read_sum(alloc: Global, text: &[u8]) -> Result<Option<Vec<Term>>, NoMemory>
-    ensures { IfOk result (λ r. MatchOption r ((f : Formula) → IsSum text.now f → ⊥) (λ ts. IsSum text.now (plain_sum ts.items))) }
+    ensures { IfOk result (λ r. MatchOption r ((f : Formula) → IsSum text.now f → ⊥)
+        (λ ts. IsSum text.now (plain_sum ts.items))) }
 {
     if text.len() > MAX_FORMULA {
         return Ok(None);

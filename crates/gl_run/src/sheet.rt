@@ -32,7 +32,8 @@ impl Sheet {
 
     /// The address holds the content from now on.
     pub fn set(&mut self, a: Addr, content: Content) -> Result<(), NoMemory>
-        ensures ok { OnOk result (state_of self.new ≡ with_content (state_of self.old) a (plain_content content)) }
+        ensures ok { OnOk result
+            (state_of self.new ≡ with_content (state_of self.old) a (plain_content content)) }
         ensures err { OnErr result (state_of self.new ≡ state_of self.old) }
     {
         self.cells.insert(a, content)?;

@@ -11,7 +11,7 @@ ghost use Rattle.gl_run.specs.Reading.{ReadsLine};
 ghost use Rattle.gl_run.specs.Contents.{plain_content};
 ghost use Rattle.gl_run.specs.Lines.{plain_request};
 ghost use Rattle.gl_run.specs.State.{state_of};
-ghost use Rattle.gl_run.specs.Act.{Act, is_error};
+ghost use Rattle.gl_run.specs.Act.{Act};
 ghost use Rattle.gl_run.specs.Values.{plain_shown};
 
 use crate::reading::{Fault, Request, read_line};
@@ -20,13 +20,6 @@ use crate::sheet_content::Content;
 use crate::sums_scalar::Scalar;
 use gl_plane::{Addr, NoMemory};
 use std::alloc::Global;
-
-/// Whether a reply is a refusal.
-pub fn is_error(reply: &[u8]) -> bool
-    ensures { result ≡ is_error reply.now }
-{
-    reply.starts_with(b"error ".as_slice())
-}
 
 fn number_line(alloc: Global, n: i64) -> Result<Vec<u8>, NoMemory>
     ensures { IfOk result (λ reply. reply.items ≡ line (signed_decimal n)) }
@@ -48,7 +41,8 @@ fn shown_line(alloc: Global, shown: Option<Scalar>) -> Result<Vec<u8>, NoMemory>
 }
 
 fn show(alloc: Global, sheet: &Sheet, a: Addr) -> Result<Vec<u8>, NoMemory>
-    ensures { IfOk result (λ reply. (x : Shown) × IsShown Version.One (state_of sheet.now) [] a x × (reply.items ≡ line (shown_text x))) }
+    ensures { IfOk result (λ reply. (x : Shown) × IsShown Version.One (state_of sheet.now) [] a x
+        × (reply.items ≡ line (shown_text x))) }
 {
     match sheet.shown(alloc, a) {
         Ok(shown) => shown_line(alloc, shown),
@@ -58,7 +52,8 @@ fn show(alloc: Global, sheet: &Sheet, a: Addr) -> Result<Vec<u8>, NoMemory>
 
 // The reply is made first, so that the sheet changes only with it.
 fn set(alloc: Global, sheet: &mut Sheet, a: Addr, content: Content) -> Result<Vec<u8>, NoMemory>
-    ensures ok { IfOk result (λ reply. (reply.items ≡ ok_line) × (state_of sheet.new ≡ with_content (state_of sheet.old) a (plain_content content))) }
+    ensures ok { IfOk result (λ reply. (reply.items ≡ ok_line)
+        × (state_of sheet.new ≡ with_content (state_of sheet.old) a (plain_content content))) }
     ensures err { OnErr result (state_of sheet.new ≡ state_of sheet.old) }
 {
     let reply = b"ok\n".to_vec(alloc)?;
@@ -69,12 +64,9 @@ fn set(alloc: Global, sheet: &mut Sheet, a: Addr, content: Content) -> Result<Ve
 }
 
 // Does what is asked.
-fn answer_request(
-    alloc: Global,
-    sheet: &mut Sheet,
-    request: Request,
-) -> Result<Vec<u8>, NoMemory>
-    ensures ok { IfOk result (λ reply. (l : Bytes) → ReadsLine l (Is (plain_request request)) → Act (state_of sheet.old) (Line l) (state_of sheet.new) reply.items) }
+fn answer_request(alloc: Global, sheet: &mut Sheet, request: Request) -> Result<Vec<u8>, NoMemory>
+    ensures ok { IfOk result (λ reply. (l : Bytes) → ReadsLine l (Is (plain_request request))
+        → Act (state_of sheet.old) (Line l) (state_of sheet.new) reply.items) }
     ensures err { OnErr result (state_of sheet.new ≡ state_of sheet.old) }
 {
     match request {
@@ -87,7 +79,8 @@ fn answer_request(
 
 /// Answers a line.
 pub fn answer_line(alloc: Global, sheet: &mut Sheet, bytes: &[u8]) -> Result<Vec<u8>, NoMemory>
-    ensures ok { IfOk result (λ reply. Act (state_of sheet.old) (Line bytes.now) (state_of sheet.new) reply.items) }
+    ensures ok { IfOk result (λ reply.
+        Act (state_of sheet.old) (Line bytes.now) (state_of sheet.new) reply.items) }
     ensures err { OnErr result (state_of sheet.new ≡ state_of sheet.old) }
 {
     match read_line(alloc, bytes) {
@@ -106,7 +99,8 @@ pub fn answer_payload(
     header: &[u8],
     payload: &[u8],
 ) -> Result<Vec<u8>, NoMemory>
-    ensures ok { IfOk result (λ reply. Act (state_of sheet.old) (Import header.now payload.now) (state_of sheet.new) reply.items) }
+    ensures ok { IfOk result (λ reply.
+        Act (state_of sheet.old) (Import header.now payload.now) (state_of sheet.new) reply.items) }
     ensures err { OnErr result (state_of sheet.new ≡ state_of sheet.old) }
 {
     Ok(b"error command\n".to_vec(alloc)?)
@@ -114,7 +108,8 @@ pub fn answer_payload(
 
 /// Answers a line that is too long.
 pub fn answer_long(alloc: Global, sheet: &mut Sheet) -> Result<Vec<u8>, NoMemory>
-    ensures ok { IfOk result (λ reply. Act (state_of sheet.old) Long (state_of sheet.new) reply.items) }
+    ensures ok { IfOk result (λ reply.
+        Act (state_of sheet.old) Long (state_of sheet.new) reply.items) }
     ensures err { OnErr result (state_of sheet.new ≡ state_of sheet.old) }
 {
     Ok(b"error line\n".to_vec(alloc)?)
@@ -122,7 +117,8 @@ pub fn answer_long(alloc: Global, sheet: &mut Sheet) -> Result<Vec<u8>, NoMemory
 
 /// Answers an import whose payload the input ends in.
 pub fn answer_truncated(alloc: Global, sheet: &mut Sheet) -> Result<Vec<u8>, NoMemory>
-    ensures ok { IfOk result (λ reply. Act (state_of sheet.old) Truncated (state_of sheet.new) reply.items) }
+    ensures ok { IfOk result (λ reply.
+        Act (state_of sheet.old) Truncated (state_of sheet.new) reply.items) }
     ensures err { OnErr result (state_of sheet.new ≡ state_of sheet.old) }
 {
     Ok(b"error truncated\n".to_vec(alloc)?)

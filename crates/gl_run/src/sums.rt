@@ -37,7 +37,8 @@ fn term_value(
     values: &BTreeMap<Addr, Scalar>,
     term: Term,
 ) -> Option<Scalar>
-    ensures { Comes (plain_cells cells.now.entries) values.now.entries (eval Version.One Top [] (plain_term term)) result }
+    ensures { Comes (plain_cells cells.now.entries) values.now.entries
+        (eval Version.One Top [] (plain_term term)) result }
 {
     match term {
         Term::Int(n) => Some(Scalar::Int(n)),
@@ -52,7 +53,9 @@ fn added(
     first: Scalar,
     rest: &[Term],
 ) -> Option<Scalar>
-    ensures { Comes (plain_cells cells.now.entries) values.now.entries (eval_rest Version.One Top [] (One (plain_scalar first)) (operands (map plain_term rest.now))) result }
+    ensures { Comes (plain_cells cells.now.entries) values.now.entries
+        (eval_rest Version.One Top [] (One (plain_scalar first))
+            (operands (map plain_term rest.now))) result }
 {
     let mut total = first;
     for term in rest {
@@ -70,7 +73,8 @@ fn sum_value(
     values: &BTreeMap<Addr, Scalar>,
     terms: &[Term],
 ) -> Option<Scalar>
-    ensures { Comes (plain_cells cells.now.entries) values.now.entries (eval Version.One Top [] (plain_sum terms.now)) result }
+    ensures { Comes (plain_cells cells.now.entries) values.now.entries
+        (eval Version.One Top [] (plain_sum terms.now)) result }
 {
     match terms.split_first() {
         None => Some(Scalar::Int(0)),
@@ -106,8 +110,10 @@ fn pass(
 ) -> Result<bool, NoMemory>
     requires { AreTrue (plain_cells cells.now.entries) values.old.entries }
     ensures sound { OnOk result (AreTrue (plain_cells cells.now.entries) values.new.entries) }
-    ensures fewer { IfOk result (λ found. found ≡ true → missing cells.now.entries values.new.entries < missing cells.now.entries values.old.entries) }
-    ensures stuck { IfOk result (λ found. found ≡ false → AreStuck (plain_cells cells.now.entries) cells.now.entries values.new.entries) }
+    ensures fewer { IfOk result (λ found. found ≡ true
+        → missing cells.now.entries values.new.entries < missing cells.now.entries values.old.entries) }
+    ensures stuck { IfOk result (λ found. found ≡ false
+        → AreStuck (plain_cells cells.now.entries) cells.now.entries values.new.entries) }
 {
     let mut found = false;
     for (a, content) in cells.iter() {

@@ -17,7 +17,7 @@ returns-in_ok-to_vec-in-Quit-clause-ok c = λ l h.
     rw e (A.Act.quit (subst (λ x. ReadsLine l (Is (plain_request x))) c.in-Quit.is h))
 
 pub returns-in-Set-clause-ok : goal.returns-in-Set-clause-ok
-returns-in-Set-clause-ok c = rw c.in-Set.is (set_reply _ _ c.in-Set.a c.in-Set.content c.set.result c.set.ensures.ok)
+returns-in-Set-clause-ok c = rw c.in-Set.is (set_reply _ _ _ c.in-Set.a c.in-Set.content c.set.result c.set.ensures.ok)
 
 pub returns-in-Show-clause-ok : goal.returns-in-Show-clause-ok
-returns-in-Show-clause-ok c = rw c.in-Show.is (show_reply _ c.in-Show.a c.show.result c.show.ensures)
+returns-in-Show-clause-ok c = rw c.in-Show.is (show_reply _ _ c.in-Show.a c.show.result c.show.ensures)
