@@ -12,7 +12,8 @@ use crate::header::payload_due;
 use gl_plane::NoMemory;
 use std::alloc::Global;
 
-/// The item that a byte, or the end of input, ended.
+/// The item that a byte, or the end of input, ended: none, a line, an import with its payload, a line
+/// that is too long, or a payload that the end of input cut short.
 #[derive(Clone, Copy, Debug, PartialEq, Eq)]
 pub enum Ended {
     Nothing,
@@ -22,7 +23,8 @@ pub enum Ended {
     Truncated,
 }
 
-/// A feed that begins a payload after each header.
+/// The items of a script by one byte at a time: a feed that begins a payload after each header. It
+/// goes on behind `quit`, at which its caller stops.
 #[derive(Drop)]
 pub struct Framer {
     feed: Feed,
@@ -30,6 +32,7 @@ pub struct Framer {
 }
 
 impl Framer {
+    /// Nothing is begun. It takes no memory.
     pub fn new(alloc: Global) -> Framer
         ensures { stream_at result ≡ nothing }
     {
@@ -60,7 +63,8 @@ impl Framer {
         }
     }
 
-    /// Takes the next byte. After an `Err` it is of no further use.
+    /// Takes the next byte, and tells the item that it ends. After an `Err` the framer is of no further
+    /// use.
     pub fn push(&mut self, b: u8) -> Result<Ended, NoMemory>
         ensures { IfOk result (λ e. step (stream_at self.old) b ≡ (stream_at self.new, told e self.new)) }
     {
@@ -73,7 +77,8 @@ impl Framer {
         }
     }
 
-    /// The input ends.
+    /// The input ends: tells the item that ends with it. The framer is of no further use but to read
+    /// this item.
     pub fn finish(&mut self) -> Result<Ended, NoMemory>
         ensures { IfOk result (λ e. closing (stream_at self.old) ≡ told e self.new) }
     {
@@ -89,21 +94,21 @@ impl Framer {
         }
     }
 
-    /// The last line that ended.
+    /// The bytes of the line that was told last.
     pub fn line(&self) -> &[u8]
         ensures { result.now ≡ piece_of self.now.feed }
     {
         self.feed.piece()
     }
 
-    /// The last header.
+    /// The header of the import that was told last.
     pub fn header(&self) -> &[u8]
         ensures { result.now ≡ self.now.header.items }
     {
         &self.header
     }
 
-    /// The payload behind it.
+    /// The payload of the import that was told last.
     pub fn payload(&self) -> &[u8]
         ensures { result.now ≡ payload_at self.now }
     {
