@@ -1,8 +1,7 @@
 -- Addresses of the grid, as the code's type and as the definitions say it.
-use Rattle.std.proofs.Common.{◌≡◌, ℕ, ◌≤◌, nat_le, Bool, true, ◌&&◌, IsTrue, arith, sym}
+use Rattle.std.proofs.Common.{IsTrue, arith}
 use Rattle.std.proofs.lemmas.Bool.Decides.{nat_tests}
 use Rattle.gl_calculus.specs.Grid.{Addr, covers, grid}
-use Rattle.gl_calculus.specs.Notation.{address_text}
 use Rattle.gl_plane.specs.Parts.{IsAddr}
 
 pub on_grid : (a : Addr) → IsAddr a → IsTrue (covers grid a)

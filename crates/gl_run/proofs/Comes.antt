@@ -1,9 +1,9 @@
 -- What an address and a sum come to by the values that are there, over the code's map.
-use Rattle.std.proofs.Common.{◌≡◌, ◌∙◌, ℤ, pos, List, [], ◌∷◌, map, Option, Some, None, Ok, refl, sym, ap, subst, option_map}
+use Rattle.std.proofs.Common.{◌≡◌, ◌∙◌, ℤ, List, [], ◌∷◌, Option, Some, None, refl, ap, subst, option_map}
 use Rattle.std.specs.Map.{lookup}
 use Rattle.std.specs.BTreeMap.{is_at}
-use Rattle.gl_query.specs.Query.{Ready, Need, found}
-use Rattle.gl_query.specs.Evaluation.{given, then_found}
+use Rattle.gl_query.specs.Query.{found}
+use Rattle.gl_query.specs.Evaluation.{given}
 use Rattle.gl_calculus.specs.Grid.{Addr}
 use Rattle.gl_calculus.specs.Value as V
 use Rattle.gl_calculus.specs.Value.{Value, One, Top}
@@ -11,13 +11,12 @@ use Rattle.gl_calculus.specs.Operators.{operate}
 use Rattle.gl_calculus.specs.Formula as F
 use Rattle.gl_calculus.specs.Formula.{Formula, Const, Form, Cells, content}
 use Rattle.gl_calculus.specs.Facts.{facts}
-use Rattle.gl_calculus.specs.Key.{Cell, Eval}
+use Rattle.gl_calculus.specs.Key.{Eval}
 use Rattle.gl_calculus.specs.Reference.{at_address}
 use Rattle.gl_calculus.specs.Evaluation.{eval, eval_rest}
 use Rattle.gl_run.specs.Reading.{operands, sum_tree}
-use Rattle.gl_run.specs.Contents.{addr_cmp, plain_term, plain_sum, plain_content, plain_cells, number_of}
-use Rattle.gl_run.specs.Values.{plain_scalar, outcome_of, Values, value_at, table, IsMissing, Comes}
-use Rattle.gl_run.specs.declared.sheet_content.Term.{Term}
+use Rattle.gl_run.specs.Contents.{addr_cmp, plain_sum, plain_content, plain_cells, number_of}
+use Rattle.gl_run.specs.Values.{plain_scalar, outcome_of, Values, value_at, table, Comes}
 use Rattle.gl_run.specs.declared.sheet_content.Content.{Content}
 use Rattle.gl_run.specs.declared.sheet_content.Content.TheVariants as c
 use Rattle.gl_run.specs.declared.sums_scalar.Scalar.{Scalar}

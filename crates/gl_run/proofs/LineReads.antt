@@ -1,5 +1,5 @@
 -- What is read of a line, by what is read of its words.
-use Rattle.std.proofs.Common.{◌≡◌, ℕ, Bool, true, false, Option, Some, Result, Ok, Err, IsTrue, refl, sym, ap}
+use Rattle.std.proofs.Common.{◌≡◌, Bool, true, false, Some, Result, Ok, Err, refl}
 use Rattle.std.specs.Prelude.{IsFalse}
 use Rattle.std.specs.Str.{is_utf8, IsUtf8}
 use Rattle.std.proofs.lemmas.Str.{IsUtf8-from_is_utf8}

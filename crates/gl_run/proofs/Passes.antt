@@ -1,29 +1,24 @@
 -- A pass over all formula cells, and what holds where it finds nothing.
-use Rattle.std.proofs.Common.{◌≡◌, ◌∙◌, ℕ, ◌+◌, ◌<◌, ◌≤◌, Bool, true, false, cond, ◌&&◌, not, List, [], ◌∷◌, ◌++◌, map, Option, Some, None, is_some, Result, Ok, Err, refl, sym, ap, subst, arith, option_map, if◌then◌else◌}
-use Rattle.std.specs.Bool.{⊤}
+use Rattle.std.proofs.Common.{◌≡◌, ◌∙◌, ◌<◌, ◌≤◌, Bool, true, false, cond, ◌&&◌, not, List, [], ◌∷◌, ◌++◌, Option, Some, None, is_some, refl, sym, ap, subst, arith, option_map, if◌then◌else◌}
 use Rattle.std.specs.List.{AllByRecursion}
 use Rattle.std.specs.Map.{lookup}
 use Rattle.std.specs.BTreeMap.{is_at}
-use Rattle.std.specs.Ordering.{is_eq}
-use Rattle.std.specs.declared.cmp.Ordering.TheVariants.{Less, Equal, Greater}
-use Rattle.std.specs.Cmp.{Equal-is, tied_itself}
-use Rattle.gl_query.specs.Query.{Ready, Need, found, Has, Loops, IsTrueTable, IsAsked}
-use Rattle.gl_query.specs.Evaluation.{given, then_found}
+use Rattle.std.specs.Cmp.{Equal-is}
+use Rattle.gl_query.specs.Query.{Need, found, Has, Loops, IsAsked}
 use Rattle.gl_query.proofs.Levels.{Has-Loops, Has-from_level, found_run}
 use Rattle.gl_query.proofs.Looping.{true_path, needs_asked, circle_loops}
 use Rattle.gl_calculus.specs.Grid.{Addr}
-use Rattle.gl_calculus.specs.Value as V
-use Rattle.gl_calculus.specs.Value.{One, Top, In}
+use Rattle.gl_calculus.specs.Value.{Top, In}
 use Rattle.gl_calculus.specs.Formula as F
 use Rattle.gl_calculus.specs.Formula.{Formula, Const, Form, Cells, content}
-use Rattle.gl_calculus.specs.Key.{Key, Cell, Settle, Outcome}
+use Rattle.gl_calculus.specs.Key.{Key, Cell, Settle}
 use Rattle.gl_calculus.specs.Evaluation.{program, eval}
 use Rattle.gl_run.specs.Contents.{addr_cmp, plain_sum, plain_content, plain_cells}
-use Rattle.gl_run.specs.Values.{plain_scalar, outcome_of, Values, value_at, table, IsMissing, Comes, AreTrue, ContentComes, IsNewValue, is_sum, is_missing, missing, AreStuck, AreAll}
+use Rattle.gl_run.specs.Values.{outcome_of, Values, value_at, table, IsMissing, Comes, AreTrue, ContentComes, IsNewValue, is_sum, is_missing, missing, AreStuck, AreAll}
 use Rattle.gl_run.specs.declared.sheet_content.Content.{Content}
 use Rattle.gl_run.specs.declared.sheet_content.Content.TheVariants as c
 use Rattle.gl_run.specs.declared.sums_scalar.Scalar.{Scalar}
-use Rattle.gl_run.proofs.Cells.{addr_exact, addr_total, content_is}
+use Rattle.gl_run.proofs.Cells.{addr_exact, content_is}
 use Rattle.gl_run.proofs.Steps.{cell_step}
 
 -- from one state of the values to another, over these cells

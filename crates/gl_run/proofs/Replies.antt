@@ -1,5 +1,5 @@
 -- The replies to requests.
-use Rattle.std.proofs.Common.{◌≡◌, ℕ, [], Result, Ok, Err, IfOk, refl, sym, subst}
+use Rattle.std.proofs.Common.{◌≡◌, [], Result, Ok, Err, IfOk}
 use Rattle.gl_calculus.specs.Grid.{Addr}
 use Rattle.gl_calculus.specs.Formula as F
 use Rattle.gl_calculus.specs.Formula.{Cells}

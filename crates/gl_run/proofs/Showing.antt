@@ -1,6 +1,6 @@
 -- What an address shows, by the values of all cells.
-use Rattle.std.proofs.Common.{◌≡◌, ◌∙◌, ℕ, List, [], ◌∷◌, Option, Some, None, Result, Ok, Err, refl, sym, ap, subst, option_map}
-use Rattle.gl_query.specs.Query.{Query, Return, Look, Ask, Found, Ready, Need, next, found, run, val, Has, Gives}
+use Rattle.std.proofs.Common.{◌≡◌, ◌∙◌, [], Option, Some, None, Result, Ok, refl, sym, ap, subst, option_map}
+use Rattle.gl_query.specs.Query.{Query, Return, Look, Ask, Found, Ready, Need, next, found, run, val, Gives}
 use Rattle.gl_query.specs.Evaluation.{given}
 use Rattle.gl_calculus.specs.Grid.{Addr}
 use Rattle.gl_calculus.specs.Value as V
@@ -8,12 +8,12 @@ use Rattle.gl_calculus.specs.Value.{Value, One, Top}
 use Rattle.gl_calculus.specs.Formula as F
 use Rattle.gl_calculus.specs.Formula.{Formula, Content, Const, Form, Cells, content}
 use Rattle.gl_calculus.specs.Facts.{facts}
-use Rattle.gl_calculus.specs.Key.{Key, Cell, Outcome, Budget}
+use Rattle.gl_calculus.specs.Key.{Key, Cell, Budget}
 use Rattle.gl_calculus.specs.Reference.{at_address}
 use Rattle.gl_calculus.specs.Evaluation.{program}
 use Rattle.gl_calculus.specs.Calculation as A
 use Rattle.gl_calculus.specs.Calculation.{IsShown, TopHas}
-use Rattle.gl_run.specs.Values.{plain_scalar, plain_shown, outcome_of, Values, value_at, table, IsMissing, Comes, AreAll}
+use Rattle.gl_run.specs.Values.{plain_scalar, plain_shown, outcome_of, Values, value_at, table, Comes, AreAll}
 use Rattle.gl_run.specs.declared.sums_scalar.Scalar.{Scalar}
 use Rattle.gl_run.proofs.Steps.{at_nothing, at_constant, at_formula, at_missing}
 

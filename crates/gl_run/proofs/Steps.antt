@@ -1,22 +1,20 @@
 -- One step of a sum: what an address shows and what a chain of `+` comes to, by the values that are there.
-use Rattle.std.proofs.Common.{◌≡◌, ◌∙◌, List, [], ◌∷◌, Option, Some, None, Result, Ok, Err, refl, sym, ap, subst, option_map}
-use Rattle.gl_query.specs.Query.{Found, Ready, Need, next, found, run, val, Has, Gives}
+use Rattle.std.proofs.Common.{◌≡◌, ◌∙◌, [], Option, Some, None, Ok, refl, ap}
+use Rattle.gl_query.specs.Query.{Ready, Need, found}
 use Rattle.gl_query.specs.Evaluation.{Evaluation, bind, given, then_found}
 use Rattle.gl_query.proofs.Forming.{found-bind}
-use Rattle.gl_calculus.specs.Grid.{Addr, single}
+use Rattle.gl_calculus.specs.Grid.{Addr}
 use Rattle.gl_calculus.specs.Value as V
 use Rattle.gl_calculus.specs.Value.{Value, One, Top}
 use Rattle.gl_calculus.specs.Lift.{lift2}
 use Rattle.gl_calculus.specs.Operators.{operate}
 use Rattle.gl_calculus.specs.Formula as F
 use Rattle.gl_calculus.specs.Formula.{Formula, Content, Const, Form, Cells, content}
-use Rattle.gl_calculus.specs.Facts.{Fact, fact, facts, fact_at}
-use Rattle.gl_calculus.specs.Key.{Key, Cell, Outcome, Budget, Eval, give, on_result, ◌>>=◌, as_value}
-use Rattle.gl_calculus.specs.Reference.{Held, Given, Computed, held_top, own_content, deref, at_address}
+use Rattle.gl_calculus.specs.Facts.{fact, facts}
+use Rattle.gl_calculus.specs.Key.{Key, Cell, Outcome, give, on_result, ◌>>=◌, as_value}
+use Rattle.gl_calculus.specs.Reference.{own_content, deref, at_address}
 use Rattle.gl_calculus.specs.Evaluation.{program, evaluation, cell_value, eval, eval_rest}
 use Rattle.gl_calculus.proofs.Proper.{fact_at_single}
-use Rattle.gl_run.specs.Values.{plain_scalar, outcome_of, Values, value_at, table, IsMissing, Comes}
-use Rattle.gl_run.specs.declared.sums_scalar.Scalar.{Scalar}
 
 module _ (S : Cells) where
   -- an address, with its fact

@@ -1,5 +1,5 @@
 -- The terms of a sum, as they are read piece by piece.
-use Rattle.std.proofs.Common.{◌≡◌, ◌∙◌, ℕ, suc, ◌^◌, ◌<◌, ◌≤◌, ◌+◌, List, [], ◌∷◌, ◌++◌, map, length, Option, Some, None, refl, sym, ap, subst, arith, append-nil, append_assoc}
+use Rattle.std.proofs.Common.{◌≡◌, ◌∙◌, ℕ, suc, ◌^◌, ◌<◌, ◌≤◌, List, [], ◌∷◌, ◌++◌, map, length, Option, Some, None, refl, sym, ap, subst, arith, append-nil, append_assoc}
 use Rattle.std.specs.Prelude.{ℤ, pos, IfSome, IfNone, SomeIff}
 use Rattle.std.proofs.lemmas.List.{map-append}
 use Rattle.gl_calculus.specs.Limits.{max_formula}
@@ -9,11 +9,10 @@ use Rattle.gl_language.specs.Text.{Bytes}
 use Rattle.gl_language.specs.Token.{is_digit, digits_value, IsRow}
 use Rattle.gl_protocol.specs.Pieces.{cut_at, pieces}
 use Rattle.gl_protocol.specs.Commands.{NoAddress}
-use Rattle.gl_run.specs.Reading.{IsTerm, integer, address, trimmed, AreTerms, no_term, term_and, sum_tree, IsSum}
+use Rattle.gl_run.specs.Reading.{IsTerm, integer, address, trimmed, AreTerms, no_term, term_and, IsSum}
 use Rattle.gl_run.specs.Contents.{plain_term, plain_sum}
 use Rattle.gl_run.specs.Lines.{digits_number}
 use Rattle.gl_run.specs.declared.sheet_content.Term.{Term}
-use Rattle.gl_run.specs.declared.sheet_content.Term.TheVariants as t
 use Rattle.gl_run.proofs.Cuts.{rest_pieces, pieces_cut, cut_shorter}
 use Rattle.gl_run.proofs.Digits.{digits_row, row_digits}
 

@@ -1,5 +1,5 @@
 -- What a line asks, in scripts that set numbers and sums and show values. Where it asks nothing of the kind, the first of the refusals `command`, `address` and `syntax` that holds.
-use Rattle.std.specs.Prelude.{◌≡◌, ◌≢◌, ℕ, ◌^◌, ◌<◌, ◌≤◌, ◌==◌, ℤ, pos, List, [], ◌∷◌, length, reverse, Option, Some, None, IsTrue, IsFalse, if◌then◌else◌}
+use Rattle.std.specs.Prelude.{◌≡◌, ◌≢◌, ◌^◌, ◌<◌, ◌≤◌, ◌==◌, ℤ, pos, List, [], ◌∷◌, length, reverse, Option, Some, None, IsTrue, IsFalse, if◌then◌else◌}
 use Rattle.std.specs.Str.{is_utf8}
 use Rattle.gl_calculus.specs.Limits.{max_formula}
 use Rattle.gl_calculus.specs.Grid.{Addr}
@@ -11,7 +11,7 @@ use Rattle.gl_calculus.specs.Formula.{Formula, Operands, Const, Form}
 use Rattle.gl_language.specs.Text.{Bytes}
 use Rattle.gl_language.specs.Token.{is_digit, IsRow, digits_value}
 use Rattle.gl_protocol.specs.Pieces.{pieces}
-use Rattle.gl_protocol.specs.Commands.{Words, QuitWords, SetWords, ShowWords, words_of, signed_value, is_comment, IsAddress, NoAddress, Read, Is, Not, Word, CommandWord, AddressWord, SyntaxWord, Request, Nothing, Quit, Set, Show}
+use Rattle.gl_protocol.specs.Commands.{Words, QuitWords, SetWords, ShowWords, words_of, signed_value, is_comment, IsAddress, NoAddress, Read, Is, Not, CommandWord, AddressWord, SyntaxWord, Request, Nothing, Quit, Set, Show}
 
 -- ---- sums
 

@@ -55,7 +55,7 @@ fn added(
 ) -> Option<Scalar>
     ensures { Comes (plain_cells cells.now.entries) values.now.entries
         (eval_rest Version.One Top [] (One (plain_scalar first))
-            (operands (map plain_term rest.now))) result }
+        (operands (map plain_term rest.now))) result }
 {
     let mut total = first;
     for term in rest {

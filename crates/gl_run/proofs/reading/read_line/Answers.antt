@@ -1,4 +1,4 @@
-use Rattle.std.proofs.Common.{◌≡◌, ◌∙◌, sym, subst, ap}
+use Rattle.std.proofs.Common.{◌∙◌, sym}
 use Rattle.gl_protocol.specs.Commands.{words_of}
 use Rattle.gl_run.specs.Reading as R
 use Rattle.gl_run.specs.Reading.{ReadsWords, ReadsLine}

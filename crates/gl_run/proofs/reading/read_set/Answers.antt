@@ -1,7 +1,5 @@
-use Rattle.std.proofs.Common.{SFits, w64, to_z-of_z, rules, sym, subst}
+use Rattle.std.proofs.Common.{SFits, w64, to_z-of_z, rules}
 use Rattle.gl_run.specs.Reading as R
-use Rattle.gl_run.specs.Lines.{Reads, plain_form}
-use Rattle.gl_protocol.specs.Commands.{Is, Not, Set, CommandWord, AddressWord}
 use Rattle.gl_run.proofs.reading.read_set.Goals as goal
 
 pub returns-in-Neither : goal.returns-in-Neither

@@ -1,5 +1,4 @@
-use Rattle.std.proofs.Common.{◌≡◌, ◌∙◌, Option, Some, sym, subst, ap}
-use Rattle.gl_protocol.specs.Commands.{Words, Is, Not, Quit, Show, CommandWord, AddressWord}
+use Rattle.std.proofs.Common.{subst}
 use Rattle.gl_run.specs.Reading as R
 use Rattle.gl_run.specs.Reading.{TextForm, ReadsSet, ReadsWords}
 use Rattle.gl_run.specs.Lines.{Reads, HasWords}

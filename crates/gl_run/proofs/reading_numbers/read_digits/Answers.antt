@@ -1,4 +1,4 @@
-use Rattle.std.proofs.Common.{◌≡◌, ◌<◌, length, arith, subst}
+use Rattle.std.proofs.Common.{◌≡◌, length, arith, subst}
 use Rattle.gl_run.proofs.Digits.{Read, read_all, read_stops}
 use Rattle.gl_run.proofs.reading_numbers.read_digits.Goals as goal
 

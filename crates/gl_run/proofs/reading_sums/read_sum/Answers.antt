@@ -1,12 +1,12 @@
-use Rattle.std.proofs.Common.{◌≡◌, ◌∙◌, ◌<◌, ◌∷◌, [], List, ℕ, Option, Some, sym, subst, ap, arith}
+use Rattle.std.proofs.Common.{◌≡◌, ◌<◌, ◌∷◌, List, Some, sym, subst, arith}
 use Rattle.std.specs.Option.{option_copied}
 use Rattle.gl_language.specs.Text.{Bytes}
 use Rattle.gl_protocol.specs.Pieces.{pieces}
-use Rattle.gl_run.specs.Reading.{IsTerm, trimmed}
+use Rattle.gl_run.specs.Reading.{IsTerm}
 use Rattle.gl_run.specs.Contents.{plain_term}
 use Rattle.gl_run.specs.declared.sheet_content.Term.{Term}
 use Rattle.gl_run.proofs.Cuts.{rest_pieces}
-use Rattle.gl_run.proofs.Terms.{Taken, taken_none, taken_more, taken_all, taken_stops, too_long, left, left_less, cut_parts}
+use Rattle.gl_run.proofs.Terms.{Taken, taken_none, taken_more, taken_stops, left, left_less, cut_parts}
 use Rattle.gl_run.proofs.reading_sums.read_sum.Goals as goal
 
 pub loop-rest-init : goal.loop-rest-init

@@ -1,4 +1,4 @@
-use Rattle.std.proofs.Common.{◌≡◌, ◌∙◌, ◌+◌, suc, List, ℕ, drop, take, length, Option, Some, None, ap, sym, add-one}
+use Rattle.std.proofs.Common.{◌∙◌, ◌+◌, List, ℕ, drop, Option, Some, ap, sym, add-one}
 use Rattle.std.proofs.lemmas.List.{take_rest}
 use Rattle.gl_run.proofs.Cuts.{cut_found, cut_whole}
 use Rattle.gl_run.proofs.reading_words.cut.Goals as goal

@@ -1,7 +1,7 @@
-use Rattle.std.proofs.Common.{◌≡◌, ◌∙◌, List, ℕ, None, Some, false, true, ap, sym, subst, length, ◌==◌, ◌∷◌}
+use Rattle.std.proofs.Common.{◌≡◌, ◌∙◌, List, ℕ, Some, ap, sym, subst, length, ◌==◌, ◌∷◌}
 use Rattle.std.specs.Prelude.{codes}
 use Rattle.std.specs.Option.{option_copied}
-use Rattle.gl_protocol.specs.Pieces.{cut_at, pieces}
+use Rattle.gl_protocol.specs.Pieces.{pieces}
 use Rattle.gl_protocol.specs.Commands.{words_of_pieces, ShowWords}
 use Rattle.gl_run.proofs.Cuts.{show_place, show_empty, show_many}
 use Rattle.gl_run.proofs.reading_words.show_words.Goals as goal

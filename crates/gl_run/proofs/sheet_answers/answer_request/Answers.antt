@@ -1,4 +1,4 @@
-use Rattle.std.proofs.Common.{◌≡◌, ◌∙◌, [], List, ℕ, rules, sym, subst}
+use Rattle.std.proofs.Common.{◌≡◌, rules, subst}
 use Rattle.std.specs.Prelude.{codes}
 use Rattle.gl_protocol.specs.Commands.{Is}
 use Rattle.gl_protocol.specs.Tables.{line}

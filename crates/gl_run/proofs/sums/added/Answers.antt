@@ -1,4 +1,4 @@
-use Rattle.std.proofs.Common.{◌≡◌, ◌∙◌, ◌∷◌, ◌+◌, List, [], map, drop, get_or, ap, sym, length, ◌<◌, arith, refl}
+use Rattle.std.proofs.Common.{◌≡◌, ◌∙◌, ◌∷◌, ◌+◌, List, [], map, drop, ap, sym, arith}
 use Rattle.gl_query.specs.Query.{found}
 use Rattle.gl_query.specs.Evaluation.{given}
 use Rattle.gl_calculus.specs.Value.{One, Top}
@@ -11,7 +11,7 @@ use Rattle.gl_run.specs.Reading.{operands}
 use Rattle.gl_run.specs.Contents.{plain_term, plain_cells}
 use Rattle.gl_run.specs.Values.{plain_scalar, table}
 use Rattle.gl_run.specs.declared.sheet_content.Term.{Term}
-use Rattle.gl_run.proofs.Comes.{more_comes, more_stops, Comes-along}
+use Rattle.gl_run.proofs.Comes.{more_comes}
 use Rattle.gl_run.proofs.sums.added.Goals as goal
 
 pub loop-term-preserved : goal.loop-term-preserved

@@ -1,4 +1,3 @@
-use Rattle.std.proofs.Common.{refl}
 use Rattle.gl_run.specs.Contents.{plain_cells}
 use Rattle.gl_run.proofs.Passes.{all_found, entries_stuck}
 use Rattle.gl_run.proofs.sums.evaluate.Goals as goal

@@ -1,7 +1,5 @@
-use Rattle.std.proofs.Common.{◌≡◌, ◌<◌, ◌≤◌, true, false, map}
+use Rattle.std.proofs.Common.{map}
 use Rattle.std.specs.Map.Iter.{deref_pair}
-use Rattle.gl_run.specs.Contents.{plain_cells}
-use Rattle.gl_run.specs.Values.{AreTrue, missing}
 use Rattle.gl_run.proofs.Passes.{Passed}
 use Rattle.gl_run.proofs.sums.pass.Given as goal
 

@@ -1,4 +1,4 @@
-use Rattle.std.proofs.Common.{◌≡◌, Some, sym, ap, ◌∙◌, subst, arith, to_z-of_z}
+use Rattle.std.proofs.Common.{◌≡◌, Some, sym, ◌∙◌, subst, arith, to_z-of_z}
 use Rattle.gl_calculus.specs.Value.{Top}
 use Rattle.gl_calculus.specs.Reference.{at_address}
 use Rattle.gl_run.specs.Contents.{plain_cells}

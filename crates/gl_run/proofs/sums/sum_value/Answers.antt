@@ -1,4 +1,4 @@
-use Rattle.std.proofs.Common.{map, sym, subst, ap, []}
+use Rattle.std.proofs.Common.{map, sym, subst, []}
 use Rattle.gl_calculus.specs.Value.{Top}
 use Rattle.gl_calculus.specs.Formula.{Version}
 use Rattle.gl_calculus.specs.Evaluation.{eval}
