@@ -1,5 +1,5 @@
 -- Whether an area is free, by what is asked of it.
-use Rattle.std.proofs.Common.{◌≡◌, Bool, true, false, ◌&&◌, ◌||◌, not, cond, List, [], ◌∷◌, Option, Some, None, is_none, refl, ap, sym, ◌∙◌}
+use Rattle.std.proofs.Common.{◌≡◌, Bool, true, false, ◌&&◌, ◌||◌, not, cond, List, [], ◌∷◌, Option, Some, None, is_none, refl, ap, ◌∙◌}
 use Rattle.std.specs.List.{find, list_all, list_any}
 use Rattle.gl_calculus.specs.Grid.{Addr, Size, Range, same_addr, area, addresses, lies_in, meets}
 use Rattle.gl_calculus.specs.Oracle.{is_free}

@@ -1,17 +1,16 @@
 -- A list of entries that grows to what its sizes are granted.
-use Rattle.std.proofs.Common.{◌≡◌, ◌↔◌, ℕ, zero, suc, ◌+◌, ◌<◌, ◌≤◌, Bool, true, false, ◌&&◌, cond, nat_eq, List, [], ◌∷◌, ◌++◌, length, take, drop, map, get_or, Option, Some, None, slice_get, IsTrue, Result, Ok, Err, OnOk, refl, ap, arith, sym, ◌∙◌, subst, append_assoc, length-append, eq-eqb, eqb-true}
+use Rattle.std.proofs.Common.{◌≡◌, ◌↔◌, ℕ, zero, suc, ◌+◌, ◌<◌, ◌≤◌, Bool, true, false, cond, nat_eq, List, [], ◌∷◌, ◌++◌, length, take, drop, map, Some, None, slice_get, IsTrue, Result, Ok, Err, OnOk, refl, ap, arith, sym, ◌∙◌, subst, append_assoc, length-append, eq-eqb, eqb-true}
 use Rattle.std.specs.List.{list_all}
 use Rattle.std.specs.Result.{is_err}
 use Rattle.std.proofs.lemmas.List.{take_more, drop_more, length-take-le}
 use Rattle.std.proofs.lemmas.List.Folds.{list_all-append}
-use Rattle.std.proofs.lemmas.Option.{slice_get_within, slice_get_past, get_or_from_slice_get, slice_get-get_or}
+use Rattle.std.proofs.lemmas.Option.{slice_get_within, get_or_from_slice_get}
 use Rattle.std.proofs.Math.Seq.{take-length}
 use Rattle.std.proofs.lemmas.List.{append-nil}
 use Rattle.gl_calculus.specs.Grid.{Addr, Size, Range, area, AreInOrder}
-use Rattle.gl_calculus.specs.Value.{Permit, Permitted, Refused, Entry, Oracle}
+use Rattle.gl_calculus.specs.Value.{Permitted, Refused, Entry, Oracle}
 use Rattle.gl_calculus.specs.Same.{is_permitted}
 use Rattle.gl_calculus.specs.Oracle.{IsInOrder, Sizes, AreSizes, sizes_of, area_of, is_free, grant_beside, grant, ArePermits}
-use Rattle.gl_calculus.proofs.Tests.{and_true}
 use Rattle.gl_calculus.proofs.Proved.{grant_gives_permits, only_grant_gives}
 use Rattle.gl_grant.specs.Granted.{taken_beside, taken_by, entry_behind, fits_grid}
 
@@ -70,7 +69,7 @@ module _ (bound : Range) (held : Addr → Bool) where
       let e = entry_behind bound held w x in
       let free = is_free bound held (taken_by w) x.0 (area x.0 x.1) in
       let taken : cond free (area_of e ∷ taken_by w) (taken_by w) ≡ taken_by (w ++ e ∷ []) =
-          ap (λ b. cond b (area_of e ∷ taken_by w) (taken_by w)) (sym (permit_by free)) ∙ sym (taken_more [] w e) in
+      ap (λ b. cond b (area_of e ∷ taken_by w) (taken_by w)) (sym (permit_by free)) ∙ sym (taken_more [] w e) in
       ap (λ ts. w ++ e ∷ grant_beside bound held ts rest) taken ∙ sym (append_assoc w (e ∷ []) (grant_beside bound held (taken_by (w ++ e ∷ [])) rest))
 
   -- where nothing is left, it is all
@@ -154,6 +153,6 @@ module _ (bound : Range) (held : Addr → Bool) where
   -- being what is granted is being consistent
   pub by_permits : (w : Oracle) (xs : Sizes) (b : Bool) → AreSizes xs → IsInOrder w → IsTrue b ↔ (w ≡ grant bound held xs) → IsTrue b ↔ ((sizes_of w ≡ xs) × ArePermits bound held w)
   by_permits w xs b o p h = (
-      λ t. subst (λ v. (sizes_of v ≡ xs) × ArePermits bound held v) (sym (h.0 t)) (grant_gives_permits bound held xs o),
-      λ c. h.1 (only_grant_gives bound held w p c.1 ∙ ap (grant bound held) c.0),
-    )
+    λ t. subst (λ v. (sizes_of v ≡ xs) × ArePermits bound held v) (sym (h.0 t)) (grant_gives_permits bound held xs o),
+    λ c. h.1 (only_grant_gives bound held w p c.1 ∙ ap (grant bound held) c.0),
+  )

@@ -67,9 +67,7 @@ fn is_free<B: Blocks>(
 {
     match root.area_within(size, bound) {
         None => false,
-        Some(area) => {
-            blocks.blocked(root, &area).is_none() && !meets_first(w, before, &area)
-        }
+        Some(area) => { blocks.blocked(root, &area).is_none() && !meets_first(w, before, &area) }
     }
 }
 

@@ -1,16 +1,16 @@
 //! Permits: which arrays may spill beside each other, and what stands in the way of the others.
 #![tactic(auto)]
 
-mod obstacles;
 mod consistency;
 mod granting;
+mod obstacles;
 
 ghost use Rattle.gl_grant.specs.Laws.{SizesFixPermits};
 
-pub use obstacles::{Obstacle, blocker};
 pub use consistency::is_consistent;
-pub use granting::grant;
 use gl_plane::{Addr, Range};
+pub use granting::grant;
+pub use obstacles::{Obstacle, blocker};
 
 /// The addresses that have content, as far as permits ask for them.
 pub trait Blocks {

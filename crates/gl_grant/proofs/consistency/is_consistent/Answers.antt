@@ -1,6 +1,5 @@
-use Rattle.std.proofs.Common.{◌≡◌, ◌+◌, ◌-◌, ◌<◌, ◌≤◌, refl, true, false, length, take, drop, slice_get, Some, None, ◌∙◌, ap, sym, subst, arith}
+use Rattle.std.proofs.Common.{◌+◌, ◌<◌, ◌≤◌, refl, false, length, ◌∙◌, sym, arith}
 use Rattle.std.proofs.lemmas.Option.{slice_get_within}
-use Rattle.gl_calculus.specs.Oracle.{grant}
 use Rattle.gl_calculus.proofs.Grants.{clash}
 use Rattle.gl_grant.proofs.Growing.{same_more, other_entry, all_same, by_permits}
 use Rattle.gl_grant.proofs.consistency.is_consistent.Goals as goal

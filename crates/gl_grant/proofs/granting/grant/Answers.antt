@@ -1,9 +1,9 @@
-use Rattle.std.proofs.Common.{◌≡◌, ◌+◌, ◌-◌, ◌<◌, ◌++◌, ◌∷◌, [], true, length, take, drop, slice_get, ◌∙◌, ap, sym, subst, arith, length-append}
+use Rattle.std.proofs.Common.{◌≡◌, ◌+◌, ◌<◌, ◌++◌, ◌∷◌, [], true, length, take, drop, slice_get, ◌∙◌, ap, sym, subst, arith, length-append}
 use Rattle.std.specs.List.{list_all}
 use Rattle.std.proofs.Math.Seq.{take-length}
 use Rattle.gl_calculus.specs.Oracle.{grant}
 use Rattle.gl_grant.specs.Granted.{entry_behind, fits_grid}
-use Rattle.gl_grant.proofs.Growing.{all_reached, Grows, grows, reached, on_ok}
+use Rattle.gl_grant.proofs.Growing.{all_reached, grows, reached, on_ok}
 use Rattle.gl_grant.proofs.granting.grant.Goals as goal
 
 pub push-requires : goal.push-requires

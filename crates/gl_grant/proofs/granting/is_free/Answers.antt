@@ -1,4 +1,4 @@
-use Rattle.std.proofs.Common.{◌≡◌, take, ◌∙◌, ap, sym, is_none, true, false, not, refl}
+use Rattle.std.proofs.Common.{take, ◌∙◌, ap, sym, is_none, true, false, not, refl}
 use Rattle.std.specs.List.{list_any}
 use Rattle.gl_calculus.specs.Grid.{meets}
 use Rattle.gl_grant.specs.Granted.{taken_by}

@@ -1,4 +1,4 @@
-use Rattle.std.proofs.Common.{◌≡◌, ◌+◌, nat_lt, take, Some, ◌∙◌, ap, sym, arith}
+use Rattle.std.proofs.Common.{◌≡◌, ◌+◌, nat_lt, take, ◌∙◌, ap, sym, arith}
 use Rattle.gl_plane.specs.Reach.{spills_into}
 use Rattle.gl_grant.proofs.Taken.{any_taken, none_passes, some_passes}
 use Rattle.gl_grant.proofs.granting.meets_first.Goals as goal
