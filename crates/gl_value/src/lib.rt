@@ -8,6 +8,9 @@ mod share;
 mod sheets;
 mod sound;
 
+#[cfg(test)]
+mod tests;
+
 ghost use Rattle.gl_value.specs.Laws.{ScalarsCompareByTree, ArraysCompareByTree, ValuesCompareByTree, SheetsCompareByTree, FramesCompareByTree, ErrorsCompareByTree, ShownCompareByTree, MadeCompareByTree, ScalarsHashByTree, ArraysHashByTree, ValuesHashByTree, SheetsHashByTree, FramesHashByTree};
 
 use gl_plane::{Addr, Oracle, Range, Size};

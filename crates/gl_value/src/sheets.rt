@@ -33,16 +33,15 @@ impl Env {
 
 impl SheetVal {
     /// The value of the override at an address, if there is one.
-    #[tactic(auto, using(crate::specs::Forms::trees))]
+    #[tactic(auto, using(crate::specs::Forms::sheet_tree_is))]
     pub fn get_override(&self, a: Addr) -> Option<&Value>
+        requires { IsTrue (is_sound_sheet (sheet_tree self.now)) }
         ensures { option_map value_tree (option_copied result) ≡ override_at (overrides (sheet_tree self.now)) a }
     {
-        for (b, x) in &self.overrides {
-            if a == *b {
-                return Some(x);
-            }
+        match self.overrides.binary_search_by_key(&a, |o| o.0) {
+            Ok(i) => Some(&self.overrides[i].1),
+            Err(_) => None,
         }
-        None
     }
 }
 

@@ -22,7 +22,7 @@ fn is_short(text: &RcStr) -> bool
 }
 
 impl Scalar {
-    /// The test of soundness.
+    /// A text is within the limit, and a sheet value is sound.
     #[cycle(sound)]
     #[tactic(auto, using(crate::specs::Forms::trees))]
     pub fn is_sound(&self) -> bool
@@ -36,6 +36,7 @@ impl Scalar {
     }
 }
 
+/// Every item is sound.
 #[cycle(sound)]
 fn items_sound(items: &[Scalar]) -> bool
     ensures { result ≡ are_sound (item_trees items.now) }
@@ -49,6 +50,7 @@ fn items_sound(items: &[Scalar]) -> bool
 }
 
 impl Array {
+    /// As many items as cells, each of them sound.
     #[cycle(sound)]
     #[tactic(auto, using(crate::specs::Sound::array_sound))]
     pub fn is_sound(&self) -> bool
@@ -60,6 +62,7 @@ impl Array {
 }
 
 impl Value {
+    /// The scalar or the array is sound.
     #[cycle(sound)]
     #[tactic(auto, using(crate::specs::Forms::trees))]
     pub fn is_sound(&self) -> bool
@@ -72,6 +75,7 @@ impl Value {
     }
 }
 
+/// Every override's value is sound.
 #[cycle(sound)]
 fn overrides_sound(overrides: &[Override]) -> bool
     ensures { result ≡ are_sound_overrides (override_trees overrides.now) }
@@ -85,6 +89,8 @@ fn overrides_sound(overrides: &[Override]) -> bool
 }
 
 impl SheetVal {
+    /// Overrides in order inside the region, a rank above those of the frame and of the overrides,
+    /// a weight as the parts have it, and each part sound.
     #[cycle(sound)]
     pub fn is_sound(&self) -> bool
         ensures { result ≡ is_sound_sheet (sheet_tree self.now) }
@@ -100,6 +106,7 @@ impl SheetVal {
 }
 
 impl Env {
+    /// The frame's sheet value is sound.
     #[cycle(sound)]
     #[tactic(auto, using(crate::specs::Forms::trees))]
     pub fn is_sound(&self) -> bool
@@ -112,6 +119,7 @@ impl Env {
     }
 }
 
+/// The address comes after another, if there is one.
 fn comes_after(last: Option<Addr>, a: Addr) -> bool
     ensures { result ≡ is_after last a }
 {
@@ -121,6 +129,7 @@ fn comes_after(last: Option<Addr>, a: Addr) -> bool
     }
 }
 
+/// The addresses lie in the region and increase in row-major order.
 #[tactic(auto, using(crate::specs::Sound::inside_from))]
 fn inside(region: &Range, overrides: &[Override]) -> bool
     ensures { result ≡ are_inside region.now (override_trees overrides.now) }
@@ -138,6 +147,7 @@ fn inside(region: &Range, overrides: &[Override]) -> bool
     true
 }
 
+/// One above the greatest rank in the overrides' values, or 0.
 fn greatest_rank(overrides: &[Override]) -> u8
     requires { IsTrue (are_sound_overrides (override_trees overrides.now)) }
     ensures { result ≡ overrides_rank (override_trees overrides.now) }
@@ -149,6 +159,7 @@ fn greatest_rank(overrides: &[Override]) -> u8
     most
 }
 
+/// The overrides' values weigh this much together. The sum itself may be too large to write down.
 fn weigh(overrides: &[Override], weight: u64) -> bool
     requires { IsTrue (are_sound_overrides (override_trees overrides.now)) }
     ensures { result ≡ (overrides_weight (override_trees overrides.now) == weight) }
@@ -165,6 +176,7 @@ fn weigh(overrides: &[Override], weight: u64) -> bool
 }
 
 impl SheetVal {
+    /// The test of soundness, where the parts are known to be sound.
     fn fits(&self) -> bool
         requires overrides { IsTrue (are_sound_overrides (override_trees self.now.overrides.items)) }
         requires frame { IsTrue (is_sound_frame (frame_tree self.now.env)) }
