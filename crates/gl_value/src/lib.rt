@@ -7,7 +7,6 @@ mod put;
 mod share;
 mod sheets;
 mod sound;
-
 #[cfg(test)]
 mod tests;
 
