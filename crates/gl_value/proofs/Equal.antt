@@ -6,7 +6,7 @@ use Rattle.gl_calculus.specs.Sheet as S
 use Rattle.gl_calculus.specs.Calculation as C
 use Rattle.gl_value.specs.View.{error_tree, value_tree, array_tree, frame_tree, scalar_tree, sheet_tree}
 use Rattle.gl_value.specs.Made.{made_tree, shown_tree}
-use Rattle.gl_value.specs.DerivedEq.{eq_is_value, eq_is_array, eq_is_env, eq_is_scalar, eq_is_sheet}
+use Rattle.gl_value.proofs.DerivedEq.{eq_is_value, eq_is_array, eq_is_env, eq_is_scalar, eq_is_sheet}
 use Rattle.gl_value.specs.Laws.{ErrorsCompareByTree, ScalarsCompareByTree, ArraysCompareByTree, ValuesCompareByTree, SheetsCompareByTree, FramesCompareByTree, ShownCompareByTree, MadeCompareByTree, ScalarsHashByTree, ArraysHashByTree, ValuesHashByTree, SheetsHashByTree, FramesHashByTree}
 use Rattle.gl_value.specs.declared.ErrKind.{ErrKind}
 use Rattle.gl_value.specs.declared.ErrKind.TheVariants.{Ref, Value as ValueError, Div0, Num, Na, Spill, Size}
