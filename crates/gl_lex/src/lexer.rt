@@ -1,6 +1,7 @@
 //! A text as tokens.
 
 ghost use Rattle.std.specs.Prelude.{◌≤◌, length, MatchResult};
+ghost use Rattle.gl_calculus.specs.Limits.{max_formula};
 ghost use Rattle.gl_language.specs.Token.{Lexes};
 ghost use Rattle.gl_lex.specs.View.{tokens_in, AreSpans, IsRefused};
 
@@ -12,7 +13,7 @@ use std::alloc::Global;
 /// The tokens of a text, each with its span, or the first place at which no token can be read.
 #[tactic(auto, using(crate::proofs::Lexing::lex_rules))]
 pub fn tokens(alloc: Global, text: &str) -> Result<Vec<Token>, LexFault>
-    requires { length text.now ≤ 8192 }
+    requires { length text.now ≤ max_formula }
     ensures { MatchResult result (λ v. Lexes text.now (tokens_in text.now v.items) × AreSpans text.now 0 (length text.now) v.items) (λ e. IsRefused text.now e) }
 {
     let bytes = text.as_bytes();

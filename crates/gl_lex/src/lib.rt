@@ -6,6 +6,8 @@ pub mod laws;
 mod lexer;
 mod quote;
 mod scan;
+#[cfg(test)]
+mod tests;
 mod whole;
 
 pub use fault::LexFault;
@@ -13,6 +15,11 @@ use gl_plane::Addr;
 pub use lexer::tokens;
 use std::rc::RcStr;
 pub use whole::literal;
+
+/// The bytes of a formula's text, and of the text of a literal, are at most so many.
+pub const MAX_FORMULA: usize = 8192;
+
+pub const MAX_TEXT: usize = 4096;
 
 /// The signs between words, numbers and texts.
 #[derive(Clone, Copy, PartialEq, Eq, Hash, Debug)]

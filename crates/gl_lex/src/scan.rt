@@ -8,7 +8,7 @@ ghost use Rattle.gl_lex.specs.Front as front;
 ghost use Rattle.gl_lex.specs.Front.{Decides, DecidesText};
 
 use crate::quote::decode;
-use crate::{Kind, Sign};
+use crate::{Kind, MAX_TEXT, Sign};
 use gl_plane::Addr;
 use std::alloc::{AllocError, Global};
 use std::rc::RcStr;
@@ -148,7 +148,7 @@ pub fn quoted(alloc: Global, rest: &[u8]) -> Result<(RcStr, usize), Bad>
     let Some((decoded, n)) = decode(alloc, rest)? else {
         return Err(Bad::Text);
     };
-    if decoded.len() > 4096 {
+    if decoded.len() > MAX_TEXT {
         return Err(Bad::Text);
     }
     match String::from_utf8(decoded) {
