@@ -1,9 +1,14 @@
 //! Formulas as trees, and their canonical text.
 #![tactic(auto)]
 
+mod canonical;
+mod literal;
+mod words;
+
 ghost use Rattle.std.specs.Prelude.{◌≡◌, ◌↔◌, IsTrue};
 ghost use Rattle.gl_ast.specs.View.{formula_tree};
 
+pub use canonical::print;
 use gl_plane::{Addr, Range};
 use std::rc::RcStr;
 
