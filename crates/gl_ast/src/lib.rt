@@ -3,6 +3,8 @@
 
 mod canonical;
 mod literal;
+#[cfg(test)]
+mod tests;
 mod words;
 
 ghost use Rattle.std.specs.Prelude.{◌≡◌, ◌↔◌, IsTrue};
