@@ -154,7 +154,7 @@ as_addr a h = let (c, k, r, s) = on_grid a h in (r, s, c, k)
 covered : (a : Addr) → IsAddr a → IsTrue (covers grid a)
 covered a h = let (r, s, c, k) = h in grind (arith, nat_tests, r, s, c, k)
 
-not_same : (a b : Bytes) → bytes_eq a b ≡ false → a ≢ b
+pub not_same : (a b : Bytes) → bytes_eq a b ≡ false → a ≢ b
 not_same a b p e = let q : bytes_eq a b ≡ true = (bytes_eq-Decides a b).1 e in cc (p, q)
 
 pub quote_is : (bytes : Bytes) → 0 < length bytes → get_or bytes 0 0 ≡ 34 → 34 ∷ take (length bytes - 1) (drop 1 bytes) ≡ bytes

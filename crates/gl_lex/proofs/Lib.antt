@@ -10,3 +10,4 @@ pub mod Once
 pub mod Literals
 pub mod Quotes
 pub mod Values
+pub mod Back
