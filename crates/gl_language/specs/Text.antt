@@ -1,9 +1,9 @@
 -- The printed texts, as bytes: addresses, literals, formulas, values and contents.
-use Rattle.std.specs.Prelude.{ℕ, ◌+◌, ◌-◌, ◌/◌, ◌%◌, ◌==◌, nat_lt, nat_le, Bool, true, false, ◌||◌, List, [], ◌∷◌, ◌++◌, flat_map, codes, if◌then◌else◌}
+use Rattle.std.specs.Prelude.{ℕ, ◌+◌, ◌/◌, ◌%◌, ◌==◌, min, nat_lt, nat_le, Bool, true, false, ◌||◌, List, [], ◌∷◌, ◌++◌, flat_map, codes, if◌then◌else◌}
 use Rattle.std.specs.List.{join_with_byte}
 use Rattle.std.specs.Fmt.{decimal, signed_decimal}
 use Rattle.gl_calculus.specs.Limits.{max_minus}
-use Rattle.gl_calculus.specs.Grid.{Addr, Range, Size}
+use Rattle.gl_calculus.specs.Grid.{Range, Size}
 use Rattle.gl_calculus.specs.Notation.{address_text}
 use Rattle.gl_calculus.specs.ErrKind.{ErrKind}
 use Rattle.gl_calculus.specs.Value.{Permit, Permitted, Refused, Entry, Oracle, Scalar, region}
@@ -121,8 +121,17 @@ abbrev pub minus_of : Op → ℕ
 minus_of F.Op.Sub = 1
 minus_of op = 0
 
+-- one more `-` in a row; none is counted beyond those that may stand there
+abbrev pub one_more : ℕ → ℕ
+one_more minus = min (minus + 1) max_minus
+
 abbrev pub in_parens : Bytes → Bytes
 in_parens t = codes "(" ++ t ++ codes ")"
+
+-- a form in its place: in parentheses, where no `-` stands before it, or behind so many `-`
+abbrev pub in_place : Bool → (ℕ → Bytes) → ℕ → Bytes
+in_place true text minus = in_parens (text 0)
+in_place false text minus = text minus
 
 -- The canonical text of a formula behind so many `-` in a row: no spaces, and parentheses only where they are needed.
 abbrev mutual
@@ -134,23 +143,26 @@ abbrev mutual
   text_behind minus (F.Formula.Spill a) = address_text a ++ codes "#"
   text_behind minus (F.Formula.Area r) = range_text r
   text_behind minus (F.Formula.Var name) = name
-  text_behind minus (F.Formula.Neg f) = codes "-" ++ elim (needs_parens (minus + 1) 4 f) [ true ↦ in_parens (text_behind 0 f) | false ↦ text_behind (minus + 1) f ]
+  text_behind minus (F.Formula.Neg f) = codes "-" ++ in_place (needs_parens (one_more minus) 4 f) (λ m. text_behind m f) (one_more minus)
   text_behind minus (F.Formula.Chain level f rest) =
-      elim (needs_parens minus (level_place level + 1) f) [ true ↦ in_parens (text_behind 0 f) | false ↦ text_behind minus f ] ++ operands_text (level_place level + 1) rest
+      in_place (needs_parens minus (level_place level + 1) f) (λ m. text_behind m f) minus ++ operands_text (level_place level + 1) rest
   text_behind minus (F.Formula.Compare op f g) =
-      elim (needs_parens minus 1 f) [ true ↦ in_parens (text_behind 0 f) | false ↦ text_behind minus f ]
-      ++ op_text op ++ elim (needs_parens 0 1 g) [ true ↦ in_parens (text_behind 0 g) | false ↦ text_behind 0 g ]
+      in_place (needs_parens minus 1 f) (λ m. text_behind m f) minus ++ op_text op ++ in_place (needs_parens 0 1 g) (λ m. text_behind m g) 0
   text_behind minus (F.Formula.Call f xs) = fun_text f ++ in_parens (join_with_byte 44 (texts xs))
   text_behind minus (F.Formula.Let name f body) = codes "LET" ++ in_parens (join_with_byte 44 (name ∷ text_behind 0 f ∷ text_behind 0 body ∷ []))
 
   pub operands_text : ℕ → Operands → Bytes
   operands_text place F.Operands.no_operand = []
   operands_text place (F.Operands.operand_and op f rest) =
-      op_text op ++ elim (needs_parens (minus_of op) place f) [ true ↦ in_parens (text_behind 0 f) | false ↦ text_behind (minus_of op) f ] ++ operands_text place rest
+      op_text op ++ in_place (needs_parens (minus_of op) place f) (λ m. text_behind m f) (minus_of op) ++ operands_text place rest
 
   pub texts : Formulas → List Bytes
   texts F.Formulas.no_formula = []
   texts (F.Formulas.formula_and f fs) = text_behind 0 f ∷ texts fs
+
+-- the text of a formula in a place, behind so many `-`
+abbrev pub placed_text : ℕ → ℕ → Formula → Bytes
+placed_text place minus f = in_place (needs_parens minus place f) (λ m. text_behind m f) minus
 
 abbrev pub formula_text : Formula → Bytes
 formula_text f = text_behind 0 f
