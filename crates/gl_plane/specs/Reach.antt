@@ -1,0 +1,26 @@
+-- What entries meet, and how far down they reach.
+use Rattle.std.specs.Prelude.{◌≡◌, ℕ, ◌*◌, ◌/◌, ◌<◌, ◌≤◌, Bool, ◌&&◌, List, length, Some, slice_get, slice_index, if◌then◌else◌}
+use Rattle.gl_calculus.specs.Grid.{Range, lies_in, meets, grid}
+use Rattle.gl_calculus.specs.Value.{Entry}
+use Rattle.gl_calculus.specs.Same.{is_permitted}
+use Rattle.gl_calculus.specs.Oracle.{area_of}
+
+-- the entry is permitted, and its area exists and meets the range
+abbrev pub spills_into : Range → Entry → Bool
+spills_into r x = is_permitted x.permit && lies_in (area_of x) grid && meets (area_of x) r
+
+-- the last row of what the entry spills, or 0
+abbrev pub lowest_row : Entry → ℕ
+lowest_row x = if is_permitted x.permit && lies_in (area_of x) grid then (area_of x).last.row else 0
+
+-- each block of 64 entries has a row below which none of them reaches
+pub record AreReaches (es : List Entry) (rows : List ℕ) : Type 0 where
+  pub enough : length es ≤ 64 * length rows
+  pub bounds : (k : ℕ) (x : Entry) → slice_get es k ≡ Some x → lowest_row x ≤ slice_index rows (k / 64)
+
+-- no row is lower than before, and that of the block is at least this one
+pub record IsRaised (old new : List ℕ) (block row : ℕ) : Type 0 where
+  pub present : block < length new
+  pub kept : length old ≤ length new
+  pub above : (k : ℕ) → slice_index old k ≤ slice_index new k
+  pub raised : row ≤ slice_index new block

@@ -1,0 +1,70 @@
+//! The entries that meet a range, by how far down each block of entries reaches.
+ghost use Rattle.std.specs.Prelude.{◌≡◌, ◌≤◌, ◌<◌, drop, OnOk, OnErr, vec_len};
+ghost use Rattle.std.specs.List.{position_from};
+ghost use Rattle.gl_calculus.specs.Oracle.{IsInOrder};
+ghost use Rattle.gl_plane.specs.Reach.{spills_into, lowest_row, AreReaches, IsRaised};
+
+use crate::{Entry, NoMemory, Permit, Range};
+
+/// The entries of a block.
+pub const BLOCK: usize = 64;
+
+/// The entry is permitted, and its area exists and meets the range.
+fn spills_into(entry: &Entry, range: &Range) -> bool
+    ensures { result ≡ spills_into range.now entry.now }
+{
+    match (entry.permit, entry.root.area(entry.size)) {
+        (Permit::Permitted, Some(area)) => area.meets(range),
+        _ => false,
+    }
+}
+
+/// The last row of what the entry spills, or 0.
+pub fn lowest_row(entry: &Entry) -> u16
+    ensures { result ≡ lowest_row entry.now }
+{
+    match (entry.permit, entry.root.area(entry.size)) {
+        (Permit::Permitted, Some(area)) => area.last.row,
+        _ => 0,
+    }
+}
+
+/// Keeps at least this row for a block, which may be the next one.
+pub fn raise(rows: &mut Vec<u16>, block: usize, row: u16) -> Result<(), NoMemory>
+    requires { block ≤ vec_len rows.old }
+    ensures ok { OnOk result (IsRaised rows.old.items rows.new.items block row) }
+    ensures err { OnErr result (rows.new.items ≡ rows.old.items) }
+{
+    if block < rows.len() {
+        rows[block] = rows[block].max(row);
+    } else {
+        rows.push(row)?;
+    }
+    Ok(())
+}
+
+/// The place, from `from` on, of the first entry that spills into the range.
+pub fn meeting_from(entries: &[Entry], rows: &[u16], range: &Range, from: usize) -> Option<usize>
+    requires ordered { IsInOrder entries.now }
+    requires reaches { AreReaches entries.now rows.now }
+    ensures { result ≡ position_from (spills_into range.now) from (drop from entries.now) }
+{
+    let top = range.first.row();
+    let bottom = range.last.row();
+    let mut i = from;
+    while i < entries.len() {
+        if i % BLOCK == 0 && rows[i / BLOCK] < top {
+            i += BLOCK;
+        } else {
+            let entry = &entries[i];
+            if entry.root.row() > bottom {
+                return None;
+            }
+            if spills_into(entry, range) {
+                return Some(i);
+            }
+            i += 1;
+        }
+    }
+    None
+}

@@ -1,0 +1,76 @@
+use super::*;
+use std::test::Fail;
+
+// The rule for addresses, said apart: one or two letters, then one to four digits that do not begin with 0.
+fn is_address(text: &[u8]) -> bool {
+    let letters = text.iter().take_while(|b| b.is_ascii_uppercase()).count();
+    let digits = text.len() - letters;
+    (letters == 1 || letters == 2)
+        && 1 <= digits
+        && digits <= 4
+        && text[letters] != b'0'
+        && text[letters..].iter().all(|b| b.is_ascii_digit())
+}
+
+// Each text of up to five of these bytes is read exactly where the rule allows it, and written back as it was.
+#[test]
+fn addresses_are_read_by_the_rule(rt: HostRuntime) -> Result<(), Fail> {
+    let bytes = *b"AZ09a";
+    let mut read = 0;
+    for length in 0..6u32 {
+        for number in 0..5u32.pow(length) {
+            let mut text: Vec<u8> = Vec::new(rt.alloc());
+            let mut rest = number;
+            for _ in 0..length {
+                text.push(bytes[(rest % 5) as usize])?;
+                rest /= 5;
+            }
+            let found = Addr::read(&text);
+            assert_eq!(rt;
+                found.is_some(),
+                is_address(&text),
+                "at {number} of {length}"
+            );
+            if let Some(a) = found {
+                let mut out: Vec<u8> = Vec::new(rt.alloc());
+                assert!(rt; a.text(&mut out).is_ok());
+                assert_eq!(rt; out.as_slice(), text.as_slice());
+                read += 1;
+            }
+        }
+    }
+    assert_eq!(rt; read, 2 * (1 + 2 + 4 + 8) + 4 * (1 + 2 + 4));
+    Ok(())
+}
+
+#[test]
+fn addresses_by_number(rt: HostRuntime) -> Result<(), Fail> {
+    for (text, col, row) in [
+        ("A1", 1, 1),
+        ("Z26", 26, 26),
+        ("AA1", 27, 1),
+        ("AZ9", 52, 9),
+        ("BA10", 53, 10),
+        ("ZZ9999", 702, 9999),
+    ] {
+        let a = Addr::read(text.as_bytes()).ok_or("address")?;
+        assert_eq!(rt; (a.col, a.row), (col, row), "at {text}");
+    }
+    Ok(())
+}
+
+#[test]
+fn one_entry_and_one_size(rt: HostRuntime) -> Result<(), Fail> {
+    let root = Addr::read(b"B2").ok_or("address")?;
+    let size = Size::new(2, 3).ok_or("size")?;
+    let permit = Permit::Permitted;
+    let mut oracle = Oracle::new(rt.alloc());
+    assert!(rt; oracle.push(Entry { root, size, permit }).is_ok());
+    assert_eq!(rt; (oracle.len(), oracle.status(root)), (1, Some(permit)));
+    let inside = Addr::read(b"D3").ok_or("address")?;
+    assert_eq!(rt; oracle.cover(inside), Some((root, 1, 2)));
+    let mut sizes = Sizes::new(rt.alloc());
+    assert!(rt; sizes.push(root, size).is_ok());
+    assert_eq!(rt; sizes.at(0), Some((root, size)));
+    Ok(())
+}
