@@ -1,0 +1,9 @@
+pub mod View
+pub mod Made
+pub mod Laws
+pub mod Ints
+pub mod Forms
+pub mod DerivedEq
+pub mod Equal
+pub mod Parts
+pub mod Sound

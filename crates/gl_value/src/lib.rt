@@ -1,0 +1,135 @@
+//! Values, sheet values and frames: the plain values of the calculus, shared by reference counts.
+#![tactic(auto)]
+
+mod agrees;
+mod items;
+mod put;
+mod share;
+mod sheets;
+mod sound;
+#[cfg(test)]
+mod tests;
+
+ghost use Rattle.gl_value.specs.Laws.{ScalarsCompareByTree, ArraysCompareByTree, ValuesCompareByTree, SheetsCompareByTree, FramesCompareByTree, ErrorsCompareByTree, ShownCompareByTree, MadeCompareByTree, ScalarsHashByTree, ArraysHashByTree, ValuesHashByTree, SheetsHashByTree, FramesHashByTree};
+
+use gl_plane::{Addr, Oracle, Range, Size};
+pub use sheets::{sheet, update};
+use std::rc::{Rc, RcStr};
+
+/// The most bytes that a text has.
+pub const MAX_TEXT: usize = 4096;
+
+/// The greatest rank of a sheet value.
+pub const MAX_RANK: u8 = 96;
+
+/// The greatest weight of a sheet value.
+pub const MAX_WEIGHT: u32 = 65536;
+
+/// The kinds of errors that are values. A cycle is none of them: it is only shown.
+#[derive(Clone, Copy, PartialEq, Eq, Hash, Debug)]
+pub enum ErrKind {
+    Ref,
+    Value,
+    Div0,
+    Num,
+    Na,
+    Spill,
+    Size,
+}
+
+/// One element: of a cell, an array or an operand. A sound text has at most `MAX_TEXT` bytes.
+#[cycle(value)]
+#[derive(Drop, PartialEq, Eq, Hash)]
+pub enum Scalar {
+    Blank,
+    Int(i64),
+    Bool(bool),
+    Text(RcStr),
+    Err(ErrKind),
+    Sheet(Rc<SheetVal>),
+}
+
+/// A rectangle of scalars, in row-major order. One of a single row and column is still an array.
+#[cycle(value)]
+#[derive(Drop, PartialEq, Eq, Hash)]
+pub struct Array {
+    size: Size,
+    items: Vec<Scalar>,
+}
+
+/// What a formula comes to.
+#[cycle(value)]
+#[derive(Drop, PartialEq, Eq, Hash)]
+pub enum Value {
+    One(Scalar),
+    Array(Rc<Array>),
+}
+
+/// A copy of a region of the sheet in which some addresses hold given values.
+///
+/// `sheet` and `update` make it. `env` is the frame that it was made in, and `weight` counts what
+/// it holds: itself, the values of its overrides and its frame. Its rank is above those of its
+/// frame and of the sheet values in its overrides, so a nest of sheet values is bounded.
+///
+/// Equality tests the fields in this order, the cheap ones first. The hash leaves out the frame,
+/// which would be walked once for each level above it.
+#[cycle(value)]
+#[derive(Drop)]
+#[derive_where(PartialEq, Eq, Hash)]
+pub struct SheetVal {
+    pub rank: u8,
+    pub weight: u32,
+    pub region: Range,
+    /// In row-major order of distinct addresses of the region.
+    pub overrides: Vec<(Addr, Value)>,
+    #[derive_where(skip(Hash))]
+    pub env: Env,
+}
+
+/// A frame, in which formulas are evaluated: the sheet itself, or a copy that is settled to an oracle.
+#[cycle(value)]
+#[derive(Drop, PartialEq, Eq, Hash)]
+pub enum Env {
+    Top,
+    In(Rc<SheetVal>, Rc<Oracle>),
+}
+
+/// What an address shows.
+#[derive(Drop, PartialEq, Eq, Hash)]
+pub enum Shown {
+    Cycle,
+    Value(Scalar),
+}
+
+/// What `sheet` and `update` answer: a sheet value, or the first of these tests that fails, which
+/// are that the address lies in the region, that the rank is at most `MAX_RANK`, and that the
+/// weight is at most `MAX_WEIGHT`.
+#[derive(Drop, PartialEq, Eq, Hash)]
+pub enum Made {
+    Sheet(Rc<SheetVal>),
+    Outside,
+    Deep,
+    Heavy,
+}
+
+/// `==` compares by structure: it is true exactly where the plain values are equal, however their
+/// parts are shared.
+pub fn structural_equality()
+    ensures errors { ErrorsCompareByTree }
+    ensures scalars { ScalarsCompareByTree }
+    ensures arrays { ArraysCompareByTree }
+    ensures values { ValuesCompareByTree }
+    ensures sheets { SheetsCompareByTree }
+    ensures frames { FramesCompareByTree }
+    ensures shown { ShownCompareByTree }
+    ensures made { MadeCompareByTree }
+{}
+
+/// Equal plain values hash alike.
+pub fn structural_hashes()
+    ensures scalars { ScalarsHashByTree }
+    ensures arrays { ArraysHashByTree }
+    ensures values { ValuesHashByTree }
+    ensures sheets { SheetsHashByTree }
+    ensures frames { FramesHashByTree }
+{}
