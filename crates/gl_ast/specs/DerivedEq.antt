@@ -1,0 +1,147 @@
+-- The derived `==` of formulas is the test of their trees.
+use Rattle.std.proofs.Common.{◌≡◌, Bool as Truth, true, false, ◌&&◌, List, [], ◌∷◌, map, rules, refl, subst}
+use lib.Pointwise.{pointwise}
+use Rattle.gl_ast.specs.Ints.{int_test}
+use Rattle.gl_ast.specs.Same.{same_op, same_level, same_fun, same_formula, same_formulas, same_operands}
+use Rattle.gl_calculus.specs.Same.{same_bool}
+use Rattle.gl_ast.specs.View.{level_tree, op_tree, fun_tree, formula_tree, argument_trees, operand_trees}
+use Rattle.gl_ast.specs.declared.Level.{Level}
+use Rattle.gl_ast.specs.declared.Level.TheVariants as level
+use Rattle.gl_ast.specs.declared.Op.{Op}
+use Rattle.gl_ast.specs.declared.Op.TheVariants as op
+use Rattle.gl_ast.specs.declared.Fun.{Fun}
+use Rattle.gl_ast.specs.declared.Fun.TheVariants as fun
+use Rattle.gl_ast.specs.declared.Formula.{Formula, roll-Formula, out-Formula, roll-out-Formula, map-Formula, ind-Formula, the_lemmas}
+use Rattle.gl_ast.specs.declared.Formula.TheOpen.{Formula-F}
+use Rattle.gl_ast.specs.contracts.FormulaPartialEq.TheImpl.{ghosts as formula}
+use Rattle.gl_ast.specs.contracts.FormulaPartialEq.TheImpl.Laws.{is as formula_is}
+use Rattle.gl_ast.specs.contracts.LevelPartialEq.TheImpl.{ghosts as level_eq}
+use Rattle.gl_ast.specs.contracts.OpPartialEq.TheImpl.{ghosts as op_eq}
+use Rattle.gl_ast.specs.contracts.FunPartialEq.TheImpl.{ghosts as fun_eq}
+
+level_test : (l m : Level) → level_eq.eq l m ≡ same_level (level_tree l) (level_tree m)
+level_test level.Cat level.Cat = refl
+level_test level.Sum level.Sum = refl
+level_test level.Prod level.Prod = refl
+level_test _ _ = refl
+
+op_test : (o p : Op) → op_eq.eq o p ≡ same_op (op_tree o) (op_tree p)
+op_test op.Eq op.Eq = refl
+op_test op.Ne op.Ne = refl
+op_test op.Lt op.Lt = refl
+op_test op.Le op.Le = refl
+op_test op.Gt op.Gt = refl
+op_test op.Ge op.Ge = refl
+op_test op.Join op.Join = refl
+op_test op.Add op.Add = refl
+op_test op.Sub op.Sub = refl
+op_test op.Mul op.Mul = refl
+op_test op.Div op.Div = refl
+op_test _ _ = refl
+
+fun_test : (f g : Fun) → fun_eq.eq f g ≡ same_fun (fun_tree f) (fun_tree g)
+fun_test fun.Sum fun.Sum = refl
+fun_test fun.Count fun.Count = refl
+fun_test fun.Min fun.Min = refl
+fun_test fun.Max fun.Max = refl
+fun_test fun.And fun.And = refl
+fun_test fun.Or fun.Or = refl
+fun_test fun.Not fun.Not = refl
+fun_test fun.If fun.If = refl
+fun_test fun.IfError fun.IfError = refl
+fun_test fun.IsError fun.IsError = refl
+fun_test fun.IsBlank fun.IsBlank = refl
+fun_test fun.Abs fun.Abs = refl
+fun_test fun.Mod fun.Mod = refl
+fun_test fun.Len fun.Len = refl
+fun_test fun.Left fun.Left = refl
+fun_test fun.Right fun.Right = refl
+fun_test fun.Rows fun.Rows = refl
+fun_test fun.Columns fun.Columns = refl
+fun_test fun.Index fun.Index = refl
+fun_test fun.Sequence fun.Sequence = refl
+fun_test fun.Transpose fun.Transpose = refl
+fun_test fun.Take fun.Take = refl
+fun_test fun.Drop fun.Drop = refl
+fun_test fun.HStack fun.HStack = refl
+fun_test fun.VStack fun.VStack = refl
+fun_test fun.Filter fun.Filter = refl
+fun_test fun.Unique fun.Unique = refl
+fun_test fun.Lookup fun.Lookup = refl
+fun_test fun.Na fun.Na = refl
+fun_test fun.Sheet fun.Sheet = refl
+fun_test fun.Update fun.Update = refl
+fun_test fun.View fun.View = refl
+fun_test fun.G fun.G = refl
+fun_test fun.This fun.This = refl
+fun_test _ _ = refl
+
+truth_test : (a b : Truth) → formula.eq (roll-Formula (Formula-F.Bool a)) (roll-Formula (Formula-F.Bool b)) ≡ same_bool a b
+truth_test true true = search (rules, the_lemmas, formula_is)
+truth_test true false = search (rules, the_lemmas, formula_is)
+truth_test false true = search (rules, the_lemmas, formula_is)
+truth_test false false = search (rules, the_lemmas, formula_is)
+
+-- what is claimed of a formula: its test agrees with that of the trees, at every other formula
+abbrev P : Formula → Type 0
+P x = (y : Formula) → formula.eq x y ≡ same_formula (formula_tree x) (formula_tree y)
+
+abbrev S : Type 0
+S = (x : Formula) × P x
+
+abbrev formula_of : Formula-F S → Formula
+formula_of l = roll-Formula (map-Formula S Formula (λ e. e.0) l)
+
+abbrev formulas_of : List S → List Formula
+formulas_of ls = map (λ e. e.0) ls
+
+arguments_eq : (ls : List S) (ys : List Formula) → pointwise formula.eq (formulas_of ls) ys ≡ same_formulas (argument_trees (formulas_of ls)) (argument_trees ys)
+arguments_eq [] [] = refl
+arguments_eq [] (y ∷ ys) = refl
+arguments_eq (x ∷ xs) [] = refl
+arguments_eq (x ∷ xs) (y ∷ ys) = rw (x.1 y, arguments_eq xs ys) refl
+
+abbrev pairs_of : List (Op × S) → List (Op × Formula)
+pairs_of ls = map (λ o. (o.0, o.1.0)) ls
+
+operands_eq : (ls : List (Op × S)) (os : List (Op × Formula)) → pointwise (λ p q. op_eq.eq p.0 q.0 && formula.eq p.1 q.1) (pairs_of ls) os ≡ same_operands (operand_trees (pairs_of ls)) (operand_trees os)
+operands_eq [] [] = refl
+operands_eq [] (y ∷ ys) = refl
+operands_eq (x ∷ xs) [] = refl
+operands_eq (x ∷ xs) (y ∷ ys) = rw (op_test x.0 y.0, x.1.1 y.1, operands_eq xs ys) refl
+
+formula_cases : (l : Formula-F S) (z : Formula-F Formula) → formula.eq (formula_of l) (roll-Formula z) ≡ same_formula (formula_tree (formula_of l)) (formula_tree (roll-Formula z))
+formula_cases (Formula-F.Int m) (Formula-F.Int n) = let h = int_test m n in search (rules, the_lemmas, formula_is, h)
+formula_cases (Formula-F.Text s) (Formula-F.Text t) = search (rules, the_lemmas, formula_is)
+formula_cases (Formula-F.Bool a) (Formula-F.Bool b) = let h = truth_test a b in search (rules, the_lemmas, h)
+formula_cases (Formula-F.At a) (Formula-F.At b) = search (rules, the_lemmas, formula_is)
+formula_cases (Formula-F.Spill a) (Formula-F.Spill b) = search (rules, the_lemmas, formula_is)
+formula_cases (Formula-F.Area r) (Formula-F.Area s) = search (rules, the_lemmas, formula_is)
+formula_cases (Formula-F.Var s) (Formula-F.Var t) = search (rules, the_lemmas, formula_is)
+formula_cases (Formula-F.Neg f) (Formula-F.Neg g) = let h = f.value.1 g.value in search (rules, the_lemmas, formula_is, h)
+formula_cases (Formula-F.Chain l f os) (Formula-F.Chain m g ps) =
+    let h = level_test l m in
+    let k = f.value.1 g.value in
+    let t = operands_eq os.items ps.items in
+    search (rules, the_lemmas, formula_is, h, k, t)
+formula_cases (Formula-F.Compare o f a) (Formula-F.Compare p g b) =
+    let h = op_test o p in
+    let k = f.value.1 g.value in
+    let t = a.value.1 b.value in
+    search (rules, the_lemmas, formula_is, h, k, t)
+formula_cases (Formula-F.Call f xs) (Formula-F.Call g ys) =
+    let h = fun_test f g in
+    let t = arguments_eq xs.items ys.items in
+    search (rules, the_lemmas, formula_is, h, t)
+formula_cases (Formula-F.Let s f a) (Formula-F.Let t g b) =
+    let k = f.value.1 g.value in
+    let u = a.value.1 b.value in
+    search (rules, the_lemmas, formula_is, k, u)
+formula_cases _ _ = search (rules, the_lemmas, formula_is)
+
+formula_step : (x : Formula-F Formula) (l : Formula-F S) → map-Formula S Formula (λ e. e.0) l ≡ x → P (roll-Formula x)
+formula_step x l e = subst (λ x. P (roll-Formula x)) e (λ y. subst (λ y. formula.eq (formula_of l) y ≡ same_formula (formula_tree (formula_of l)) (formula_tree y)) (roll-out-Formula y) (formula_cases l (out-Formula y)))
+
+-- the derived `==` compares the trees
+pub eq_is_formula : (x y : Formula) → formula.eq x y ≡ same_formula (formula_tree x) (formula_tree y)
+eq_is_formula = ind-Formula P formula_step

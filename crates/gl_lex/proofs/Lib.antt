@@ -1,0 +1,12 @@
+pub mod Rows
+pub mod Starts
+pub mod Fronts
+pub mod Letters
+pub mod Decoding
+pub mod Texts
+pub mod Signs
+pub mod Lexing
+pub mod Once
+pub mod Literals
+pub mod Quotes
+pub mod Values

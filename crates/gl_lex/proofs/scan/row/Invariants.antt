@@ -1,0 +1,11 @@
+use Rattle.std.proofs.Common.{◌≡◌, ◌+◌, ◌-◌, ◌≤◌, length, drop}
+use Rattle.std.specs.List.{prefix_len}
+use Rattle.gl_lex.specs.Front.{is_in}
+use Rattle.gl_lex.proofs.scan.row.Given as goal
+
+abbrev pub invariant-loop-end : goal.invariant-loop-end
+invariant-loop-end l =
+    (l.end + prefix_len (is_in l.class) (drop l.end l.bytes) ≡ prefix_len (is_in l.class) l.bytes) × (l.end ≤ length l.bytes)
+
+abbrev pub decreases-loop-end : goal.decreases-loop-end
+decreases-loop-end l = length l.bytes - l.end

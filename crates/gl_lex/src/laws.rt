@@ -1,0 +1,18 @@
+//! Laws of the tokens.
+
+ghost use Rattle.std.specs.Prelude.{◌≡◌};
+ghost use Rattle.gl_language.specs.Text.{Bytes};
+ghost use Rattle.gl_language.specs.Token as T;
+ghost use Rattle.gl_language.specs.Laws.{OneTokenList, OneLexFault, TokensOrFault};
+
+/// A text has at most one list of tokens, or one first fault, and not both.
+pub fn one_reading()
+    ensures list { OneTokenList }
+    ensures fault { OneLexFault }
+    ensures apart { TokensOrFault }
+{}
+
+/// A literal stands for one text.
+pub fn one_text()
+    ensures { (bytes t u : Bytes) → T.Spells (T.Quoted t) bytes → T.Spells (T.Quoted u) bytes → t ≡ u }
+{}
