@@ -6,9 +6,8 @@ use Rattle.std.specs.Cmp.{IsEquivalence}
 use Rattle.std.proofs.lemmas.List.Elements.{AllZip-push}
 use Rattle.std.specs.List.{list_any, IsDistinct, AllByRecursion, AllZip}
 use Rattle.std.proofs.lemmas.Map.Keys.{IsDistinct-head, IsDistinct-tail}
-use Rattle.gl_support.specs.Nodes.{stands_at, reads_at, marked_keys}
+use Rattle.gl_support.specs.Nodes.{stands_at, marked_keys}
 use Rattle.gl_support.specs.Reach.{is_marked}
-use Rattle.gl_support.proofs.Keys.{or_false}
 
 -- the test of the key at a place
 abbrev pub at_node : {K : Type 0} → (K → Bool) → List K → ℕ → Bool

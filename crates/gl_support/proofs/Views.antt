@@ -1,5 +1,5 @@
 -- Triples of the code as plain ones.
-use Rattle.std.proofs.Common.{◌≡◌, ◌∙◌, Bool, ◌||◌, List, [], ◌∷◌, map, Result, Ok, Err, IfOk, refl, ap}
+use Rattle.std.proofs.Common.{◌≡◌, Bool, ◌||◌, List, [], ◌∷◌, map, Result, Ok, Err, IfOk, refl, ap}
 use Rattle.std.specs.List.{list_any}
 use Rattle.gl_support.specs.Affected as plain
 use Rattle.gl_support.specs.Triples.{plain_triple}

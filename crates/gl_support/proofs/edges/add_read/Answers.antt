@@ -1,4 +1,4 @@
-use Rattle.std.proofs.Common.{◌≡◌, ◌∙◌, ◌||◌, ◌&&◌, ℕ, nat_eq, Result, Ok, Err, OnOk, sym, ap}
+use Rattle.std.proofs.Common.{◌∙◌, ◌||◌, ◌&&◌, nat_eq, Result, Ok, Err, OnOk, sym, ap}
 use Rattle.gl_support.specs.Reach.{has, row_of}
 use Rattle.gl_support.proofs.Keys.{or_false}
 use Rattle.gl_support.proofs.Places.{stands-Some, stands-None}

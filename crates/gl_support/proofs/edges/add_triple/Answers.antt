@@ -1,8 +1,7 @@
-use Rattle.std.proofs.Common.{◌≡◌, ◌∙◌, ◌||◌, ◌&&◌, ℕ, nat_eq, Bool, true, false, Result, Ok, Err, OnOk, refl, sym, ap}
+use Rattle.std.proofs.Common.{◌≡◌, ◌∙◌, ◌||◌, ◌&&◌, nat_eq, Bool, true, false, Result, Ok, Err, OnOk, refl, sym, ap}
 use Rattle.gl_support.specs.Affected.{is_touched}
 use Rattle.gl_support.specs.Nodes.{reads_at}
 use Rattle.gl_support.specs.Reach.{is_marked, has, row_of}
-use Rattle.gl_support.proofs.Keys.{or_false}
 use Rattle.gl_support.proofs.Places.{stands-Some, stands-None}
 use Rattle.gl_support.proofs.edges.add_triple.Goals as goal
 

@@ -1,4 +1,4 @@
-use Rattle.std.proofs.Common.{◌≡◌, ◌∷◌, [], ◌++◌, vec_len, rules, arith}
+use Rattle.std.proofs.Common.{arith}
 use Rattle.gl_support.proofs.Graph.{no_row}
 use Rattle.gl_support.proofs.edges.no_edges.Goals as goal
 

@@ -1,10 +1,9 @@
-use Rattle.std.proofs.Common.{◌≡◌, ◌∙◌, ◌&&◌, ℕ, true, [], List, Vec, map, length, sym, ap, subst, arith}
+use Rattle.std.proofs.Common.{◌≡◌, ◌∙◌, ◌&&◌, true, [], map, length, subst, arith}
 use Rattle.std.specs.List.{AllZip}
-use Rattle.std.specs.declared.alloc.Global.{Global}
 use Rattle.indexmap.specs.IndexSet.{insert_all}
 use Rattle.gl_support.specs.Affected.{is_touched}
 use Rattle.gl_support.specs.Nodes.{stands_at, reads_at, marked_keys}
-use Rattle.gl_support.specs.Reach.{is_marked, has, row_of, IsLeast}
+use Rattle.gl_support.specs.Reach.{IsLeast}
 use Rattle.gl_support.specs.Triples.{plain_triple}
 use Rattle.gl_support.proofs.Closure.{are_affected}
 use Rattle.gl_support.proofs.Views.{any_plain, keys_plain, if_ok}

@@ -1,0 +1,27 @@
+//! Contents of an address.
+ghost use Rattle.std.specs.Prelude.{◌≡◌};
+ghost use Rattle.gl_cells.specs.Content.{content_tree, form_weight};
+
+use gl_ast::Formula;
+use gl_plane::{NoMemory, Share};
+use gl_value::Scalar;
+use std::rc::Rc;
+
+/// A constant or a formula.
+#[derive(Drop, PartialEq, Eq)]
+pub enum Content {
+    Const(Scalar),
+    Form(Rc<Formula>),
+}
+
+impl Content {
+    /// 1 for a formula, 0 for a constant.
+    pub(crate) fn weight(&self) -> usize
+        ensures { result ≡ form_weight (content_tree self.now) }
+    {
+        match self {
+            Content::Const(_) => 0,
+            Content::Form(_) => 1,
+        }
+    }
+}
