@@ -25,3 +25,20 @@ impl Content {
         }
     }
 }
+
+impl Share for Content {
+    ghost use Rattle.std.specs.Prelude.{◌≡◌};
+    ghost use Rattle.gl_cells.specs.Content.{content_tree};
+    ghost use Rattle.gl_cells.specs.Equal.{content_alike};
+
+    ghost shares = { λ x y. content_tree y ≡ content_tree x };
+
+    ghost alike = { content_alike };
+
+    fn share(&self) -> Result<Content, NoMemory> {
+        match self {
+            Content::Const(x) => Ok(Content::Const(x.share()?)),
+            Content::Form(f) => Ok(Content::Form(f.clone()?)),
+        }
+    }
+}

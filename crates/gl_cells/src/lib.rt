@@ -8,6 +8,8 @@ mod content;
 mod fault;
 mod search;
 mod table;
+#[cfg(test)]
+mod tests;
 
 pub use cells::Cells;
 pub use content::Content;
