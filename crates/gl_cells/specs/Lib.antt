@@ -1,0 +1,4 @@
+pub mod Content
+pub mod Sheet
+pub mod Search
+pub mod Equal

@@ -1,0 +1,44 @@
+//! Contents of an address.
+ghost use Rattle.std.specs.Prelude.{◌≡◌};
+ghost use Rattle.gl_cells.specs.Content.{content_tree, form_weight};
+
+use gl_ast::Formula;
+use gl_plane::{NoMemory, Share};
+use gl_value::Scalar;
+use std::rc::Rc;
+
+/// A constant or a formula.
+#[derive(Drop, PartialEq, Eq)]
+pub enum Content {
+    Const(Scalar),
+    Form(Rc<Formula>),
+}
+
+impl Content {
+    /// 1 for a formula, 0 for a constant.
+    pub(crate) fn weight(&self) -> usize
+        ensures { result ≡ form_weight (content_tree self.now) }
+    {
+        match self {
+            Content::Const(_) => 0,
+            Content::Form(_) => 1,
+        }
+    }
+}
+
+impl Share for Content {
+    ghost use Rattle.std.specs.Prelude.{◌≡◌};
+    ghost use Rattle.gl_cells.specs.Content.{content_tree};
+    ghost use Rattle.gl_cells.specs.Equal.{content_alike};
+
+    ghost shares = { λ x y. content_tree y ≡ content_tree x };
+
+    ghost alike = { content_alike };
+
+    fn share(&self) -> Result<Content, NoMemory> {
+        match self {
+            Content::Const(x) => Ok(Content::Const(x.share()?)),
+            Content::Form(f) => Ok(Content::Form(f.clone()?)),
+        }
+    }
+}

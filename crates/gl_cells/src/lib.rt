@@ -1,0 +1,22 @@
+//! The sheet: contents by address.
+#![tactic(auto)]
+
+mod batch;
+mod cells;
+mod clear;
+mod content;
+mod fault;
+mod search;
+mod table;
+#[cfg(test)]
+mod tests;
+
+pub use cells::Cells;
+pub use content::Content;
+pub use fault::PutFault;
+
+/// The most formulas that a sheet has.
+pub const MAX_FORMULAS: usize = 16384;
+
+/// The most contents that a sheet has.
+pub const MAX_CONTENTS: usize = 65536;

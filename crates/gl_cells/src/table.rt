@@ -1,0 +1,81 @@
+//! Edits of the table that stands for a sheet.
+ghost use Rattle.std.specs.Prelude.{◌≡◌, ◌≤◌, ◌<◌, None, IfSome, IfOk, IsSome, OnOk, OnErr, option_map, unwrap_or, is_some, ◌+◌, if◌then◌else◌};
+ghost use Rattle.std.specs.BTreeMap.{btree_map_len, insert_entry, is_at};
+ghost use Rattle.std.specs.BTreeMap as tree;
+ghost use Rattle.std.specs.Map.{lookup, remove_entry};
+ghost use Rattle.gl_calculus.specs.Grid.{Addr as Plain};
+ghost use Rattle.gl_language.specs.Content.{IsProperContent};
+ghost use Rattle.gl_cells.specs.Content.{content_tree, form_weight};
+ghost use Rattle.gl_cells.specs.Sheet.{addr_cmp, IsTable, HasPlace, restored};
+
+use crate::Content;
+use gl_plane::{Addr, NoMemory};
+use std::collections::BTreeMap;
+
+fn weight_of(c: &Option<Content>) -> usize
+    ensures { result ≡ unwrap_or (option_map (λ x. form_weight (content_tree x)) c.now) 0 }
+{
+    match c {
+        Some(c) => c.weight(),
+        None => 0,
+    }
+}
+
+/// Puts a content, and answers the one before.
+pub fn put_in(
+    map: &mut BTreeMap<Addr, Content>,
+    forms: &mut usize,
+    a: Addr,
+    c: Content,
+) -> Result<Option<Content>, NoMemory>
+    requires table { IsTable map.old.entries forms.old }
+    requires proper { IsProperContent (content_tree c) }
+    ensures ok { OnOk result (map.new.entries ≡ insert_entry addr_cmp map.old.entries a c) }
+    ensures was { IfOk result (λ was. (was ≡ lookup (is_at (addr_cmp a)) map.old.entries) × IfSome was (λ x. IsProperContent (content_tree x))) }
+    ensures absent { OnErr result (lookup (is_at (addr_cmp a)) map.old.entries ≡ None) }
+    ensures err { OnErr result (map.new.entries ≡ map.old.entries) }
+    ensures table { IsTable map.new.entries forms.new }
+{
+    let _len = map.len();
+    let weight = c.weight();
+    match map.insert(a, c) {
+        Ok(was) => {
+            *forms = *forms + weight - weight_of(&was);
+            Ok(was)
+        }
+        Err(_) => Err(NoMemory),
+    }
+}
+
+/// Removes a content, and answers it. It takes no memory.
+pub fn remove_in(map: &mut BTreeMap<Addr, Content>, forms: &mut usize, a: Addr) -> Option<Content>
+    requires table { IsTable map.old.entries forms.old }
+    ensures removed { map.new.entries ≡ remove_entry (is_at (addr_cmp a)) map.old.entries }
+    ensures was { result ≡ lookup (is_at (addr_cmp a)) map.old.entries }
+    ensures fewer { forms.new ≤ forms.old }
+    ensures present { is_some result ≡ is_some (tree.get addr_cmp map.old a) }
+    ensures others { (q : Plain) → tree.get addr_cmp map.new q ≡ (if is_at (addr_cmp a) q then None else tree.get addr_cmp map.old q) }
+    ensures len { btree_map_len map.new + (if is_some result then 1 else 0) ≡ btree_map_len map.old }
+    ensures table { IsTable map.new.entries forms.new }
+{
+    let was = map.remove(&a);
+    *forms -= weight_of(&was);
+    was
+}
+
+/// Takes a step back. It takes no memory, since a content comes back only where there is one.
+pub fn restore(map: &mut BTreeMap<Addr, Content>, forms: &mut usize, a: Addr, was: Option<Content>)
+    requires table { IsTable map.old.entries forms.old }
+    requires place { HasPlace (a, was) map.old.entries }
+    ensures restored { map.new.entries ≡ restored (a, was) map.old.entries }
+    ensures table { IsTable map.new.entries forms.new }
+{
+    match was {
+        None => {
+            let _ = remove_in(map, forms, a);
+        }
+        Some(c) => {
+            let _ = put_in(map, forms, a, c);
+        }
+    }
+}

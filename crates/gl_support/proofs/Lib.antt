@@ -1,0 +1,6 @@
+pub mod Steps
+pub mod Graph
+pub mod Keys
+pub mod Places
+pub mod Closure
+pub mod Views

@@ -1,0 +1,15 @@
+use Rattle.std.proofs.Common.{◌≡◌, ◌∙◌, ◌∷◌, [], ◌++◌, ◌+◌, ◌<◌, take, map, length, sym, ap, arith}
+use Rattle.std.proofs.lemmas.List.{take_more, map-append}
+use Rattle.gl_support.proofs.Keys.{insert_all-push}
+use Rattle.gl_support.proofs.nodes.nodes_of.Goals as goal
+
+pub loop-t-preserved : goal.loop-t-preserved
+loop-t-preserved g c =
+    let ts = c.args.triples.now in
+    let i = c.loop-t.t-index in
+    let inside : i < length ts = omega arith in
+    let more : map (λ t. t.by) (take (i + 1) ts) ≡ map (λ t. t.by) (take i ts) ++ c.t-item.result.by ∷ [] = ap (map (λ t. t.by)) (take_more ts i c.t-item.result inside ∙ ap (λ x. take i ts ++ x ∷ []) (sym c.t-item.is)) ∙ map-append (λ t. t.by) (take i ts) (c.t-item.result ∷ []) in
+    record {
+      keys = rw (more, c.in_ok-insert.ensures.keys) (insert_all-push g.met.K.Eq.laws (map (λ t. t.by) (take i ts)) c.loop-t.nodes.keys _ _ c.loop-t.invariant.keys c.in_ok-another.ensures);
+      unique = c.insert.ensures.unique;
+    }

@@ -1,0 +1,4 @@
+pub mod Reach
+pub mod Affected
+pub mod Nodes
+pub mod Triples
