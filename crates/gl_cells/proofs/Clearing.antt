@@ -1,5 +1,5 @@
 -- A table without a range, and the first content of a range.
-use Rattle.std.proofs.Common.{IsSome, IfSome, IfNone, Some, is_some, ◌≡◌, ◌∙◌, ◌&&◌, Bool, true, false, cond, not, Option, None, List, [], ◌∷◌, map, find, filter, refl, sym, ap, arith}
+use Rattle.std.proofs.Common.{IsSome, IfSome, IfNone, Some, is_some, ◌≡◌, ◌∙◌, ◌&&◌, Bool, true, false, cond, not, Option, None, [], ◌∷◌, map, find, filter, refl, sym, ap, arith}
 use Rattle.std.proofs.lemmas.Grind.{common_steps}
 use Rattle.std.specs.BTreeMap.{is_at}
 use Rattle.std.proofs.lemmas.Map.Keys.{sorted_head, sorted_tail}

@@ -1,5 +1,5 @@
 -- Steps back.
-use Rattle.std.proofs.Common.{IfSome, ◌≡◌, ◌∙◌, Bool, true, false, cond, List, [], ◌∷◌, ◌++◌, Option, None, Some, IsSome, refl, sym, ap, subst, is_some}
+use Rattle.std.proofs.Common.{IfSome, ◌≡◌, ◌∙◌, cond, List, [], ◌∷◌, ◌++◌, Option, None, Some, IsSome, refl, sym, ap, subst, is_some}
 use Rattle.std.proofs.lemmas.Map.Keys.{sorted_head, sorted_tail}
 use Rattle.std.specs.BTreeMap.{insert_entry, is_at}
 use Rattle.std.specs.Cmp.{tied_itself}
@@ -14,7 +14,7 @@ use Rattle.gl_language.specs.Content.{IsProperContent}
 use Rattle.gl_cells.specs.declared.content.Content.{Content}
 use Rattle.gl_cells.specs.Content.{content_tree}
 use Rattle.gl_cells.specs.Sheet.{Table, addr_cmp, restored, undo_all, CanUndo, HasPlace}
-use Rattle.gl_cells.proofs.TableLemmas.{addr_exact, addr_total}
+use Rattle.gl_cells.proofs.TableLemmas.{addr_total}
 
 -- one more step
 pub undo_all-push : (us : List (Addr × Option Content)) (u : Addr × Option Content) (s : Table) → undo_all (us ++ u ∷ []) s ≡ undo_all us (restored u s)

@@ -1,5 +1,5 @@
 -- The table against the sheet that it stands for.
-use Rattle.std.proofs.Common.{IfSome, IfNone, Bor, option_copied, is_some, Result, Ok, Err, zero, suc, ◌≡◌, ◌∙◌, ℕ, ◌≤◌, ◌<◌, ◌+◌, ◌&&◌, Bool, true, false, cond, not, List, [], ◌∷◌, length, map, filter, find, Option, None, Some, IsSome, IsTrue, refl, sym, ap, subst, arith, option_map, unwrap_or, sum_by, if◌then◌else◌}
+use Rattle.std.proofs.Common.{IfSome, Bor, option_copied, Result, Ok, Err, suc, ◌≡◌, ◌∙◌, ℕ, ◌≤◌, ◌+◌, Bool, true, false, cond, not, [], ◌∷◌, length, filter, Option, None, Some, refl, sym, ap, subst, arith, option_map, unwrap_or, sum_by, if◌then◌else◌}
 use Rattle.std.proofs.lemmas.Grind.{common_steps}
 use Rattle.std.proofs.lemmas.Map.Entries.{sum_by-insert_entry, sum_by-remove_entry}
 use Rattle.std.proofs.lemmas.List.Sums.{sum_by-cons}
@@ -8,13 +8,12 @@ use Rattle.std.proofs.lemmas.Map.Keys.{sorted_head, sorted_tail}
 use Rattle.std.proofs.lemmas.Cmp.{on_total, then_total}
 use Rattle.std.specs.BTreeMap.{insert_entry, is_at}
 use Rattle.std.specs.Cmp.{IsTotalOrder, nat_cmp_total}
-use Rattle.std.specs.List.{AllByRecursion}
 use Rattle.std.specs.List.Sorted.{IsStrictlySortedBy}
 use Rattle.std.specs.Map.{keys_of, values_of, lookup, remove_entry}
 use Rattle.std.specs.Ordering.{nat_cmp, match_ordering}
 use Rattle.std.specs.declared.cmp.Ordering.{Ordering}
 use Rattle.std.specs.declared.cmp.Ordering.TheVariants.{Less, Equal, Greater}
-use Rattle.gl_calculus.specs.Grid.{Addr, same_addr, is_before, AreInOrder, Range, covers}
+use Rattle.gl_calculus.specs.Grid.{Addr, same_addr, is_before, Range, covers}
 use Rattle.gl_calculus.specs.Formula as F
 use Rattle.gl_calculus.specs.Formula.{IsSheet, content, formula_addresses}
 use Rattle.gl_calculus.specs.Limits.{max_formulas, max_contents}

@@ -1,6 +1,5 @@
 -- Contents are equal where their trees are.
 use Rattle.std.specs.Prelude.{◌≡◌, true}
-use Rattle.std.proofs.Common.{sym}
 use Rattle.std.specs.Rc.{rc_value}
 use Rattle.gl_calculus.specs.Formula as F
 use Rattle.gl_ast.specs.Equal.{formula_equal}

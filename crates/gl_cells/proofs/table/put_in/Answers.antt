@@ -1,4 +1,4 @@
-use Rattle.std.proofs.Common.{ap, sym, subst, ◌∙◌, Option, IfSome, option_map, unwrap_or, arith, refl}
+use Rattle.std.proofs.Common.{ap, sym, subst, Option, IfSome, option_map, unwrap_or, arith}
 use Rattle.gl_language.specs.Content.{IsProperContent}
 use Rattle.gl_cells.specs.declared.content.Content.{Content}
 use Rattle.gl_cells.specs.Content.{content_tree, form_weight}

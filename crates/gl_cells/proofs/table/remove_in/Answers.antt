@@ -1,4 +1,4 @@
-use Rattle.std.proofs.Common.{is_some, ap, sym, ◌∙◌, Option, option_map, unwrap_or, arith}
+use Rattle.std.proofs.Common.{is_some, ap, Option, option_map, unwrap_or, arith}
 use Rattle.gl_cells.specs.declared.content.Content.{Content}
 use Rattle.gl_cells.specs.Content.{content_tree, form_weight}
 use Rattle.gl_cells.proofs.TableLemmas.{count_take, table_take}
