@@ -1,52 +1,34 @@
--- The first root that spills over an address, by its place.
-use Rattle.std.proofs.Common.{◌≡◌, ℕ, suc, ◌+◌, ◌-◌, ◌<◌, ◌≤◌, Bool, true, false, cond, [], ◌∷◌, length, get_or, Some, None, refl, ap, arith, ◌∙◌}
-use Rattle.std.specs.List.{position_from}
+-- The first root that spills over an address.
+use Rattle.std.proofs.Common.{◌≡◌, ℕ, ◌+◌, Bool, true, false, cond, [], ◌∷◌, Some, None, refl, ◌∙◌, ap}
 use Rattle.gl_calculus.specs.Grid.{Addr, single}
 use Rattle.gl_calculus.specs.Value.{Entry, Oracle}
 use Rattle.gl_calculus.specs.Oracle.{spills_over, cover}
-use Rattle.gl_plane.specs.Reach.{spills_into}
+use Rattle.gl_plane.specs.Reach.{first_from, spills_into}
 use Rattle.gl_plane.specs.Entries.{cover_by}
 
--- where the first place of those that spill over the address is this one, it is in the list, and its entry covers
-pub record IsCoveredAt (a : Addr) (n i : ℕ) (w : Oracle) (d : Entry) : Type 0 where
-  pub from : n ≤ i
-  pub within : i < n + length w
-  pub covered : cover w a ≡ cover_by (get_or w (i - n) d) a
-
-here : (a : Addr) (n : ℕ) (x : Entry) (xs : Oracle) (d : Entry) → spills_over a x ≡ true → cover (x ∷ xs) a ≡ cover_by x a
-here a n x xs d e = rw e refl
+here : (a : Addr) (x : Entry) (xs : Oracle) → spills_over a x ≡ true → cover (x ∷ xs) a ≡ cover_by x a
+here a x xs e = rw e refl
 
 behind : (a : Addr) (x : Entry) (xs : Oracle) → spills_over a x ≡ false → cover (x ∷ xs) a ≡ cover xs a
 behind a x xs e = rw e refl
 
-place_step : (b : Bool) (a : Addr) (n i : ℕ) (x : Entry) (xs : Oracle) (d : Entry) → spills_over a x ≡ b → (position_from (spills_into (single a)) (n + 1) xs ≡ Some i → IsCoveredAt a (n + 1) i xs d) → cond b (Some n) (position_from (spills_into (single a)) (n + 1) xs) ≡ Some i → IsCoveredAt a n i (x ∷ xs) d
-place_step true a n i x xs d e rest h =
-    let same : n ≡ i = cc in
-    let start : 0 ≡ i - n = omega arith in
-    record { from = omega arith; within = omega arith; covered = here a n x xs d e ∙ ap (λ k. cover_by (get_or (x ∷ xs) k d) a) start }
-place_step false a n i x xs d e rest h =
-    let r = rest h in
-    let lo : n + 1 ≤ i = r.from in
-    let hi : i < n + 1 + length xs = r.within in
-    let next : suc (i - (n + 1)) ≡ i - n = omega arith in
-    record { from = omega arith; within = omega arith; covered = behind a x xs e ∙ r.covered ∙ ap (λ k. cover_by (get_or (x ∷ xs) k d) a) next }
+covers_step : (b : Bool) (a : Addr) (n i : ℕ) (x y : Entry) (xs : Oracle) → spills_over a x ≡ b → (first_from (spills_into (single a)) (n + 1) xs ≡ Some (i, y) → cover xs a ≡ cover_by y a) → cond b (Some (n, x)) (first_from (spills_into (single a)) (n + 1) xs) ≡ Some (i, y) → cover (x ∷ xs) a ≡ cover_by y a
+covers_step true a n i x y xs e rest h =
+    let pairs : (n, x) ≡ (i, y) = cc in
+    let same : x ≡ y = ap (λ (p : ℕ × Entry). p.1) pairs in
+    here a x xs e ∙ ap (λ z. cover_by z a) same
+covers_step false a n i x y xs e rest h = behind a x xs e ∙ rest h
 
-pub at_place : (a : Addr) (n i : ℕ) (w : Oracle) (d : Entry) → position_from (spills_into (single a)) n w ≡ Some i → IsCoveredAt a n i w d
-at_place a n i [] d h = absurd (cc h)
-at_place a n i (x ∷ xs) d h = place_step (spills_over a x) a n i x xs d refl (at_place a (n + 1) i xs d) h
+-- the first entry that meets the range of one address covers it
+pub first_covers : (a : Addr) (n i : ℕ) (y : Entry) (w : Oracle) → first_from (spills_into (single a)) n w ≡ Some (i, y) → cover w a ≡ cover_by y a
+first_covers a n i y [] h = absurd (cc h)
+first_covers a n i y (x ∷ xs) h = covers_step (spills_over a x) a n i x y xs refl (first_covers a (n + 1) i y xs) h
 
-nowhere_step : (b : Bool) (a : Addr) (n : ℕ) (x : Entry) (xs : Oracle) → spills_over a x ≡ b → (position_from (spills_into (single a)) (n + 1) xs ≡ None → cover xs a ≡ None) → cond b (Some n) (position_from (spills_into (single a)) (n + 1) xs) ≡ None → cover (x ∷ xs) a ≡ None
+nowhere_step : (b : Bool) (a : Addr) (n : ℕ) (x : Entry) (xs : Oracle) → spills_over a x ≡ b → (first_from (spills_into (single a)) (n + 1) xs ≡ None → cover xs a ≡ None) → cond b (Some (n, x)) (first_from (spills_into (single a)) (n + 1) xs) ≡ None → cover (x ∷ xs) a ≡ None
 nowhere_step true a n x xs e rest h = absurd (cc h)
 nowhere_step false a n x xs e rest h = behind a x xs e ∙ rest h
 
--- where there is no such place, nothing covers
-pub nowhere : (a : Addr) (n : ℕ) (w : Oracle) → position_from (spills_into (single a)) n w ≡ None → cover w a ≡ None
-nowhere a n [] h = refl
-nowhere a n (x ∷ xs) h = nowhere_step (spills_over a x) a n x xs refl (nowhere a (n + 1) xs) h
-
--- the same from the start of the list
-pub at_start : (a : Addr) (i : ℕ) (w : Oracle) (d : Entry) → position_from (spills_into (single a)) 0 w ≡ Some i → (i < length w) × (cover w a ≡ cover_by (get_or w i d) a)
-at_start a i w d h =
-    let at = at_place a 0 i w d h in
-    let place : i - 0 ≡ i = omega arith in
-    (omega (arith, at.within), at.covered ∙ ap (λ k. cover_by (get_or w k d) a) place)
+-- where there is none, nothing covers it
+pub none_covers : (a : Addr) (n : ℕ) (w : Oracle) → first_from (spills_into (single a)) n w ≡ None → cover w a ≡ None
+none_covers a n [] h = refl
+none_covers a n (x ∷ xs) h = nowhere_step (spills_over a x) a n x xs refl (none_covers a (n + 1) xs) h

@@ -1,6 +1,5 @@
 -- The first entry, from a place on, that meets a range.
 use Rattle.std.proofs.Common.{◌≡◌, ℕ, zero, suc, ◌+◌, ◌-◌, ◌/◌, ◌%◌, ◌<◌, ◌≤◌, nat_lt, nat_le, Bool, true, false, ◌&&◌, cond, List, [], ◌∷◌, length, drop, get_or, Some, None, slice_index, refl, ap, arith, sym, ◌∙◌, subst}
-use Rattle.std.specs.List.{position_from}
 use Rattle.std.proofs.lemmas.Bool.Decides.{nat_tests}
 use Rattle.std.proofs.lemmas.Option.{slice_get-get_or}
 use Rattle.std.proofs.lemmas.List.{drop_more, at_drop_all}
@@ -8,29 +7,29 @@ use Rattle.gl_calculus.specs.Grid.{Addr, addr, size, Range, is_before, lies_in, 
 use Rattle.gl_calculus.specs.Same.{is_permitted}
 use Rattle.gl_calculus.specs.Value.{Refused, Entry, Oracle}
 use Rattle.gl_calculus.specs.Oracle.{IsInOrder, area_of}
-use Rattle.gl_plane.specs.Reach.{spills_into, lowest_row, AreReaches}
+use Rattle.gl_plane.specs.Reach.{first_from, spills_into, lowest_row, AreReaches}
 
 -- ---- passing entries
 
 -- past the end there is nothing
-pub ended : (p : Entry → Bool) (es : Oracle) (i j : ℕ) → length es ≤ i → position_from p j (drop i es) ≡ None
-ended p es i j h = at_drop_all (position_from p j) es i h
+pub ended : (p : Entry → Bool) (es : Oracle) (i j : ℕ) → length es ≤ i → first_from p j (drop i es) ≡ None
+ended p es i j h = at_drop_all (first_from p j) es i h
 
 -- an entry that fails the test is passed
-pub passed : (p : Entry → Bool) (es : Oracle) (i : ℕ) (d : Entry) → i < length es → p (get_or es i d) ≡ false → position_from p i (drop i es) ≡ position_from p (i + 1) (drop (i + 1) es)
-passed p es i d h f = ap (position_from p i) (drop_more es i d h) ∙ ap (λ b. cond b (Some i) (position_from p (i + 1) (drop (i + 1) es))) f
+pub passed : (p : Entry → Bool) (es : Oracle) (i : ℕ) (d : Entry) → i < length es → p (get_or es i d) ≡ false → first_from p i (drop i es) ≡ first_from p (i + 1) (drop (i + 1) es)
+passed p es i d h f = ap (first_from p i) (drop_more es i d h) ∙ ap (λ b. cond b (Some (i, get_or es i d)) (first_from p (i + 1) (drop (i + 1) es))) f
 
-pub found : (p : Entry → Bool) (es : Oracle) (i : ℕ) (d : Entry) → i < length es → p (get_or es i d) ≡ true → position_from p i (drop i es) ≡ Some i
-found p es i d h f = ap (position_from p i) (drop_more es i d h) ∙ ap (λ b. cond b (Some i) (position_from p (i + 1) (drop (i + 1) es))) f
+pub found : (p : Entry → Bool) (es : Oracle) (i : ℕ) (d : Entry) → i < length es → p (get_or es i d) ≡ true → first_from p i (drop i es) ≡ Some (i, get_or es i d)
+found p es i d h f = ap (first_from p i) (drop_more es i d h) ∙ ap (λ b. cond b (Some (i, get_or es i d)) (first_from p (i + 1) (drop (i + 1) es))) f
 
 -- so are many
-pub all_passed : (p : Entry → Bool) (es : Oracle) (d : Entry) (n i : ℕ) → ((k : ℕ) → i ≤ k → k < i + n → k < length es → p (get_or es k d) ≡ false) → position_from p i (drop i es) ≡ position_from p (i + n) (drop (i + n) es)
-all_passed p es d zero i h = let e : i ≡ i + 0 = omega arith in ap (λ j. position_from p j (drop j es)) e
+pub all_passed : (p : Entry → Bool) (es : Oracle) (d : Entry) (n i : ℕ) → ((k : ℕ) → i ≤ k → k < i + n → k < length es → p (get_or es k d) ≡ false) → first_from p i (drop i es) ≡ first_from p (i + n) (drop (i + n) es)
+all_passed p es d zero i h = let e : i ≡ i + 0 = omega arith in ap (λ j. first_from p j (drop j es)) e
 all_passed p es d (suc n) i h =
     let e : i + 1 + n ≡ i + suc n = omega arith in
-    one_passed (nat_lt i (length es)) refl ∙ all_passed p es d n (i + 1) (λ k lo hi in_list. h k (omega arith) (omega arith) in_list) ∙ ap (λ j. position_from p j (drop j es)) e
+    one_passed (nat_lt i (length es)) refl ∙ all_passed p es d n (i + 1) (λ k lo hi in_list. h k (omega arith) (omega arith) in_list) ∙ ap (λ j. first_from p j (drop j es)) e
   where
-    one_passed : (b : Bool) → nat_lt i (length es) ≡ b → position_from p i (drop i es) ≡ position_from p (i + 1) (drop (i + 1) es)
+    one_passed : (b : Bool) → nat_lt i (length es) ≡ b → first_from p i (drop i es) ≡ first_from p (i + 1) (drop (i + 1) es)
     one_passed true f = let lt : i < length es = grind (arith, nat_tests) in passed p es i d lt (h i (omega arith) (omega arith) lt)
     one_passed false f = let le : length es ≤ i = grind (arith, nat_tests) in ended p es i i le ∙ sym (ended p es (i + 1) (i + 1) (omega arith))
 
@@ -80,7 +79,7 @@ pub no_entry : Entry
 no_entry = record { root = addr 0 0; size = size 0 0; permit = Refused }
 
 -- a block that reaches no further than above the range
-pub block_passed : (r : Range) (es : Oracle) (rows : List ℕ) (i : ℕ) → AreReaches es rows → i % 64 ≡ 0 → get_or rows (i / 64) 0 < r.first.row → position_from (spills_into r) i (drop i es) ≡ position_from (spills_into r) (i + 64) (drop (i + 64) es)
+pub block_passed : (r : Range) (es : Oracle) (rows : List ℕ) (i : ℕ) → AreReaches es rows → i % 64 ≡ 0 → get_or rows (i / 64) 0 < r.first.row → first_from (spills_into r) i (drop i es) ≡ first_from (spills_into r) (i + 64) (drop (i + 64) es)
 block_passed r es rows i a z h = let d = no_entry in all_passed (spills_into r) es d 64 i (λ k lo hi in_list.
     let same : k / 64 ≡ i / 64 = omega arith in
     let bound : lowest_row (get_or es k d) ≤ slice_index rows (k / 64) = a.bounds k (get_or es k d) (slice_get-get_or es k d in_list) in
@@ -88,7 +87,7 @@ block_passed r es rows i a z h = let d = no_entry in all_passed (spills_into r) 
     ends_above r (get_or es k d) (omega arith))
 
 -- all from the first root below the range on
-pub rest_passed : (r : Range) (es : Oracle) (i : ℕ) (d : Entry) → IsInOrder es → i < length es → r.last.row < (get_or es i d).root.row → position_from (spills_into r) i (drop i es) ≡ None
+pub rest_passed : (r : Range) (es : Oracle) (i : ℕ) (d : Entry) → IsInOrder es → i < length es → r.last.row < (get_or es i d).root.row → first_from (spills_into r) i (drop i es) ≡ None
 rest_passed r es i d o h low =
     all_passed (spills_into r) es d (length es - i) i (λ k lo hi in_list.
     let further : (get_or es i d).root.row ≤ (get_or es k d).root.row = rows_increase es i k d o lo in_list in

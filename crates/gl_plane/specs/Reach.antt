@@ -1,13 +1,18 @@
 -- What entries meet, and how far down they reach.
-use Rattle.std.specs.Prelude.{◌≡◌, ℕ, ◌*◌, ◌/◌, ◌<◌, ◌≤◌, Bool, ◌&&◌, List, length, Some, slice_get, slice_index, if◌then◌else◌}
+use Rattle.std.specs.Prelude.{◌≡◌, ℕ, ◌*◌, ◌/◌, ◌<◌, ◌≤◌, Bool, ◌&&◌, List, ◌+◌, length, Option, Some, None, [], ◌∷◌, slice_get, slice_index, if◌then◌else◌}
 use Rattle.gl_calculus.specs.Grid.{Range, lies_in, meets, grid}
-use Rattle.gl_calculus.specs.Value.{Entry}
+use Rattle.gl_calculus.specs.Value.{Entry, Oracle}
 use Rattle.gl_calculus.specs.Same.{is_permitted}
 use Rattle.gl_calculus.specs.Oracle.{area_of}
 
 -- the entry is permitted, and its area exists and meets the range
 abbrev pub spills_into : Range → Entry → Bool
 spills_into r x = is_permitted x.permit && lies_in (area_of x) grid && meets (area_of x) r
+
+-- the first entry that passes the test, with its place; the first of the list stands at n
+abbrev pub first_from : (Entry → Bool) → ℕ → Oracle → Option (ℕ × Entry)
+first_from p n [] = None
+first_from p n (x ∷ xs) = if p x then Some (n, x) else first_from p (n + 1) xs
 
 -- the last row of what the entry spills, or 0
 abbrev pub lowest_row : Entry → ℕ

@@ -1,8 +1,7 @@
 //! The entries that meet a range, by how far down each block of entries reaches.
 ghost use Rattle.std.specs.Prelude.{◌≡◌, ◌≤◌, ◌<◌, drop, OnOk, OnErr, vec_len};
-ghost use Rattle.std.specs.List.{position_from};
 ghost use Rattle.gl_calculus.specs.Oracle.{IsInOrder};
-ghost use Rattle.gl_plane.specs.Reach.{spills_into, lowest_row, AreReaches, IsRaised};
+ghost use Rattle.gl_plane.specs.Reach.{first_from, spills_into, lowest_row, AreReaches, IsRaised};
 
 use crate::{Entry, NoMemory, Permit, Range};
 
@@ -43,11 +42,16 @@ pub fn raise(rows: &mut Vec<u16>, block: usize, row: u16) -> Result<(), NoMemory
     Ok(())
 }
 
-/// The place, from `from` on, of the first entry that spills into the range.
-pub fn meeting_from(entries: &[Entry], rows: &[u16], range: &Range, from: usize) -> Option<usize>
+/// The first entry, from the place `from` on, that spills into the range.
+pub fn meeting_from(
+    entries: &[Entry],
+    rows: &[u16],
+    range: &Range,
+    from: usize,
+) -> Option<(usize, Entry)>
     requires ordered { IsInOrder entries.now }
     requires reaches { AreReaches entries.now rows.now }
-    ensures { result ≡ position_from (spills_into range.now) from (drop from entries.now) }
+    ensures { result ≡ first_from (spills_into range.now) from (drop from entries.now) }
 {
     let top = range.first.row();
     let bottom = range.last.row();
@@ -56,12 +60,12 @@ pub fn meeting_from(entries: &[Entry], rows: &[u16], range: &Range, from: usize)
         if i % BLOCK == 0 && rows[i / BLOCK] < top {
             i += BLOCK;
         } else {
-            let entry = &entries[i];
+            let entry = entries[i];
             if entry.root.row() > bottom {
                 return None;
             }
-            if spills_into(entry, range) {
-                return Some(i);
+            if spills_into(&entry, range) {
+                return Some((i, entry));
             }
             i += 1;
         }

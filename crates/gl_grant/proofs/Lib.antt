@@ -1,0 +1,4 @@
+pub mod Taken
+pub mod Free
+pub mod Growing
+pub mod InTheWay

@@ -1,0 +1,3 @@
+pub mod Granted
+pub mod Obstacle
+pub mod Laws
