@@ -1,15 +1,12 @@
 -- What binary search finds among overrides in order.
-use Rattle.std.proofs.Common.{◌≡◌, ◌≢◌, ℕ, zero, suc, ◌+◌, ◌≤◌, ◌<◌, Bool, true, false, ◌&&◌, List, [], ◌∷◌, get_or, length, Some, None, IsTrue, arith, refl, ap, sym, subst, ◌∙◌, inl, inr}
+use Rattle.std.proofs.Common.{◌≡◌, ℕ, zero, suc, ◌≤◌, ◌<◌, true, false, ◌&&◌, List, [], ◌∷◌, get_or, length, Some, None, arith, refl, ap, sym, subst, inl, inr}
 use Rattle.std.proofs.lemmas.Bool.{and_parts, cases_lt}
 use Rattle.std.proofs.lemmas.Bool.Decides.{nat_tests}
 use Rattle.std.specs.List.{HoldsAt}
 use Rattle.std.specs.List.Sorted.{IsNonDecreasingBy, IsPartitionPoint}
 use Rattle.std.specs.Ordering.{ordering_index}
-use Rattle.std.specs.declared.cmp.Ordering.{Ordering}
 use Rattle.std.specs.declared.cmp.Ordering.TheVariants.{Less, Equal, Greater}
 use Rattle.gl_calculus.specs.Grid.{Addr, Range, same_addr, is_before, covers}
-use Rattle.gl_calculus.specs.Value as V
-use Rattle.gl_calculus.specs.Value.{Overrides, no_override, override_and}
 use Rattle.gl_calculus.specs.Sheet.{override_at}
 use Rattle.gl_calculus.specs.Sound.{are_inside}
 use Rattle.gl_value.specs.View.{value_tree, override_trees}

@@ -2,14 +2,6 @@
 use Rattle.std.specs.Prelude.{◌≡◌, ◌↔◌, Bool, IsTrue}
 use Rattle.gl_value.specs.View.{error_tree, scalar_tree, value_tree, array_tree, sheet_tree, frame_tree}
 use Rattle.gl_value.specs.Made.{made_tree, shown_tree}
-use Rattle.gl_value.specs.declared.ErrKind.{ErrKind}
-use Rattle.gl_value.specs.declared.Scalar.{Scalar}
-use Rattle.gl_value.specs.declared.Array.{Array}
-use Rattle.gl_value.specs.declared.Value.{Value}
-use Rattle.gl_value.specs.declared.SheetVal.{SheetVal}
-use Rattle.gl_value.specs.declared.Env.{Env}
-use Rattle.gl_value.specs.declared.Shown.{Shown}
-use Rattle.gl_value.specs.declared.Made.{Made}
 use Rattle.gl_value.specs.contracts.ErrKindPartialEq.TheImpl.{ghosts as error}
 use Rattle.gl_value.specs.contracts.ScalarPartialEq.TheImpl.{ghosts as scalar}
 use Rattle.gl_value.specs.contracts.ArrayPartialEq.TheImpl.{ghosts as array}

@@ -3,7 +3,5 @@ pub mod Made
 pub mod Laws
 pub mod Ints
 pub mod Forms
-pub mod DerivedEq
-pub mod Equal
 pub mod Parts
 pub mod Sound

@@ -3,6 +3,7 @@
 
 mod agrees;
 mod items;
+mod laws;
 mod put;
 mod share;
 mod sheets;
@@ -10,9 +11,8 @@ mod sound;
 #[cfg(test)]
 mod tests;
 
-ghost use Rattle.gl_value.specs.Laws.{ScalarsCompareByTree, ArraysCompareByTree, ValuesCompareByTree, SheetsCompareByTree, FramesCompareByTree, ErrorsCompareByTree, ShownCompareByTree, MadeCompareByTree, ScalarsHashByTree, ArraysHashByTree, ValuesHashByTree, SheetsHashByTree, FramesHashByTree};
-
 use gl_plane::{Addr, Oracle, Range, Size};
+pub use laws::{structural_equality, structural_hashes};
 pub use sheets::{sheet, update};
 use std::rc::{Rc, RcStr};
 
@@ -51,7 +51,7 @@ pub enum Scalar {
 
 /// A rectangle of scalars, in row-major order. One of a single row and column is still an array.
 #[cycle(value)]
-#[derive(Drop, PartialEq, Eq, Hash)]
+#[derive(Drop, Hash, PartialEq, Eq)]
 pub struct Array {
     size: Size,
     items: Vec<Scalar>,
@@ -88,7 +88,7 @@ pub struct SheetVal {
 
 /// A frame, in which formulas are evaluated: the sheet itself, or a copy that is settled to an oracle.
 #[cycle(value)]
-#[derive(Drop, PartialEq, Eq, Hash)]
+#[derive(Drop, Eq, Hash, PartialEq)]
 pub enum Env {
     Top,
     In(Rc<SheetVal>, Rc<Oracle>),
@@ -111,25 +111,3 @@ pub enum Made {
     Deep,
     Heavy,
 }
-
-/// `==` compares by structure: it is true exactly where the plain values are equal, however their
-/// parts are shared.
-pub fn structural_equality()
-    ensures errors { ErrorsCompareByTree }
-    ensures scalars { ScalarsCompareByTree }
-    ensures arrays { ArraysCompareByTree }
-    ensures values { ValuesCompareByTree }
-    ensures sheets { SheetsCompareByTree }
-    ensures frames { FramesCompareByTree }
-    ensures shown { ShownCompareByTree }
-    ensures made { MadeCompareByTree }
-{}
-
-/// Equal plain values hash alike.
-pub fn structural_hashes()
-    ensures scalars { ScalarsHashByTree }
-    ensures arrays { ArraysHashByTree }
-    ensures values { ValuesHashByTree }
-    ensures sheets { SheetsHashByTree }
-    ensures frames { FramesHashByTree }
-{}

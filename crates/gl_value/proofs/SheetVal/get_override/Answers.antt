@@ -1,4 +1,4 @@
-use Rattle.std.proofs.Common.{◌≡◌, ◌<◌, rules, arith, length}
+use Rattle.std.proofs.Common.{◌<◌, rules, length}
 use Rattle.std.proofs.lemmas.List.Sorted.{answers_always}
 use Rattle.gl_value.specs.Forms.{sheet_tree_is}
 use Rattle.gl_value.specs.Sound.{sheet_facts}

@@ -1,21 +1,15 @@
 -- The `==` of each type answers true exactly where the plain values are equal, and equal plain values hash alike.
-use Rattle.std.proofs.Common.{◌≡◌, IsTrue, ◌↔◌, refl, Bool, true, false, ap, sym}
+use Rattle.std.proofs.Common.{◌≡◌, refl, true, false, ap}
 use Rattle.gl_plane.specs.Exact.{exactly}
 use Rattle.gl_calculus.proofs.Tests.{value_equality, frame_equality, scalar_equality, sheet_equality}
 use Rattle.gl_calculus.specs.Sheet as S
 use Rattle.gl_calculus.specs.Calculation as C
-use Rattle.gl_value.specs.View.{error_tree, value_tree, array_tree, frame_tree, scalar_tree, sheet_tree}
-use Rattle.gl_value.specs.Made.{made_tree, shown_tree}
-use Rattle.gl_value.specs.DerivedEq.{eq_is_value, eq_is_array, eq_is_env, eq_is_scalar, eq_is_sheet}
+use Rattle.gl_value.specs.View.{value_tree, array_tree, frame_tree, scalar_tree, sheet_tree}
+use Rattle.gl_value.proofs.DerivedEq.{eq_is_value, eq_is_array, eq_is_env, eq_is_scalar, eq_is_sheet}
 use Rattle.gl_value.specs.Laws.{ErrorsCompareByTree, ScalarsCompareByTree, ArraysCompareByTree, ValuesCompareByTree, SheetsCompareByTree, FramesCompareByTree, ShownCompareByTree, MadeCompareByTree, ScalarsHashByTree, ArraysHashByTree, ValuesHashByTree, SheetsHashByTree, FramesHashByTree}
-use Rattle.gl_value.specs.declared.ErrKind.{ErrKind}
 use Rattle.gl_value.specs.declared.ErrKind.TheVariants.{Ref, Value as ValueError, Div0, Num, Na, Spill, Size}
-use Rattle.gl_value.specs.declared.Made.{Made}
 use Rattle.gl_value.specs.declared.Made.TheVariants.{Sheet, Outside, Deep, Heavy}
-use Rattle.gl_value.specs.declared.Shown.{Shown}
 use Rattle.gl_value.specs.declared.Shown.TheVariants.{Cycle, Value}
-use Rattle.gl_value.specs.contracts.ShownPartialEq.TheImpl.{ghosts as shown}
-use Rattle.gl_value.specs.contracts.MadePartialEq.TheImpl.{ghosts as made}
 use Rattle.gl_value.specs.contracts.ScalarHash.TheImpl.Laws.{respects_eq-law as scalar_alike}
 use Rattle.gl_value.specs.contracts.ArrayHash.TheImpl.Laws.{respects_eq-law as array_alike}
 use Rattle.gl_value.specs.contracts.ValueHash.TheImpl.Laws.{respects_eq-law as value_alike}

@@ -1,5 +1,5 @@
-use Rattle.gl_value.specs.Equal.{error_equal, scalar_equal, array_equal, value_equal, sheet_equal, frame_equal, shown_equal, made_equal}
-use Rattle.gl_value.proofs.structural_equality.Goals as goal
+use Rattle.gl_value.proofs.Equal.{error_equal, scalar_equal, array_equal, value_equal, sheet_equal, frame_equal, shown_equal, made_equal}
+use Rattle.gl_value.proofs.laws.structural_equality.Goals as goal
 
 pub returns-clause-errors : goal.returns-clause-errors
 returns-clause-errors c = error_equal

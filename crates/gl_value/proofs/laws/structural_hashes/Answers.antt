@@ -1,5 +1,5 @@
-use Rattle.gl_value.specs.Equal.{scalar_hash_alike, array_hash_alike, value_hash_alike, sheet_hash_alike, frame_hash_alike}
-use Rattle.gl_value.proofs.structural_hashes.Goals as goal
+use Rattle.gl_value.proofs.Equal.{scalar_hash_alike, array_hash_alike, value_hash_alike, sheet_hash_alike, frame_hash_alike}
+use Rattle.gl_value.proofs.laws.structural_hashes.Goals as goal
 
 pub returns-clause-scalars : goal.returns-clause-scalars
 returns-clause-scalars c = scalar_hash_alike
