@@ -4,7 +4,7 @@ use Rattle.std.specs.Rc.{rc_value}
 use Rattle.gl_calculus.specs.Formula as F
 use Rattle.gl_ast.specs.Equal.{formula_equal}
 use Rattle.gl_ast.specs.View.{formula_tree}
-use Rattle.gl_value.specs.Equal.{scalar_equal}
+use Rattle.gl_value.proofs.Equal.{scalar_equal}
 use Rattle.gl_value.specs.View.{scalar_tree}
 use Rattle.gl_cells.specs.Content.{content_tree}
 use Rattle.gl_cells.specs.declared.content.Content.{Content}
