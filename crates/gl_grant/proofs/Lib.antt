@@ -2,3 +2,5 @@ pub mod Taken
 pub mod Free
 pub mod Growing
 pub mod InTheWay
+pub mod Covered
+pub mod Refused
