@@ -27,10 +27,10 @@ all_same p q h [] = refl
 all_same p q h (x ∷ xs) = rw (h x, all_same p q h xs) refl
 
 module _ (p : Addr → Bool) (r : Range) where
-  abbrev row_passes : ℕ → Bool
+  abbrev pub row_passes : ℕ → Bool
   row_passes i = list_all (λ j. p (addr j i)) (range_with_len r.first.col (extents r).cols)
 
-  by_rows : list_all p (addresses r) ≡ list_all row_passes (range_with_len r.first.row (extents r).rows)
+  pub by_rows : list_all p (addresses r) ≡ list_all row_passes (range_with_len r.first.row (extents r).rows)
   by_rows =
       all_in_rows p (λ i. map (λ j. addr j i) (range_with_len r.first.col (extents r).cols)) (range_with_len r.first.row (extents r).rows)
       ∙ all_same _ row_passes (λ i. list_all-map p (λ j. addr j i) (range_with_len r.first.col (extents r).cols)) (range_with_len r.first.row (extents r).rows)

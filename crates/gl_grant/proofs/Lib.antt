@@ -4,3 +4,5 @@ pub mod Growing
 pub mod InTheWay
 pub mod Covered
 pub mod Refused
+pub mod After
+pub mod OneContent

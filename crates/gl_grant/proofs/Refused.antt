@@ -24,7 +24,7 @@ not_held true h e k = refl
 not_held false true e k = absurd (cc e)
 not_held false false e k = absurd (cc k)
 
-next_none : {X : Type 0} (b : Bool) (x : X) (rest : Option X) → cond b (Some x) rest ≡ None → (b ≡ false) × (rest ≡ None)
+pub next_none : {X : Type 0} (b : Bool) (x : X) (rest : Option X) → cond b (Some x) rest ≡ None → (b ≡ false) × (rest ≡ None)
 next_none true x rest h = absurd (cc h)
 next_none false x rest h = (refl, h)
 
