@@ -1,5 +1,5 @@
 -- A list of arrays with one more behind the last.
-use Rattle.std.proofs.Common.{◌≡◌, ℕ, zero, suc, ◌-◌, List, [], ◌∷◌, ◌++◌, length, slice_get, Option, Some, None, refl, true}
+use Rattle.std.proofs.Common.{◌≡◌, ℕ, zero, suc, [], ◌∷◌, ◌++◌, length, slice_get, Some, true}
 use Rattle.gl_calculus.specs.Grid.{Addr, Size, is_before}
 use Rattle.gl_calculus.specs.Oracle.{Sizes, AreSizes}
 
