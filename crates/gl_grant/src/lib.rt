@@ -30,3 +30,6 @@ pub trait Blocks {
 pub fn sizes_fix_permits()
     ensures { SizesFixPermits }
 {}
+
+#[cfg(test)]
+mod tests;

@@ -21,6 +21,7 @@ pub fn blocker<B: Blocks>(w: &Oracle, root: Addr, bound: &Range, blocks: &B) -> 
     requires consistent { ArePermits bound.now (B.held blocks.now) w.now }
     requires present { IsSome (entry_at w.now root) }
     ensures value { option_map obstacle_tree result ≡ blocker bound.now (B.held blocks.now) w.now root }
+    ensures permitted { (result ≡ None) ↔ (status w.now root ≡ Some Permitted) }
 {
     match w.entry(root) {
         None => None,

@@ -111,3 +111,6 @@ fn next_oracle<R: Round, B: Blocks>(
         },
     }
 }
+
+#[cfg(test)]
+mod tests;
