@@ -70,9 +70,15 @@ fn a_full_sheet_is_walked_and_cleared(rt: HostRuntime) -> Result<(), Fail> {
         after = Some(a);
     }
     assert_eq!(rt; cells.next_in(&column, after), None);
-    assert_eq!(rt; cells.next_in(&range(address(8, 1)?, address(8, 9999)?)?, None), None);
+    assert_eq!(rt;
+        cells.next_in(&range(address(8, 1)?, address(8, 9999)?)?, None),
+        None
+    );
     assert_eq!(rt; cells.clear(&column), 9362);
-    assert_eq!(rt; cells.clear(&range(address(1, 1)?, address(702, 9999)?)?) as usize, MAX_CONTENTS - 9362);
+    assert_eq!(rt;
+        cells.clear(&range(address(1, 1)?, address(702, 9999)?)?) as usize,
+        MAX_CONTENTS - 9362
+    );
     assert_eq!(rt; (cells.contents(), cells.formulas()), (0, 0));
     Ok(())
 }
@@ -82,7 +88,10 @@ fn a_full_sheet_refuses(rt: HostRuntime) -> Result<(), Fail> {
     let mut cells = full(rt.alloc())?;
     let a = address(1, 1)?;
     let next = address(8, 1)?;
-    assert_eq!(rt; cells.put(next, formula(rt.alloc())?), Err(PutFault::Formulas));
+    assert_eq!(rt;
+        cells.put(next, formula(rt.alloc())?),
+        Err(PutFault::Formulas)
+    );
     assert_eq!(rt; cells.put(next, number(7)), Err(PutFault::Contents));
     let mut list = Vec::new(rt.alloc());
     list.push((a, number(5)))?;
