@@ -1,0 +1,5 @@
+pub mod Arrays
+pub mod Present
+pub mod Rows
+pub mod Sizes
+pub mod Soundness

@@ -1,0 +1,26 @@
+use Rattle.std.proofs.Common.{◌≡◌, ◌∙◌, ap, subst, IfOk}
+use Rattle.gl_value.specs.View.{value_tree, item_trees}
+use Rattle.gl_value.specs.Forms.{value_tree-Array, array_tree_is}
+use Rattle.gl_lift.proofs.Arrays.{first_of_three, second_of_three, third_of_three}
+use Rattle.gl_lift.proofs.lift3.Goals as goal
+
+pub returns-in-Array-default-default-clause-value : goal.returns-in-Array-default-default-clause-value
+returns-in-Array-default-default-clause-value g c = λ rule h.
+    let a = c.in-Array-default-default.field-0-0 in
+    subst (λ t. IfOk c.table_of_three-in-Array-default-default.result (λ r. value_tree r ≡ t))
+    (first_of_three rule (value_tree c.args.u.now) (value_tree c.args.v.now) (value_tree c.args.w.now) a.value.size (item_trees a.value.items.items) (ap value_tree c.in-Array-default-default.is-0 ∙ value_tree-Array a ∙ array_tree_is a.value))
+    (c.table_of_three-in-Array-default-default.ensures.value rule h)
+
+pub returns-in_default-Array-default-clause-value : goal.returns-in_default-Array-default-clause-value
+returns-in_default-Array-default-clause-value g c = λ rule h.
+    let a = c.in_default-Array-default.field-0-1 in
+    subst (λ t. IfOk c.table_of_three-in_default-Array-default.result (λ r. value_tree r ≡ t))
+    (second_of_three rule (value_tree c.args.u.now) (value_tree c.args.v.now) (value_tree c.args.w.now) a.value.size (item_trees a.value.items.items) (ap value_tree c.in_default-Array-default.is-1 ∙ value_tree-Array a ∙ array_tree_is a.value))
+    (c.table_of_three-in_default-Array-default.ensures.value rule h)
+
+pub returns-clause-value : goal.returns-clause-value
+returns-clause-value g c = λ rule h.
+    let a = c.in_default-default-Array.field-0-2 in
+    subst (λ t. IfOk c.table_of_three.result (λ r. value_tree r ≡ t))
+    (third_of_three rule (value_tree c.args.u.now) (value_tree c.args.v.now) (value_tree c.args.w.now) a.value.size (item_trees a.value.items.items) (ap value_tree c.in_default-default-Array.is-2 ∙ value_tree-Array a ∙ array_tree_is a.value))
+    (c.table_of_three.ensures.value rule h)
