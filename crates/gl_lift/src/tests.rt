@@ -68,6 +68,50 @@ fn two_values(rt: HostRuntime) -> Result<(), Fail> {
     Ok(())
 }
 
+/// The sum of two numbers; no number is `#VALUE!`.
+fn plus(x: &Scalar, y: &Scalar) -> Result<Scalar, NoMemory> {
+    match (x, y) {
+        (Scalar::Int(m), Scalar::Int(n)) => Ok(Scalar::Int(m.wrapping_add(*n))),
+        _ => Ok(Scalar::Err(ErrKind::Value)),
+    }
+}
+
+fn summed(u: &Value, v: &Value, alloc: Global) -> Result<Value, Fail> {
+    if u.is_sound() && v.is_sound() {
+        Ok(lift2(alloc, u, v, |x: &Scalar, y: &Scalar| plus(x, y))?)
+    } else {
+        Err(Fail::new("not sound"))
+    }
+}
+
+// 1 and 2 below each other and 1, 2, 3 beside each other; then 1 and 2, and 1, 2, 3, all below each other.
+#[test]
+fn sums_of_sequences(rt: HostRuntime) -> Result<(), Fail> {
+    let column = array(rt.alloc(), 2, 1, &[1, 2])?;
+    let row = array(rt.alloc(), 1, 3, &[1, 2, 3])?;
+    let table = summed(&column, &row, rt.alloc())?;
+    for (i, j, n) in [
+        (0, 0, 2),
+        (0, 1, 3),
+        (0, 2, 4),
+        (1, 0, 3),
+        (1, 1, 4),
+        (1, 2, 5),
+    ] {
+        assert_eq!(rt; at(&table, i, j), n, "at {i} {j}");
+    }
+    let long = array(rt.alloc(), 3, 1, &[1, 2, 3])?;
+    match summed(&column, &long, rt.alloc())? {
+        Value::One(_) => return Err(Fail::new("no array")),
+        Value::Array(a) => {
+            assert!(rt; matches!(a.item(0, 0), Some(Scalar::Int(2))));
+            assert!(rt; matches!(a.item(1, 0), Some(Scalar::Int(4))));
+            assert!(rt; matches!(a.item(2, 0), Some(Scalar::Err(ErrKind::Na))));
+        }
+    }
+    Ok(())
+}
+
 #[test]
 fn extents_of_one_repeat(rt: HostRuntime) -> Result<(), Fail> {
     let one = array(rt.alloc(), 1, 1, &[9])?;
