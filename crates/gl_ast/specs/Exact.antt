@@ -5,7 +5,7 @@ use Rattle.std.proofs.lemmas.Slice.Eq.{bytes_eq-Decides}
 use Rattle.gl_query.specs.Lists.{IsEquality}
 use Rattle.gl_calculus.specs.Grid.{Range, range, same_addr, same_range}
 use Rattle.gl_calculus.specs.Same.{same_bool}
-use Rattle.gl_calculus.proofs.Tests.{both, and_true, addr_exact, addr_same, int_exact, int_same}
+use Rattle.gl_calculus.proofs.Tests.{both, and_true, addr_exact, addr_same, int_exact, int_same, bool_exact, bool_same, range_exact, range_same}
 use Rattle.gl_calculus.specs.Formula.{Op, Level, Fun, Formula, Formulas, no_formula, formula_and, Operands, no_operand, operand_and}
 use Rattle.gl_ast.specs.Same.{op_place, level_place, fun_place, same_op, same_level, same_fun, same_formula, same_formulas, same_operands}
 
@@ -89,24 +89,6 @@ fun_exact x y e = sym (fun_at-place x) ∙ ap fun_at (eqb-true (fun_place x) (fu
 
 fun_same : (x : Fun) → same_fun x x ≡ true
 fun_same x = eq-eqb (fun_place x) (fun_place x) refl
-
-bool_exact : (b c : Bool) → same_bool b c ≡ true → b ≡ c
-bool_exact true true e = refl
-bool_exact false false e = refl
-bool_exact true false e = absurd (cc e)
-bool_exact false true e = absurd (cc e)
-
-bool_same : (b : Bool) → same_bool b b ≡ true
-bool_same true = refl
-bool_same false = refl
-
-range_exact : (r s : Range) → same_range r s ≡ true → r ≡ s
-range_exact r s e =
-    let (c, d) = both (same_addr r.first s.first) (same_addr r.last s.last) e in
-    ap (λ a. range a r.last) (addr_exact r.first s.first c) ∙ ap (λ b. range s.first b) (addr_exact r.last s.last d)
-
-range_same : (r : Range) → same_range r r ≡ true
-range_same r = and_true (same_addr r.first r.first) (same_addr r.last r.last) (addr_same r.first) (addr_same r.last)
 
 mutual
   formula_exact : (x y : Formula) → same_formula x y ≡ true → x ≡ y

@@ -2,7 +2,6 @@ pub mod Taken
 pub mod Free
 pub mod Growing
 pub mod InTheWay
-pub mod Covered
 pub mod Refused
 pub mod After
 pub mod OneContent

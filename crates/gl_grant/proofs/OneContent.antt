@@ -4,9 +4,8 @@ use Rattle.std.specs.List.{find, list_all, range_with_len}
 use Rattle.std.proofs.lemmas.Bool.{le-leb}
 use Rattle.gl_calculus.specs.Grid.{Addr, addr, Range, same_addr, extents, addresses, covers}
 use Rattle.gl_calculus.proofs.Tests.{both, and_true, addr_exact, addr_same}
-use Rattle.gl_calculus.proofs.Grants.{clash}
 use Rattle.gl_grant.proofs.Refused.{next_none}
-use Rattle.gl_grant.proofs.Covered.{covered_passes, by_rows, row_passes}
+use Rattle.gl_calculus.proofs.Grants.{clash, all_covered, by_rows, row_all}
 
 abbrev other_content : Addr → Addr → Addr → Bool
 other_content at root b = same_addr b at && not (same_addr b root)
@@ -34,17 +33,17 @@ all_numbers p n zero h = refl
 all_numbers p n (suc len) h = and_true (p n) (list_all p (range_with_len (n + 1) len)) (h n (omega arith) (omega arith)) (all_numbers p (n + 1) len (λ i l u. h i (omega (arith, l)) (omega (arith, u))))
 
 -- each address of a range is covered
-all_covered : (r : Range) → list_all (covers r) (addresses r) ≡ true
-all_covered r =
+each_covered : (r : Range) → list_all (covers r) (addresses r) ≡ true
+each_covered r =
     by_rows (covers r) r
-    ∙ all_numbers (row_passes (covers r) r) r.first.row (extents r).rows (λ i l u. all_numbers (λ j. covers r (addr j i)) r.first.col (extents r).cols (λ j m v.
+    ∙ all_numbers (row_all (covers r) r) r.first.row (extents r).rows (λ i l u. all_numbers (λ j. covers r (addr j i)) r.first.col (extents r).cols (λ j m v.
     and_true (nat_le r.first.row i && nat_le i r.last.row) (nat_le r.first.col j && nat_le j r.last.col)
     (and_true (nat_le r.first.row i) (nat_le i r.last.row) (le-leb r.first.row i l) (le-leb i r.last.row (omega (arith, l, u))))
     (and_true (nat_le r.first.col j) (nat_le j r.last.col) (le-leb r.first.col j m) (le-leb j r.last.col (omega (arith, m, v))))))
 
 pub not_covered : (at root : Addr) (r : Range) → covers r at ≡ false → None ≡ find (λ b. same_addr b at && not (same_addr b root)) (addresses r)
 not_covered at root r h =
-    sym (find_nothing (other_content at root) (covers r) (addresses r) (all_covered r) (λ b c. not_by (other_content at root b) (λ e. let (s, n) = both (same_addr b at) (not (same_addr b root)) e in clash (subst (λ a. covers r a ≡ true) (addr_exact b at s) c) h)))
+    sym (find_nothing (other_content at root) (covers r) (addresses r) (each_covered r) (λ b c. not_by (other_content at root b) (λ e. let (s, n) = both (same_addr b at) (not (same_addr b root)) e in clash (subst (λ a. covers r a ≡ true) (addr_exact b at s) c) h)))
 
 pub none_but_root : (at root : Addr) (r : Range) → at ≡ root → None ≡ find (λ b. same_addr b at && not (same_addr b root)) (addresses r)
 none_but_root at root r h =
@@ -78,7 +77,7 @@ found_there at root r c n = by (found_one at root (addresses r))
     fails false e f = absurd (cc e)
 
     by : (find (other_content at root) (addresses r) ≡ None) ⊎ (find (other_content at root) (addresses r) ≡ Some at) → Some at ≡ find (other_content at root) (addresses r)
-    by (inl e) = absurd (fails (other_content at root at) passes (covered_passes (λ b. not (other_content at root b)) r (none_left (other_content at root) (addresses r) e) at c))
+    by (inl e) = absurd (fails (other_content at root at) passes (all_covered (λ b. not (other_content at root b)) r (none_left (other_content at root) (addresses r) e) at c))
     by (inr e) = sym e
 
 pub is_not_root : (at root : Addr) → same_addr at root ≡ false → at ≢ root

@@ -8,9 +8,8 @@ use Rattle.gl_calculus.specs.Value.{Permit, Permitted, Refused, Entry, Oracle}
 use Rattle.gl_calculus.specs.Same.{is_permitted}
 use Rattle.gl_calculus.specs.Oracle.{entry_at, permit_of, status, area_of, Obstacle, first_obstacle, obstacle, ArePermits}
 use Rattle.gl_calculus.proofs.Tests.{addr_exact}
-use Rattle.gl_calculus.proofs.Grants.{clash}
 use Rattle.gl_grant.proofs.Free.{none_found}
-use Rattle.gl_grant.proofs.Covered.{covered_passes}
+use Rattle.gl_calculus.proofs.Grants.{clash, all_covered}
 
 -- without an obstacle the area lies in the bound, has no other content and meets no permitted area
 none_by : (l : Bool) (b : Option Addr) (x : Option Entry) → first_obstacle l b x ≡ None → (l ≡ true) × (b ≡ None) × (x ≡ None)
@@ -56,7 +55,7 @@ module _ (bound : Range) (held : Addr → Bool) (w : Oracle) (ok : ArePermits bo
           ⊎ (((a : Addr) × IsTrue (covers (area_of x) a) × IsTrue (held a) × (a ≢ x.root))
           ⊎ ((y : Entry) × Member y w × (y.permit ≡ Permitted) × IsTrue (is_before y.root x.root) × IsTrue (meets (area_of x) (area_of y)))) → ⊥
       by (inl l) = clash clear.0 l
-      by (inr (inl (a, c, k, n))) = n (addr_exact a x.root (not_held (same_addr a x.root) (held a) (covered_passes (λ b. same_addr b x.root || not (held b)) (area_of x) empty a c) k))
+      by (inr (inl (a, c, k, n))) = n (addr_exact a x.root (not_held (same_addr a x.root) (held a) (all_covered (λ b. same_addr b x.root || not (held b)) (area_of x) empty a c) k))
       by (inr (inr (y, n, p, b, t))) = clash (ap is_permitted p) (left_false (is_permitted y.permit) (meets (area_of x) (area_of y)) t (none_passes (λ z. is_permitted z.permit && meets (area_of x) (area_of z)) w y clear.2 n))
         where
           left_false : (u v : Bool) → v ≡ true → (u && v) ≡ false → u ≡ false
