@@ -1,3 +1,5 @@
 pub mod Values
 pub mod Operators
 pub mod Lift
+pub mod Rows
+pub mod Arrays

@@ -39,7 +39,7 @@ shape_positive (Array s xs) h = let e = (parts_of s xs h).extents in record { ro
 hull_positive : (s t : Size) → Positive s → Positive t → Positive (hull s t)
 hull_positive s t p q = record { rows = omega (arith, p.rows); cols = omega (arith, p.cols) }
 
-one_more_row : (m n : ℕ) → n + m * n ≡ suc m * n
+pub one_more_row : (m n : ℕ) → n + m * n ≡ suc m * n
 one_more_row m n = grind arith
 
 table_length : (f : ℕ → ℕ → Scalar) (n : ℕ) (ms : List ℕ) → length (flat_map (λ i. map (f i) (range_with_len 0 n)) ms) ≡ length ms * n
