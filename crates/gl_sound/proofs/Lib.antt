@@ -5,3 +5,5 @@ pub mod Rows
 pub mod Arrays
 pub mod Functions
 pub mod Sheets
+pub mod References
+pub mod Evaluation

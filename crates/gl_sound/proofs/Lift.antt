@@ -42,10 +42,10 @@ hull_positive s t p q = record { rows = omega (arith, p.rows); cols = omega (ari
 pub one_more_row : (m n : ℕ) → n + m * n ≡ suc m * n
 one_more_row m n = grind arith
 
-table_length : (f : ℕ → ℕ → Scalar) (n : ℕ) (ms : List ℕ) → length (flat_map (λ i. map (f i) (range_with_len 0 n)) ms) ≡ length ms * n
-table_length f n [] = omega arith
-table_length f n (m ∷ ms) =
-    omega (arith, length-append (map (f m) (range_with_len 0 n)) (flat_map (λ i. map (f i) (range_with_len 0 n)) ms), length-map-range_with_len (f m) 0 n, table_length f n ms, one_more_row (length ms) n)
+pub table_length : {X : Type 0} (f : ℕ → ℕ → X) (a n : ℕ) (ms : List ℕ) → length (flat_map (λ i. map (f i) (range_with_len a n)) ms) ≡ length ms * n
+table_length f a n [] = omega arith
+table_length f a n (m ∷ ms) =
+    omega (arith, length-append (map (f m) (range_with_len a n)) (flat_map (λ i. map (f i) (range_with_len a n)) ms), length-map-range_with_len (f m) a n, table_length f a n ms, one_more_row (length ms) n)
 
 all_map : (f : ℕ → Scalar) (js : List ℕ) → ((j : ℕ) → IsSound (f j)) → AllSound (map f js)
 all_map f [] h = tt
@@ -60,7 +60,7 @@ table_step false s f e p h = refl
 table_step true s f e p h =
     array_sound s (flat_map (λ i. map (f i) (range_with_len 0 s.cols)) (range_with_len 0 s.rows))
     (record { rows = p.rows; cols = p.cols; small = leb-true (s.rows * s.cols) max_cells e })
-    (table_length f s.cols (range_with_len 0 s.rows) ∙ ap (λ m. m * s.cols) (length-range_with_len 0 s.rows))
+    (table_length f 0 s.cols (range_with_len 0 s.rows) ∙ ap (λ m. m * s.cols) (length-range_with_len 0 s.rows))
     (all_table f s.cols (range_with_len 0 s.rows) h)
 
 pub table_sound : (s : Size) (f : ℕ → ℕ → Scalar) → Positive s → ((i j : ℕ) → IsSound (f i j)) → IsSoundValue (table s f)
