@@ -1,5 +1,5 @@
 -- The functions on arrays give sound values.
-use Rattle.std.proofs.Common.{◌≡◌, ℕ, zero, suc, ◌+◌, ◌*◌, ◌<◌, ◌≤◌, max, nat_lt, ℤ, pos, negsuc, Bool, true, false, ◌&&◌, IsTrue, List, [], ◌∷◌, ◌++◌, length, map, Option, Some, None, Result, Ok, Err, refl, ap, sym, ◌∙◌, subst, arith, if◌then◌else◌}
+use Rattle.std.proofs.Common.{◌≡◌, ℕ, zero, suc, ◌+◌, ◌*◌, ◌<◌, ◌≤◌, nat_lt, ℤ, pos, negsuc, Bool, true, false, ◌&&◌, List, [], ◌∷◌, length, map, Option, Some, None, Ok, Err, refl, sym, subst, arith, if◌then◌else◌}
 use Rattle.std.specs.List.{flat_map}
 use Rattle.std.proofs.lemmas.Bool.{ltb-true}
 use Rattle.std.proofs.lemmas.List.{length-append, length-map, map-append}
@@ -7,10 +7,10 @@ use Rattle.gl_calculus.specs.Grid.{Size, size}
 use Rattle.gl_calculus.specs.ErrKind.{ErrKind}
 use Rattle.gl_calculus.specs.Value.{Scalar, Value, One, Array, elements}
 use Rattle.gl_calculus.specs.Operators.{agrees}
-use Rattle.gl_calculus.specs.Lift.{shape, item, table, rows, width, from_rows}
-use Rattle.gl_calculus.specs.Functions.{Try, value_or_error, no_error, number, when, first_fault, truth_fault, extent, from_one, index, positive, sequence, flipped, transpose, kept, left_over, some_rows, kept_part, left_over_part, part_of, padded, greatest_cols, vstack, hstack, is_column_beside, kept_rows, filter_rows, new_rows, unique, sought, looked_up, lookup}
+use Rattle.gl_calculus.specs.Lift.{shape, item, rows, from_rows}
+use Rattle.gl_calculus.specs.Functions.{Try, value_or_error, no_error, number, when, first_fault, truth_fault, extent, index, sequence, flipped, transpose, kept, left_over, some_rows, kept_part, left_over_part, part_of, padded, greatest_cols, vstack, hstack, is_column_beside, kept_rows, filter_rows, new_rows, unique, sought, looked_up, lookup}
 use Rattle.gl_sound.proofs.Values.{IsSound, AllSound, IsSoundValue, AllSoundValues, elements_sound}
-use Rattle.gl_sound.proofs.Lift.{item_sound, Positive, shape_positive, table_sound}
+use Rattle.gl_sound.proofs.Lift.{item_sound, shape_positive, table_sound}
 use Rattle.gl_sound.proofs.Rows.{AreRows, rows_append, rows_kept, rows_left, rows_map, kept_length, kept_is, kept_sound, left_length, left_is, left_sound, from_rows_sound, value_rows, value_rows_some, pad_rows, rows_chosen, rows_new, some_new}
 
 when_sound : (b : Bool) (k : ErrKind) (v : Value) → (b ≡ true → IsSoundValue v) → IsSoundValue (value_or_error (when b k v))

@@ -1,27 +1,25 @@
 -- A key's evaluation asks for sound keys, and comes to a sound outcome.
-use Rattle.std.proofs.Common.{◌≡◌, ℕ, zero, suc, ◌<◌, List, [], ◌∷◌, length, Bool, true, false, ◌&&◌, IsTrue, if◌then◌else◌, bytes_eq, Option, Some, None, Result, Ok, Err, refl, ap, subst, sym, arith}
+use Rattle.std.proofs.Common.{◌≡◌, ℕ, zero, suc, List, [], ◌∷◌, length, Bool, true, false, IsTrue, if◌then◌else◌, bytes_eq, Option, Some, None, Result, Ok, Err, refl, ap, subst, arith}
 use Rattle.std.specs.List.{AllByRecursion}
 use Rattle.std.proofs.lemmas.Bool.{and_parts}
 use Rattle.gl_query.specs.Evaluation.{Done}
 use Rattle.gl_query.proofs.Asked.{Keeps, keeps_return, keeps_look, keeps_ask, keeps_bind}
-use Rattle.gl_calculus.specs.Grid.{Addr, Range, single, extents}
-use Rattle.gl_calculus.specs.ErrKind.{ErrKind}
+use Rattle.gl_calculus.specs.Grid.{Addr, single}
 use Rattle.gl_calculus.specs.Value as V
 use Rattle.gl_calculus.specs.Value.{Scalar, Value, SheetValue, Oracle, Frame, Top, In, region}
 use Rattle.gl_calculus.specs.Sheet as M
 use Rattle.gl_calculus.specs.Sheet.{Made}
 use Rattle.gl_calculus.specs.Formula.{Version, Formula, Formulas, Operands, Fun, Cells, content}
 use Rattle.gl_calculus.specs.Formula as F
-use Rattle.gl_calculus.specs.Oracle.{Sizes}
 use Rattle.gl_calculus.specs.Facts.{Fact, facts, fact_at}
 use Rattle.gl_calculus.specs.Operators.{negate, compare, operate}
 use Rattle.gl_calculus.specs.Lift.{lift2}
 use Rattle.gl_calculus.specs.Functions.{apply}
-use Rattle.gl_calculus.specs.Key.{Key, Cell, Settle, Outcome, Settled, Abort, Budget, Eval, give, ◌>>=◌, as_value, as_settled, settled_oracle}
-use Rattle.gl_calculus.specs.Reference.{Held, Given, Computed, own_content, own, at_address, at_range, spill_of}
+use Rattle.gl_calculus.specs.Key.{Key, Cell, Settle, Outcome, Settled, Abort, Budget, Eval, give, ◌>>=◌, as_value, as_settled}
+use Rattle.gl_calculus.specs.Reference.{Held, Given, Computed, own_content}
 use Rattle.gl_calculus.specs.Evaluation as E
 use Rattle.gl_calculus.specs.Evaluation.{Argument, Bindings, program, evaluation, cell_value}
-use Rattle.gl_calculus.specs.Sound.{is_size, is_sound_frame, is_sound_sheet, is_sound_key}
+use Rattle.gl_calculus.specs.Sound.{is_sound_sheet, is_sound_key}
 use Rattle.gl_sound.specs.Fit.{takes, is_fit, are_fit, are_fit_operands, AreFit}
 use Rattle.gl_sound.specs.Laws.{IsSoundOutcome}
 use Rattle.gl_sound.proofs.Values.{IsSound, IsSoundValue, AllSoundValues}
@@ -131,7 +129,7 @@ module _ (S : Cells) (w : Oracle) where
     good_view : (q : Eval Value) (f : Formula) → Good IsSoundValue q → IsTrue (is_fit f) → Good IsSoundValue (E.view_by q f)
     good_view q f g h =
         good_then IsSoundValue IsSoundValue q _ g (λ u p. good_on_sheet _ u p (λ s z.
-            keeps_ask z (elim [ Outcome.Value v ↦ λ t. good_written (In s []) f z h | Settled o ↦ λ t. good_written (In s o) f z h | Abort b ↦ λ t. keeps_return tt ])))
+        keeps_ask z (elim [ Outcome.Value v ↦ λ t. good_written (In s []) f z h | Settled o ↦ λ t. good_written (In s o) f z h | Abort b ↦ λ t. keeps_return tt ])))
 
     module _ (version : Version) where
       good_choose : (v : Value) (q r : Eval Value) → IsSoundValue v → Good IsSoundValue q → Good IsSoundValue r → Good IsSoundValue (E.choose version v q r)

@@ -1,15 +1,14 @@
 -- Each function gives a sound value of sound values.
-use Rattle.std.proofs.Common.{◌≡◌, ℕ, zero, suc, ◌-◌, ◌<◌, ℤ, pos, negsuc, Bool, true, false, List, [], ◌∷◌, length, take, Option, Some, None, refl, if◌then◌else◌, filter_map}
+use Rattle.std.proofs.Common.{ℕ, ◌-◌, ◌<◌, ℤ, pos, Bool, List, [], ◌∷◌, length, take, Option, Some, None, refl, filter_map}
 use Rattle.std.specs.Str.{chars}
 use Rattle.gl_calculus.specs.ErrKind.{ErrKind}
-use Rattle.gl_calculus.specs.Value.{Scalar, Value, One, Array}
-use Rattle.gl_calculus.specs.Value as V
+use Rattle.gl_calculus.specs.Value.{Scalar, Value}
 use Rattle.gl_calculus.specs.Formula.{Fun}
 use Rattle.gl_calculus.specs.Formula as F
-use Rattle.gl_calculus.specs.Operators.{exact, amount, magnitude, modulo, numeric, plain}
-use Rattle.gl_calculus.specs.Functions.{all_elements, whole_number, truth, sum_fault, truth_fault, first_fault, unless, sum_of, lesser, greater, best, all_true, some_true, truth_of, total, count, extreme, verdict, negation, is_error, is_blank, text_length, take_last, text_part, apply}
+use Rattle.gl_calculus.specs.Operators.{exact, magnitude, modulo, numeric, plain}
+use Rattle.gl_calculus.specs.Functions.{all_elements, whole_number, truth, sum_fault, truth_fault, first_fault, unless, sum_of, lesser, greater, best, all_true, some_true, truth_of, total, extreme, verdict, negation, is_error, is_blank, text_length, take_last, text_part, apply}
 use Rattle.gl_sound.proofs.Values.{IsSound, IsSoundValue, AllSoundValues}
-use Rattle.gl_sound.proofs.Operators.{exact_sound, strict_sound, numeric_sound, modulo_sound, magnitude_sound, first_chars, last_chars}
+use Rattle.gl_sound.proofs.Operators.{exact_sound, numeric_sound, modulo_sound, magnitude_sound, first_chars, last_chars}
 use Rattle.gl_sound.proofs.Lift.{lift1_sound, lift2_sound}
 use Rattle.gl_sound.proofs.Arrays.{extent_sound, index_sound, sequence_sound, transpose_sound, take_sound, drop_sound, hstack_sound, vstack_sound, filter_sound, unique_sound, lookup_sound}
 

@@ -7,3 +7,4 @@ pub mod Functions
 pub mod Sheets
 pub mod References
 pub mod Evaluation
+pub mod Proved

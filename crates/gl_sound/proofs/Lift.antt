@@ -1,16 +1,15 @@
 -- Elements, tables and lifted operators are sound.
-use Rattle.std.proofs.Common.{◌≡◌, ℕ, zero, suc, ◌+◌, ◌*◌, ◌<◌, ◌≤◌, ◌==◌, max, nat_lt, nat_le, Bool, true, false, ◌&&◌, ◌||◌, IsTrue, List, [], ◌∷◌, ◌++◌, length, map, get_or, take, drop, refl, ap, ◌∙◌, arith, if◌then◌else◌}
+use Rattle.std.proofs.Common.{◌≡◌, ℕ, suc, ◌+◌, ◌*◌, ◌<◌, ◌==◌, nat_lt, Bool, true, false, ◌&&◌, List, [], ◌∷◌, length, map, get_or, refl, ap, ◌∙◌, arith, if◌then◌else◌}
 use Rattle.std.specs.List.{range_with_len, flat_map}
 use Rattle.std.proofs.lemmas.Bool.{leb-true}
 use Rattle.std.proofs.lemmas.List.{length-append}
 use Rattle.std.proofs.lemmas.List.FromFn.{length-range_with_len, length-map-range_with_len}
 use Rattle.gl_calculus.specs.Limits.{max_cells}
-use Rattle.gl_calculus.specs.Grid.{Size, size}
+use Rattle.gl_calculus.specs.Grid.{Size}
 use Rattle.gl_calculus.specs.ErrKind.{ErrKind}
-use Rattle.gl_calculus.specs.Value.{Scalar, Value, One, Array, items, scalars}
+use Rattle.gl_calculus.specs.Value.{Scalar, Value, One, Array, items}
 use Rattle.gl_calculus.specs.Lift.{shape, item_or, item, spread, is_small, table_if, table, hull, lift1, reaches, where_reached, lift2, lift3}
-use Rattle.gl_calculus.specs.Sound.{is_sound_scalar}
-use Rattle.gl_sound.proofs.Values.{IsSound, AllSound, IsSoundValue, Extents, extents_of, parts_of, array_sound, all_append, all_at, either}
+use Rattle.gl_sound.proofs.Values.{IsSound, AllSound, IsSoundValue, parts_of, array_sound, all_append, all_at, either}
 
 -- ---- elements
 
@@ -91,5 +90,5 @@ lift3_sound f g u v w h k l =
     (λ i j. where_reached (reaches u i j && reaches v i j && reaches w i j) (f (spread u i j) (spread v i j) (spread w i j)))
     (hull_positive (shape u) (hull (shape v) (shape w)) (shape_positive u h) (hull_positive (shape v) (shape w) (shape_positive v k) (shape_positive w l)))
     (λ i j.
-        reached_sound (reaches u i j && reaches v i j && reaches w i j) (f (spread u i j) (spread v i j) (spread w i j))
-        (g (spread u i j) (spread v i j) (spread w i j) (spread_sound u i j h) (spread_sound v i j k) (spread_sound w i j l)))
+    reached_sound (reaches u i j && reaches v i j && reaches w i j) (f (spread u i j) (spread v i j) (spread w i j))
+    (g (spread u i j) (spread v i j) (spread w i j) (spread_sound u i j h) (spread_sound v i j k) (spread_sound w i j l)))

@@ -1,21 +1,19 @@
 -- The operators and the functions on scalars give sound scalars.
-use Rattle.std.proofs.Common.{◌≡◌, ℕ, zero, suc, ◌+◌, ◌-◌, ◌*◌, ◌^◌, ◌<◌, ◌≤◌, ◌==◌, ◌/◌, ◌%◌, nat_lt, nat_le, ℤ, pos, negsuc, ◌+ℤ◌, ◌-ℤ◌, ◌*ℤ◌, neg_ℤ, int_lt, int_le, int_div, Bool, true, false, ◌&&◌, IsTrue, List, [], ◌∷◌, ◌++◌, length, take, drop, Option, Some, None, refl, ap, ◌∙◌, sym, subst, arith, if◌then◌else◌, cond}
+use Rattle.std.proofs.Common.{◌≡◌, ℕ, zero, suc, ◌+◌, ◌^◌, ◌<◌, ◌≤◌, ◌==◌, ◌/◌, ◌%◌, nat_lt, nat_le, ℤ, pos, negsuc, ◌+ℤ◌, ◌-ℤ◌, ◌*ℤ◌, neg_ℤ, int_lt, int_le, int_div, Bool, true, false, ◌&&◌, List, [], ◌∷◌, ◌++◌, length, take, drop, Option, Some, None, refl, ap, ◌∙◌, sym, arith, if◌then◌else◌}
 use Rattle.std.specs.Str.{is_utf8, IsUtf8, IsAscii, chars, all_scalars}
 use Rattle.std.specs.List.{AllByRecursion}
 use Rattle.std.specs.Prelude.{encode_utf8_all, codes}
 use Rattle.std.specs.Fmt.{signed_decimal, decimal, digits, digits_onto, digit_glyph}
-use Rattle.std.proofs.lemmas.Bool.{and_parts, and_from, ltb-true, lt-ltb, leb-true, le-leb, ltb-false}
+use Rattle.std.proofs.lemmas.Bool.{and_parts, and_from, leb-true, le-leb, ltb-false}
 use Rattle.std.proofs.lemmas.Str.{IsUtf8-append, IsUtf8-nil, IsUtf8-from_is_utf8, is_utf8-from_IsUtf8, encodes-chars, scalars-chars, encodes-append, IsUtf8-from_ascii}
 use Rattle.std.proofs.lemmas.List.{length-append, take-append-drop}
 use Rattle.gl_calculus.specs.Limits.{max_text}
 use Rattle.gl_calculus.specs.ErrKind.{ErrKind}
 use Rattle.gl_calculus.specs.Value.{Scalar}
-use Rattle.gl_calculus.specs.Value as V
 use Rattle.gl_calculus.specs.Same.{same_int}
 use Rattle.gl_calculus.specs.Formula.{Op}
 use Rattle.gl_calculus.specs.Formula as F
 use Rattle.gl_calculus.specs.Operators.{exact, strict, amount, on_amounts, numeric, quotient, floor_div, modulo, on_amount, negate, magnitude, comparison, filled, compare, text, plain, join_text, operate}
-use Rattle.gl_calculus.specs.Sound.{is_sound_scalar}
 use Rattle.gl_sound.proofs.Values.{IsSound, either}
 
 -- ---- numbers

@@ -1,6 +1,6 @@
 -- References ask for sound keys, and what they read is sound.
-use Rattle.std.proofs.Common.{◌≡◌, ℕ, suc, ◌+◌, ◌-◌, ◌*◌, List, [], ◌∷◌, length, map, Bool, true, false, IsTrue, if◌then◌else◌, Option, Some, None, Result, Ok, Err, refl, ap, ◌∙◌}
-use Rattle.std.specs.List.{AllByRecursion, flat_map, range_with_len}
+use Rattle.std.proofs.Common.{◌≡◌, ℕ, suc, ◌*◌, List, [], ◌∷◌, length, map, Bool, true, false, IsTrue, if◌then◌else◌, Option, Some, None, Result, Ok, Err, refl, ap, ◌∙◌}
+use Rattle.std.specs.List.{AllByRecursion, range_with_len}
 use Rattle.std.proofs.lemmas.List.{length-map}
 use Rattle.std.proofs.lemmas.List.FromFn.{length-range_with_len}
 use Rattle.gl_query.specs.Evaluation.{given}
@@ -9,10 +9,10 @@ use Rattle.gl_calculus.specs.Grid.{Addr, same_addr, Range, addr, single, extents
 use Rattle.gl_calculus.specs.Value as V
 use Rattle.gl_calculus.specs.Value.{Scalar, Value, One, Array, scalars, Overrides, sheet_value, Oracle, Permit, Frame, Top, In, region}
 use Rattle.gl_calculus.specs.Sheet.{override_at}
-use Rattle.gl_calculus.specs.Formula.{Formula, Content, Const, Form, Cells, content}
+use Rattle.gl_calculus.specs.Formula.{Content, Const, Form, Cells, content}
 use Rattle.gl_calculus.specs.Oracle.{Cover}
 use Rattle.gl_calculus.specs.Facts.{Fact, fact, facts, find_fact, or_nothing, fact_at}
-use Rattle.gl_calculus.specs.Key.{Key, Cell, Outcome, Settled, Abort, Budget, Eval, give, on_result, ◌>>=◌, own_value}
+use Rattle.gl_calculus.specs.Key.{Outcome, Settled, Abort, Budget, Eval, on_result, ◌>>=◌, own_value}
 use Rattle.gl_calculus.specs.Reference as R
 use Rattle.gl_calculus.specs.Reference.{Held, Given, Computed, held_top, override_or, content_in, in_region, own_content, home, own, value_of, shown, spilled, spilling, Reading, covered, deref, deref_all, seen_or_looked, at_address, at_range, spill_of}
 use Rattle.gl_calculus.specs.Sound.{is_size, is_sound_frame, is_sound_key}
@@ -20,7 +20,7 @@ use Rattle.gl_sound.specs.Fit.{is_fit, is_fit_content, AreFit}
 use Rattle.gl_sound.specs.Laws.{IsSoundOutcome}
 use Rattle.gl_sound.proofs.Values.{IsSound, AllSound, IsSoundValue, extents_of, array_sound}
 use Rattle.gl_sound.proofs.Lift.{item_or_sound, item_sound, table_length}
-use Rattle.gl_sound.proofs.Sheets.{SheetParts, sheet_parts, SoundIf, override_sound}
+use Rattle.gl_sound.proofs.Sheets.{sheet_parts, SoundIf, override_sound}
 
 abbrev pub SoundFrame : Frame → Type 0
 SoundFrame e = IsTrue (is_sound_frame e)

@@ -1,15 +1,15 @@
 -- Rows of sound scalars, equally long, and the arrays that are made of them.
-use Rattle.std.proofs.Common.{◌≡◌, ℕ, zero, suc, ◌+◌, ◌-◌, ◌*◌, ◌<◌, ◌≤◌, ◌==◌, max, min, nat_lt, nat_le, ℤ, pos, negsuc, Bool, true, false, IsTrue, List, [], ◌∷◌, ◌++◌, length, map, take, drop, replicate, refl, ap, sym, ◌∙◌, subst, arith, if◌then◌else◌}
+use Rattle.std.proofs.Common.{◌≡◌, ℕ, zero, suc, ◌-◌, ◌*◌, ◌<◌, ◌≤◌, min, ℤ, pos, negsuc, Bool, true, false, List, [], ◌∷◌, ◌++◌, length, map, take, drop, replicate, refl, ap, sym, ◌∙◌, arith, if◌then◌else◌}
 use Rattle.std.specs.List.{AllByRecursion, flat_map, list_any}
 use Rattle.std.proofs.lemmas.Bool.{leb-true}
 use Rattle.std.proofs.lemmas.List.{length-append, length-take, length-drop, length-replicate}
 use Rattle.gl_calculus.specs.Limits.{max_cells}
-use Rattle.gl_calculus.specs.Grid.{Size, size}
+use Rattle.gl_calculus.specs.Grid.{size}
 use Rattle.gl_calculus.specs.ErrKind.{ErrKind}
-use Rattle.gl_calculus.specs.Value.{Scalar, Value, One, Array, items, scalars}
+use Rattle.gl_calculus.specs.Value.{Scalar, Value, One, Array, items}
 use Rattle.gl_calculus.specs.Lift.{shape, is_small, rows, width, cut, rows_if, from_rows}
-use Rattle.gl_calculus.specs.Functions.{take_last, kept, left_over, padded, kept_rows, keeps, new_rows, same_row}
-use Rattle.gl_sound.proofs.Values.{IsSound, AllSound, IsSoundValue, AllSoundValues, parts_of, array_sound, all_append, all_take, all_drop, all_replicate}
+use Rattle.gl_calculus.specs.Functions.{kept, left_over, padded, kept_rows, keeps, new_rows, same_row}
+use Rattle.gl_sound.proofs.Values.{AllSound, IsSoundValue, parts_of, array_sound, all_append, all_take, all_drop, all_replicate}
 use Rattle.gl_sound.proofs.Lift.{one_more_row}
 
 -- rows of n sound scalars each
@@ -95,9 +95,10 @@ from_rows_sound n (r ∷ rs) l p h = made_of_rows (is_small (size (length (r ∷
 
 cut_rows : (m n : ℕ) (xs : List Scalar) → length xs ≡ m * n → AllSound xs → AreRows n (cut m n xs)
 cut_rows zero n xs e h = tt
-cut_rows (suc m) n xs e h =
-    ((omega (arith, length-take n xs, e, one_more_row m n), all_take n xs h),
-    cut_rows m n (drop n xs) (omega (arith, length-drop n xs, e, one_more_row m n)) (all_drop n xs h))
+cut_rows (suc m) n xs e h = (
+  (omega (arith, length-take n xs, e, one_more_row m n), all_take n xs h),
+  cut_rows m n (drop n xs) (omega (arith, length-drop n xs, e, one_more_row m n)) (all_drop n xs h),
+)
 
 cut_length : (m n : ℕ) (xs : List Scalar) → length (cut m n xs) ≡ m
 cut_length zero n xs = refl
@@ -116,10 +117,13 @@ value_rows_some (Array s xs) h = let p = parts_of s xs h in omega (arith, cut_le
 -- a shorter row is padded to n
 pub pad_rows : (m n : ℕ) (rs : List (List Scalar)) → m ≤ n → AreRows m rs → AreRows n (map (padded n) rs)
 pad_rows m n [] l h = tt
-pad_rows m n (r ∷ rs) l h =
-    ((omega (arith, length-append r (replicate (n - length r) (Scalar.Err ErrKind.Na)), length-replicate (n - length r) (Scalar.Err ErrKind.Na), h.0.0, l),
-    all_append r (replicate (n - length r) (Scalar.Err ErrKind.Na)) h.0.1 (all_replicate (n - length r) (Scalar.Err ErrKind.Na) refl)),
-    pad_rows m n rs l h.1)
+pad_rows m n (r ∷ rs) l h = (
+  (
+    omega (arith, length-append r (replicate (n - length r) (Scalar.Err ErrKind.Na)), length-replicate (n - length r) (Scalar.Err ErrKind.Na), h.0.0, l),
+    all_append r (replicate (n - length r) (Scalar.Err ErrKind.Na)) h.0.1 (all_replicate (n - length r) (Scalar.Err ErrKind.Na) refl),
+  ),
+  pad_rows m n rs l h.1,
+)
 
 row_if : (n : ℕ) (b : Bool) (r : List Scalar) (rs : List (List Scalar)) → (length r ≡ n) × AllSound r → AreRows n rs → AreRows n (if b then r ∷ rs else rs)
 row_if n true r rs h k = (h, k)

@@ -1,6 +1,6 @@
 -- What SHEET and UPDATE make is sound.
-use Rattle.std.proofs.Common.{◌≡◌, ℕ, ◌+◌, ◌<◌, ◌≤◌, ◌==◌, max, nat_lt, nat_le, Bool, true, false, ◌&&◌, IsTrue, Option, Some, None, refl, sym, subst, arith, eq-eqb, cond, if◌then◌else◌}
-use Rattle.std.proofs.lemmas.Bool.{and_parts, eqb-true}
+use Rattle.std.proofs.Common.{◌≡◌, ℕ, ◌+◌, ◌<◌, ◌≤◌, ◌==◌, max, nat_lt, nat_le, Bool, true, false, ◌&&◌, Option, Some, None, refl, sym, subst, arith, eq-eqb, cond, if◌then◌else◌}
+use Rattle.std.proofs.lemmas.Bool.{and_parts}
 use Rattle.std.proofs.lemmas.Bool.Decides.{nat_tests}
 use Rattle.gl_calculus.specs.Limits.{max_rank, max_weight}
 use Rattle.gl_calculus.specs.Grid.{Addr, Range, same_addr, is_before, covers}

@@ -1,5 +1,11 @@
-//! The law that outcomes are sound: over fit contents, what a key of the calculus comes to is a sound value with numbers of 64 bits.
+//! Soundness as a law of the calculus: where a sheet's contents are fit, sound keys have sound outcomes and ask for sound keys. This crate has definitions and proofs alone; each law is the contract of a function that does nothing.
 #![tactic(auto)]
 
-/// Nothing: the crate is its definitions.
-pub struct Soundness;
+ghost use Rattle.gl_sound.specs.Laws.{SoundOutcomes, SoundDemands, SoundReads};
+
+/// What sound keys come to, and what they ask for.
+pub fn sound_keys()
+    ensures outcomes { SoundOutcomes }
+    ensures demands { SoundDemands }
+    ensures reads { SoundReads }
+{}
