@@ -6,7 +6,7 @@ use Rattle.std.specs.Rc.{rc_value}
 use Rattle.gl_calculus.specs.Formula as F
 use Rattle.gl_language.specs.Token.{Integer, integer}
 use Rattle.gl_language.specs.Grammar as G
-use Rattle.gl_language.specs.Grammar.{IsForm, IsWellFormed, narrower, number}
+use Rattle.gl_language.specs.Grammar.{IsExpr, IsWellFormed, alone, chain, no_link, unary, atom, number}
 use Rattle.gl_language.specs.Content.{IsProperContent}
 use Rattle.gl_ast.specs.View.{formula_tree}
 use Rattle.gl_ast.specs.Forms.{formula_tree-Int}
@@ -15,8 +15,8 @@ use Rattle.gl_ast.specs.declared.Formula.TheVariants.{Int}
 use Rattle.gl_cells.specs.Content.{content_tree}
 use Rattle.gl_cells.specs.declared.content.Content.TheVariants.{Form}
 
-one_form : IsForm 0 (Integer 1 ∷ []) (G.Raw.Number 1)
-one_form = narrower (omega arith) (narrower (omega arith) (narrower (omega arith) (narrower (omega arith) (narrower (omega arith) number))))
+one_form : IsExpr (Integer 1 ∷ []) (G.Raw.Number 1) []
+one_form = alone (chain (G.sum (chain (G.prod (chain (unary (atom number)) no_link)) no_link)) no_link)
 
 one_is_well_formed : IsWellFormed (F.Formula.Int (pos 1))
 one_is_well_formed = (Integer 1 ∷ [], G.Raw.Number 1, ((codes "1", integer (omega arith, (refl, tt)) (omega arith)), tt), refl, one_form, refl, refl)
