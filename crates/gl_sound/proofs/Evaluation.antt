@@ -61,7 +61,7 @@ this_sound Top h = refl
 this_sound (In s o) h = h
 
 module _ (S : Cells) (w : Oracle) where
-  abbrev Good : {X : Type 0} → (X → Type 0) → Eval X → Type 0
+  abbrev pub Good : {X : Type 0} → (X → Type 0) → Eval X → Type 0
   Good Q p = R.Good S w Q p
 
   good_then : {X Y : Type 0} (Q : X → Type 0) (P : Y → Type 0) (p : Eval X) (f : X → Eval Y) → Good Q p → ((x : X) → Q x → Good P (f x)) → Good P (p >>= f)
@@ -69,13 +69,13 @@ module _ (S : Cells) (w : Oracle) where
 
   -- ---- sheet values
 
-  good_made : (m : Made) → SoundMade m → Good IsSoundValue (E.made m)
+  pub good_made : (m : Made) → SoundMade m → Good IsSoundValue (E.made m)
   good_made (M.Sheet s) h = keeps_return h
   good_made M.Outside h = keeps_return refl
   good_made M.Deep h = keeps_return tt
   good_made M.Heavy h = keeps_return refl
 
-  good_on_sheet : (f : SheetValue → Eval Value) (v : Value) → IsSoundValue v → ((s : SheetValue) → IsTrue (is_sound_sheet s) → Good IsSoundValue (f s)) → Good IsSoundValue (E.on_sheet f v)
+  pub good_on_sheet : (f : SheetValue → Eval Value) (v : Value) → IsSoundValue v → ((s : SheetValue) → IsTrue (is_sound_sheet s) → Good IsSoundValue (f s)) → Good IsSoundValue (E.on_sheet f v)
   good_on_sheet f (V.Value.One (V.Scalar.Sheet s)) h g = g s h
   good_on_sheet f (V.Value.One (V.Scalar.Err k)) h g = keeps_return refl
   good_on_sheet f (V.Value.One V.Scalar.Blank) h g = keeps_return refl
@@ -85,15 +85,15 @@ module _ (S : Cells) (w : Oracle) where
   good_on_sheet f (V.Value.Array z xs) h g = keeps_return refl
 
   -- the arguments are fit and good
-  abbrev AllGood : List Argument → Type 0
+  abbrev pub AllGood : List Argument → Type 0
   AllGood [] = Unit {0}
   AllGood (x ∷ xs) = (IsTrue (is_fit x.form) × Good IsSoundValue x.eval) × AllGood xs
 
-  good_update : (e : Frame) (q : Eval Value) (a : Addr) (r : Eval Value) → Good IsSoundValue q → Good IsSoundValue r → Good IsSoundValue (E.update_by e q a r)
+  pub good_update : (e : Frame) (q : Eval Value) (a : Addr) (r : Eval Value) → Good IsSoundValue q → Good IsSoundValue r → Good IsSoundValue (E.update_by e q a r)
   good_update e q a r g h =
       good_then IsSoundValue IsSoundValue q _ g (λ u p. good_then IsSoundValue IsSoundValue r _ h (λ v t. good_on_sheet _ u p (λ s z. good_made (M.update e s a v) (update_sound e s a v z t))))
 
-  good_updates : (e : Frame) (q : Eval Value) (xs : List Argument) → Good IsSoundValue q → AllGood xs → Good IsSoundValue (E.updates e q xs)
+  pub good_updates : (e : Frame) (q : Eval Value) (xs : List Argument) → Good IsSoundValue q → AllGood xs → Good IsSoundValue (E.updates e q xs)
   good_updates e q [] g h = g
   good_updates e q (a ∷ []) g h = g
   good_updates e q (a ∷ f ∷ xs) g h = good_updates e (E.update_by e q (E.written_address a.form) f.eval) xs (good_update e q _ f.eval g h.1.0.1) h.1.1
@@ -108,16 +108,16 @@ module _ (S : Cells) (w : Oracle) where
   good_replace_each F.Version.Two u q p g = good_then IsSoundValue IsSoundValue q _ g (λ x s. keeps_return (lift2_sound E.in_place_of_error replaced_sound u x p s))
 
   -- so many sound values
-  abbrev SoundValues : ℕ → List Value → Type 0
+  abbrev pub SoundValues : ℕ → List Value → Type 0
   SoundValues n vs = (n ≡ length vs) × AllSoundValues vs
 
-  good_values : (xs : List Argument) → AllGood xs → Good (SoundValues (length xs)) (E.all_values xs)
+  pub good_values : (xs : List Argument) → AllGood xs → Good (SoundValues (length xs)) (E.all_values xs)
   good_values [] g = keeps_return (refl, tt)
   good_values (x ∷ xs) g =
       good_then IsSoundValue (SoundValues (length (x ∷ xs))) x.eval _ g.0.1
       (λ v p. good_then (SoundValues (length xs)) (SoundValues (length (x ∷ xs))) _ _ (good_values xs g.1) (λ vs q. keeps_return (ap suc q.0, (p, q.1))))
 
-  good_apply : (f : Fun) (xs : List Argument) → Enough f (length xs) → AllGood xs → Good IsSoundValue (E.all_values xs >>= λ vs. give (apply f vs))
+  pub good_apply : (f : Fun) (xs : List Argument) → Enough f (length xs) → AllGood xs → Good IsSoundValue (E.all_values xs >>= λ vs. give (apply f vs))
   good_apply f xs n g = good_then (SoundValues (length xs)) IsSoundValue _ _ (good_values xs g) (λ vs q. keeps_return (apply_sound f vs (subst (Enough f) q.0 n) q.1))
 
   module _ (fit : AreFit S) where
@@ -126,13 +126,13 @@ module _ (S : Cells) (w : Oracle) where
     good_written e (F.Formula.Area r) s h = R.good_range S w fit e r s h
     good_written e f s h = keeps_return refl
 
-    good_view : (q : Eval Value) (f : Formula) → Good IsSoundValue q → IsTrue (is_fit f) → Good IsSoundValue (E.view_by q f)
+    pub good_view : (q : Eval Value) (f : Formula) → Good IsSoundValue q → IsTrue (is_fit f) → Good IsSoundValue (E.view_by q f)
     good_view q f g h =
         good_then IsSoundValue IsSoundValue q _ g (λ u p. good_on_sheet _ u p (λ s z.
         keeps_ask z (elim [ Outcome.Value v ↦ λ t. good_written (In s []) f z h | Settled o ↦ λ t. good_written (In s o) f z h | Abort b ↦ λ t. keeps_return tt ])))
 
     module _ (version : Version) where
-      good_choose : (v : Value) (q r : Eval Value) → IsSoundValue v → Good IsSoundValue q → Good IsSoundValue r → Good IsSoundValue (E.choose version v q r)
+      pub good_choose : (v : Value) (q r : Eval Value) → IsSoundValue v → Good IsSoundValue q → Good IsSoundValue r → Good IsSoundValue (E.choose version v q r)
       good_choose (V.Value.One (V.Scalar.Bool true)) q r p g h = g
       good_choose (V.Value.One (V.Scalar.Bool false)) q r p g h = h
       good_choose (V.Value.One V.Scalar.Blank) q r p g h = h
@@ -142,7 +142,7 @@ module _ (S : Cells) (w : Oracle) where
       good_choose (V.Value.One (V.Scalar.Sheet s)) q r p g h = keeps_return refl
       good_choose (V.Value.Array z xs) q r p g h = good_each version (V.Value.Array z xs) q r p g h
 
-      good_replace : (v : Value) (q : Eval Value) → IsSoundValue v → Good IsSoundValue q → Good IsSoundValue (E.replace version v q)
+      pub good_replace : (v : Value) (q : Eval Value) → IsSoundValue v → Good IsSoundValue q → Good IsSoundValue (E.replace version v q)
       good_replace (V.Value.One (V.Scalar.Err k)) q p g = g
       good_replace (V.Value.One V.Scalar.Blank) q p g = keeps_return p
       good_replace (V.Value.One (V.Scalar.Int n)) q p g = keeps_return p
@@ -151,7 +151,7 @@ module _ (S : Cells) (w : Oracle) where
       good_replace (V.Value.One (V.Scalar.Sheet s)) q p g = keeps_return p
       good_replace (V.Value.Array z xs) q p g = good_replace_each version (V.Value.Array z xs) q p g
 
-      good_call : (e : Frame) (f : Fun) (xs : List Argument) → SoundFrame e → Enough f (length xs) → AllGood xs → Good IsSoundValue (E.call version e f xs)
+      pub good_call : (e : Frame) (f : Fun) (xs : List Argument) → SoundFrame e → Enough f (length xs) → AllGood xs → Good IsSoundValue (E.call version e f xs)
       good_call e F.Fun.If (c ∷ t ∷ f ∷ []) s n g = good_then IsSoundValue IsSoundValue c.eval _ g.0.1 (λ v p. good_choose v t.eval f.eval p g.1.0.1 g.1.1.0.1)
       good_call e F.Fun.IfError (x ∷ y ∷ []) s n g = good_then IsSoundValue IsSoundValue x.eval _ g.0.1 (λ v p. good_replace v y.eval p g.1.0.1)
       good_call e F.Fun.Sheet (r ∷ []) s n g = good_made (M.sheet e (E.written_range r.form)) (sheet_sound e (E.written_range r.form) s)
@@ -170,7 +170,7 @@ module _ (S : Cells) (w : Oracle) where
       takes_enough e bs f fs h = tt
 
       mutual
-        good_eval : (e : Frame) (bs : Bindings) (f : Formula) → SoundFrame e → SoundBindings bs → IsTrue (is_fit f) → Good IsSoundValue (E.eval version e bs f)
+        pub good_eval : (e : Frame) (bs : Bindings) (f : Formula) → SoundFrame e → SoundBindings bs → IsTrue (is_fit f) → Good IsSoundValue (E.eval version e bs f)
         good_eval e bs (F.Formula.Int n) s b h = keeps_return refl
         good_eval e bs (F.Formula.Text t) s b h = keeps_return h
         good_eval e bs (F.Formula.Bool c) s b h = keeps_return refl
@@ -193,19 +193,19 @@ module _ (S : Cells) (w : Oracle) where
             let p = and_parts (is_fit f) (is_fit body) h in
             good_then IsSoundValue IsSoundValue _ _ (good_eval e bs f s b p.0) (λ v q. good_eval e ((name, v) ∷ bs) body s (q, b) p.1)
 
-        good_rest : (e : Frame) (bs : Bindings) (u : Value) (rest : Operands) → SoundFrame e → SoundBindings bs → IsSoundValue u → IsTrue (are_fit_operands rest) → Good IsSoundValue (E.eval_rest version e bs u rest)
+        pub good_rest : (e : Frame) (bs : Bindings) (u : Value) (rest : Operands) → SoundFrame e → SoundBindings bs → IsSoundValue u → IsTrue (are_fit_operands rest) → Good IsSoundValue (E.eval_rest version e bs u rest)
         good_rest e bs u F.Operands.no_operand s b q h = keeps_return q
         good_rest e bs u (F.Operands.operand_and op f rest) s b q h =
             let p = and_parts (is_fit f) (are_fit_operands rest) h in
             good_then IsSoundValue IsSoundValue _ _ (good_eval e bs f s b p.0) (λ v t. good_rest e bs (lift2 (operate op) u v) rest s b (lift2_sound (operate op) (operate_sound op) u v q t) p.1)
 
-        good_arguments : (e : Frame) (bs : Bindings) (fs : Formulas) → SoundFrame e → SoundBindings bs → IsTrue (are_fit fs) → AllGood (E.arguments version e bs fs)
+        pub good_arguments : (e : Frame) (bs : Bindings) (fs : Formulas) → SoundFrame e → SoundBindings bs → IsTrue (are_fit fs) → AllGood (E.arguments version e bs fs)
         good_arguments e bs F.Formulas.no_formula s b h = tt
         good_arguments e bs (F.Formulas.formula_and f fs) s b h =
             let p = and_parts (is_fit f) (are_fit fs) h in
             ((p.0, good_eval e bs f s b p.0), good_arguments e bs fs s b p.1)
 
-      good_cell : (e : Frame) (x : Option Held) → SoundFrame e → FitHeld x → Good IsSoundValue (cell_value version e x)
+      pub good_cell : (e : Frame) (x : Option Held) → SoundFrame e → FitHeld x → Good IsSoundValue (cell_value version e x)
       unfolding cell_value
       good_cell e (Some (Computed f)) s h = good_eval e [] f s tt h
       good_cell e (Some (Given v)) s h = keeps_return h
@@ -213,10 +213,10 @@ module _ (S : Cells) (w : Oracle) where
 
   -- ---- settlings
 
-  abbrev Any : {X : Type 0} → X → Type 0
+  abbrev pub Any : {X : Type 0} → X → Type 0
   Any x = Unit {0}
 
-  good_arrays : (e : Frame) (xs : List Fact) → SoundFrame e → FitFacts xs → Good Any (E.arrays e xs)
+  pub good_arrays : (e : Frame) (xs : List Fact) → SoundFrame e → FitFacts xs → Good Any (E.arrays e xs)
   good_arrays e [] s t = keeps_return tt
   good_arrays e (x ∷ xs) s (f, t) = good_then SoundIf Any _ _ (R.good_own S w e x s f) (λ v u. good_then Any Any _ _ (good_arrays e xs s t) (λ zs q. keeps_return tt))
 
@@ -224,7 +224,7 @@ module _ (S : Cells) (w : Oracle) where
   good_settled go o next true g = keeps_return tt
   good_settled go o next false g = g next
 
-  good_rounds : (s : SheetValue) (xs : List Fact) (n : ℕ) (o : Oracle) → IsTrue (is_sound_sheet s) → FitFacts xs → Good Any (E.rounds s xs n o)
+  pub good_rounds : (s : SheetValue) (xs : List Fact) (n : ℕ) (o : Oracle) → IsTrue (is_sound_sheet s) → FitFacts xs → Good Any (E.rounds s xs n o)
   good_rounds s xs zero o h t = keeps_return tt
   good_rounds s xs (suc n) o h t = good_then Any Any _ _ (good_arrays (In s o) xs h t) (λ zs q. good_settled _ o (E.next_in s xs zs) _ (λ p. good_rounds s xs n p h t))
 

@@ -8,3 +8,5 @@ pub mod Sheets
 pub mod References
 pub mod Evaluation
 pub mod Proved
+pub mod WellFormed
+pub mod Needed

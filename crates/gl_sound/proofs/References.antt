@@ -70,7 +70,7 @@ frame_if : (b : Bool) (e f : Frame) → SoundFrame e → SoundFrame f → SoundF
 frame_if true e f h k = h
 frame_if false e f h k = k
 
-home_sound : (e : Frame) (a : Addr) → SoundFrame e → SoundFrame (home e a)
+pub home_sound : (e : Frame) (a : Addr) → SoundFrame e → SoundFrame (home e a)
 home_sound Top a h = refl
 home_sound (In (sheet_value r os e k w) o) a h = frame_if (covers r a) (In (sheet_value r os e k w) o) (home e a) h (home_sound e a (sheet_parts r os e k w h).frame)
 
@@ -145,7 +145,7 @@ module _ (S : Cells) (w : Oracle) where
   pub good_then : {X Y : Type 0} (Q : X → Type 0) (P : Y → Type 0) (p : Eval X) (f : X → Eval Y) → Good Q p → ((x : X) → Q x → Good P (f x)) → Good P (p >>= f)
   good_then Q P p f e g = keeps_bind (λ k. IsTrue (is_sound_key k)) IsSoundOutcome (OnOk Q) (OnOk P) (facts S w) p (on_result f) e (elim [ Ok x ↦ λ q. g x q | Err b ↦ λ q. keeps_return tt ])
 
-  good_value : (e : Frame) (a : Addr) (h : Option Held) → SoundFrame e → FitHeld h → Good SoundIf (value_of e a h)
+  pub good_value : (e : Frame) (a : Addr) (h : Option Held) → SoundFrame e → FitHeld h → Good SoundIf (value_of e a h)
   good_value e a None s t = keeps_return tt
   good_value e a (Some (Given v)) s t = keeps_return t
   good_value e a (Some (Computed f)) s t =
@@ -155,7 +155,7 @@ module _ (S : Cells) (w : Oracle) where
   good_own e x s t = good_value e x.address (own_content x.content e x.address) s (own_fit x.content e x.address t s)
 
   -- a reading: a sound scalar, and facts that fit
-  abbrev SoundReading : Reading → Type 0
+  abbrev pub SoundReading : Reading → Type 0
   SoundReading y = IsSound y.0 × FitFacts y.1
 
   module _ (fit : AreFit S) where
@@ -173,16 +173,16 @@ module _ (S : Cells) (w : Oracle) where
     good_shown e seen x (Some v) s t u = keeps_return (shown_sound (R.status_in x e) v u, t)
     good_shown e seen x None s t u = good_covered e seen (R.cover_in x e) s t
 
-    good_deref : (e : Frame) (seen : List Fact) (x : Fact) → SoundFrame e → FitFact x → FitFacts seen → Good SoundReading (deref e seen x)
+    pub good_deref : (e : Frame) (seen : List Fact) (x : Fact) → SoundFrame e → FitFact x → FitFacts seen → Good SoundReading (deref e seen x)
     good_deref e seen x s f t =
         let h = home_sound e x.address s in
         good_then SoundIf SoundReading _ _ (good_own (home e x.address) x h f) (λ v u. good_shown (home e x.address) seen x v h t u)
 
     -- so many sound scalars
-    abbrev SoundList : ℕ → List Scalar → Type 0
+    abbrev pub SoundList : ℕ → List Scalar → Type 0
     SoundList n ys = (length ys ≡ n) × AllSound ys
 
-    good_deref_all : (e : Frame) (seen rest : List Fact) → SoundFrame e → FitFacts seen → FitFacts rest → Good (SoundList (length rest)) (deref_all e seen rest)
+    pub good_deref_all : (e : Frame) (seen rest : List Fact) → SoundFrame e → FitFacts seen → FitFacts rest → Good (SoundList (length rest)) (deref_all e seen rest)
     good_deref_all e seen [] s t u = keeps_return (refl, tt)
     good_deref_all e seen (x ∷ rest) s t (f, u) =
         good_then SoundReading (SoundList (length (x ∷ rest))) _ _ (good_deref e seen x s f t)

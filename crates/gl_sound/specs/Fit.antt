@@ -8,13 +8,13 @@ use Rattle.gl_calculus.specs.Formula.{Formula, Formulas, Operands, Fun, Content,
 use Rattle.gl_calculus.specs.Formula as F
 use Rattle.gl_calculus.specs.Sound.{is_size, is_sound_scalar}
 
--- arrays are stacked only where there is one; any other call has a value, whatever its arguments
+-- a stack is of one array or more; every other function has a sound value of any sound arguments
 abbrev pub takes : Fun → Formulas → Bool
 takes F.Fun.HStack F.Formulas.no_formula = false
 takes F.Fun.VStack F.Formulas.no_formula = false
 takes f xs = true
 
--- its texts are UTF-8 and short, its ranges have the extents of arrays, and each call has arguments that its function takes
+-- its texts are UTF-8 and short, its ranges have the extents of arrays, and no stack is empty
 abbrev mutual
   pub is_fit : Formula → Bool
   is_fit (F.Formula.Int n) = true

@@ -1,14 +1,17 @@
 -- The laws that public functions state.
 use Rattle.std.specs.Prelude.{◌≡◌, IsTrue, List, Option, Some}
+use Rattle.std.specs.List.{AllByRecursion}
 use Rattle.gl_query.specs.Lists.{Member}
 use Rattle.gl_query.specs.Query.{Has, Ready, Need, found, asked}
 use Rattle.gl_query.specs.Machine.{Demanded}
 use Rattle.gl_calculus.specs.Value.{Oracle}
-use Rattle.gl_calculus.specs.Formula.{Version, Cells}
+use Rattle.gl_calculus.specs.Formula.{Version, Formula, Cells}
 use Rattle.gl_calculus.specs.Key.{Key, Outcome}
 use Rattle.gl_calculus.specs.Evaluation.{program}
 use Rattle.gl_calculus.specs.Sound.{is_sound_key, is_sound_outcome, is_outcome_of, IsProperKey}
-use Rattle.gl_sound.specs.Fit.{AreFit}
+use Rattle.gl_language.specs.Grammar.{IsWellFormed}
+use Rattle.gl_language.specs.Content.{IsProperContent}
+use Rattle.gl_sound.specs.Fit.{is_fit, AreFit}
 
 -- sound, and of the key's kind
 abbrev pub IsSoundOutcome : Key → Outcome → Type 0
@@ -35,3 +38,10 @@ SoundReads =
     ((o : Outcome) → found known (program version S w k) ≡ Ready o → IsSoundOutcome k o) ×
     ((j : Key) → found known (program version S w k) ≡ Need j → IsTrue (is_sound_key j) × IsProperKey S j) ×
     ((j : Key) → Member j (asked known (program version S w k)) → IsTrue (is_sound_key j) × IsProperKey S j)
+
+-- A well formed formula is fit, and so is a sheet whose contents are proper.
+abbrev pub WellFormedIsFit : Type 0
+WellFormedIsFit = (f : Formula) → IsWellFormed f → IsTrue (is_fit f)
+
+abbrev pub ProperIsFit : Type 0
+ProperIsFit = (S : Cells) → AllByRecursion (λ c. IsProperContent c.1) S → AreFit S
