@@ -1,0 +1,16 @@
+//! The laws of the grammar: a text is at most one formula or has one first fault, and the canonical text of a formula is read as this formula again. This crate has proofs alone; each law is the contract of a function that does nothing.
+#![tactic(auto)]
+
+ghost use Rattle.gl_language.specs.Laws.{OneFormula, OneFault, FormulaOrFault, ReadsWellFormed};
+
+/// A text is at most one formula, or has one first fault, and not both.
+pub fn one_answer()
+    ensures formula { OneFormula }
+    ensures fault { OneFault }
+    ensures apart { FormulaOrFault }
+{}
+
+/// What is read is well formed.
+pub fn well_formed()
+    ensures reads { ReadsWellFormed }
+{}
