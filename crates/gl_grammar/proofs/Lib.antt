@@ -1,3 +1,6 @@
 pub mod Ends
 pub mod Once
 pub mod Readings
+pub mod Named
+pub mod Made
+pub mod Back
