@@ -4,3 +4,4 @@ pub mod Readings
 pub mod Named
 pub mod Made
 pub mod Back
+pub mod Sizes
