@@ -5,3 +5,4 @@ pub mod Named
 pub mod Made
 pub mod Back
 pub mod Sizes
+pub mod Kept
