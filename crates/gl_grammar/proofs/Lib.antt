@@ -6,3 +6,4 @@ pub mod Made
 pub mod Back
 pub mod Sizes
 pub mod Kept
+pub mod Printed
