@@ -1,6 +1,6 @@
 -- The canonical tokens of a form are read as this form, in each place and whatever follows.
-use Rattle.std.proofs.Common.{◌≡◌, ℕ, ◌+◌, ◌<◌, ◌≤◌, Bool, true, false, ◌||◌, [], ◌∷◌, ◌++◌, append_assoc, ap, refl, sym, subst, ◌∙◌, arith, if◌then◌else◌}
-use Rattle.std.specs.Prelude.{Some, nat_lt, nat_le}
+use Rattle.std.proofs.Common.{◌≡◌, ℕ, ◌+◌, ◌≤◌, Bool, true, false, [], ◌∷◌, ◌++◌, append_assoc, refl, sym, subst, arith, if◌then◌else◌}
+use Rattle.std.specs.Prelude.{nat_lt, nat_le}
 use Rattle.std.proofs.lemmas.Bool.{or_parts, ltb-false}
 use Rattle.gl_calculus.specs.Limits.{max_minus}
 use Rattle.gl_calculus.specs.Formula.{Op, Level, Formula}
@@ -11,7 +11,7 @@ use Rattle.gl_language.specs.Token as T
 use Rattle.gl_language.specs.Canonical.{op_sign, tokens_in_place, tokens_behind, operands_tokens, arguments_tokens, more_tokens}
 use Rattle.gl_language.specs.Grammar.{Raw, Raws, no_raw, raw_and, RawOperands, Tokens, comparison, operator, chained, IsExpr, alone, compare, IsChain, chain, IsLinks, no_link, link, IsOperand, sum, prod, unary, IsUnary, neg, atom, IsAtom, number, text, truth, address, spill, corners, variable, apply, parens, IsArguments, no_argument, argument, IsMore, close, comma, tree, operand_trees, trees}
 use Rattle.gl_language.specs.Grammar as G
-use Rattle.gl_grammar.proofs.Named.{Stands, IsNamed, AreNamed, AllNamed}
+use Rattle.gl_grammar.proofs.Named.{IsNamed, AreNamed, AllNamed}
 use Rattle.gl_grammar.proofs.Made.{HasOperand, IsMade, AreMade, AllMade}
 
 -- ---- places

@@ -1,6 +1,6 @@
 -- What may follow a form, if it is read as far as it goes.
-use Rattle.std.proofs.Common.{◌≡◌, ℕ, ◌+◌, ◌<◌, ◌≤◌, [], ◌∷◌, refl, arith, lit<}
-use Rattle.std.specs.Prelude.{Option, Some, None}
+use Rattle.std.proofs.Common.{◌≡◌, ℕ, ◌+◌, ◌<◌, ◌≤◌, ◌∷◌, refl, arith, lit<}
+use Rattle.std.specs.Prelude.{Some}
 use Rattle.gl_calculus.specs.Formula.{Op, Level}
 use Rattle.gl_calculus.specs.Formula as F
 use Rattle.gl_language.specs.Token.{Sign, Signed}

@@ -2,7 +2,7 @@
 --
 -- Both lists are gone through side by side. The tokens read have `n` parentheses open and `m` times `-` in a row before them, the canonical ones `o` and `k`.
 -- Parentheses that the canonical tokens leave out are spared: each lets them put a pair later, where `-` stands a ninth time in a row, and `d` pairs are left.
-use Rattle.std.proofs.Common.{◌≡◌, ℕ, ◌+◌, ◌-◌, ◌*◌, ◌<◌, ◌≤◌, min, Bool, true, false, ◌||◌, [], ◌∷◌, ◌++◌, append_assoc, ap, refl, sym, subst, ◌∙◌, arith, if◌then◌else◌}
+use Rattle.std.proofs.Common.{◌≡◌, ℕ, ◌+◌, ◌-◌, ◌*◌, ◌<◌, ◌≤◌, Bool, true, false, ◌||◌, [], ◌∷◌, ◌++◌, append_assoc, ap, refl, sym, subst, ◌∙◌, arith, if◌then◌else◌}
 use Rattle.std.specs.Prelude.{Some, nat_lt, nat_le}
 use Rattle.std.proofs.lemmas.Bool.{or_parts, or_from, le-ltb, leb-true, leb-false, lt-leb}
 use Rattle.gl_calculus.specs.Limits.{max_minus, max_open}
@@ -14,8 +14,8 @@ use Rattle.gl_language.specs.Token as T
 use Rattle.gl_language.specs.Canonical.{op_sign, tokens_in_place, tokens_behind, operands_tokens, arguments_tokens, more_tokens}
 use Rattle.gl_language.specs.Grammar.{Raw, Raws, no_raw, raw_and, RawOperands, Tokens, comparison, operator, chained, IsExpr, alone, compare, IsChain, chain, IsLinks, no_link, link, IsOperand, sum, prod, unary, IsUnary, neg, atom, IsAtom, number, text, truth, address, spill, corners, variable, apply, parens, IsArguments, no_argument, argument, IsMore, close, comma, is_deep_from, tree, operand_trees, trees}
 use Rattle.gl_language.specs.Grammar as G
-use Rattle.gl_grammar.proofs.Named.{Stands, IsNamed, AreNamed, AllNamed}
-use Rattle.gl_grammar.proofs.Made.{comparison_sign, operator_sign}
+use Rattle.gl_grammar.proofs.Named.{IsNamed, AreNamed, AllNamed}
+use Rattle.gl_grammar.proofs.Made.{same_some, comparison_sign, operator_sign}
 use Rattle.gl_grammar.proofs.Back.{placed}
 use Rattle.gl_grammar.proofs.Sizes.{size, size-append}
 
@@ -23,11 +23,11 @@ abbrev pub IsShallow : ℕ → ℕ → Tokens → Type 0
 IsShallow n m ts = is_deep_from n m ts ≡ false
 
 -- where the two lists stand
-pub record Stand (n m o k d : ℕ) : Type 0 where
+pub record SideBySide (n m o k d : ℕ) : Type 0 where
   pub opened : o + d ≤ n
-  pub most : n ≤ 64
-  pub row : k ≤ m + 8 * d
-  pub short : k ≤ 8
+  pub most : n ≤ max_open
+  pub row : k ≤ m + max_minus * d
+  pub short : k ≤ max_minus
 
 -- a front of the tokens ts, up to us, and what is canonical for it
 pub record Kept (n o k d : ℕ) (canonical ts us : Tokens) : Type 0 where
@@ -60,9 +60,6 @@ minus_small : (op : Op) → minus_of op ≤ 1
 minus_small F.Op.Sub = omega arith
 minus_small op = omega arith
 
-same_some : {o p : Op} → Some o ≡ Some p → o ≡ p
-same_some h = cc
-
 comparison_minus : (s : Sign) (op : Op) → comparison s ≡ Some op → minus_of op ≡ 0
 comparison_minus T.Sign.Eq op h = ap minus_of (sym (same_some h))
 comparison_minus T.Sign.Ne op h = ap minus_of (sym (same_some h))
@@ -73,10 +70,10 @@ comparison_minus T.Sign.Ge op h = ap minus_of (sym (same_some h))
 comparison_minus s op h = absurd (cc h)
 
 -- a left parenthesis, and a right one
-opens : (n m : ℕ) (ts : Tokens) → IsShallow n m (Signed T.Sign.LeftParen ∷ ts) → (n < 64) × IsShallow (n + 1) 0 ts
+opens : (n m : ℕ) (ts : Tokens) → IsShallow n m (Signed T.Sign.LeftParen ∷ ts) → (n < max_open) × IsShallow (n + 1) 0 ts
 opens n m ts h = let p = or_parts (nat_le max_open n) (is_deep_from (n + 1) 0 ts) h in (leb-false max_open n p.0, p.1)
 
-opening : (n m : ℕ) (ts : Tokens) → n < 64 → IsShallow (n + 1) 0 ts → IsShallow n m (Signed T.Sign.LeftParen ∷ ts)
+opening : (n m : ℕ) (ts : Tokens) → n < max_open → IsShallow (n + 1) 0 ts → IsShallow n m (Signed T.Sign.LeftParen ∷ ts)
 opening n m ts l h = or_from (nat_le max_open n) (is_deep_from (n + 1) 0 ts) (lt-leb max_open n l) h
 
 closes : (n m : ℕ) (ts : Tokens) → IsShallow (n + 1) m (Signed T.Sign.RightParen ∷ ts) → IsShallow n 0 ts
@@ -114,7 +111,7 @@ moved {n} {o} {k} {d} {ts = ts} {us = us} e r = subst (λ z. Kept n o k d z ts u
 -- ---- parentheses
 
 -- a form in parentheses, where both lists have them
-both_parens : (n o k d : ℕ) (xs ts us : Tokens) → o < 64 → Kept (n + 1) (o + 1) 0 d xs ts (Signed T.Sign.RightParen ∷ us) → Kept n o k d (Signed T.Sign.LeftParen ∷ (xs ++ Signed T.Sign.RightParen ∷ [])) (Signed T.Sign.LeftParen ∷ ts) us
+both_parens : (n o k d : ℕ) (xs ts us : Tokens) → o < max_open → Kept (n + 1) (o + 1) 0 d xs ts (Signed T.Sign.RightParen ∷ us) → Kept n o k d (Signed T.Sign.LeftParen ∷ (xs ++ Signed T.Sign.RightParen ∷ [])) (Signed T.Sign.LeftParen ∷ ts) us
 both_parens n o k d xs ts us l r =
     let close = Signed T.Sign.RightParen ∷ [] in
     record {
@@ -128,8 +125,8 @@ both_parens n o k d xs ts us l r =
 spared : (n o k d : ℕ) (xs ts us : Tokens) → Kept (n + 1) o k (d + 1) xs ts (Signed T.Sign.RightParen ∷ us) → Kept n o k d xs (Signed T.Sign.LeftParen ∷ ts) us
 spared n o k d xs ts us r = record { behind = closes n 0 us r.behind; shallow = r.shallow; no_longer = omega (arith, r.no_longer) }
 
-parens_by : (f : Formula) (n m o k d q : ℕ) (ts us : Tokens) → Stand n m o k d → n < 64 →
-    ((p j e : ℕ) → Stand (n + 1) 0 p j e → Kept (n + 1) p j e (placed 0 j f) ts (Signed T.Sign.RightParen ∷ us)) →
+parens_by : (f : Formula) (n m o k d q : ℕ) (ts us : Tokens) → SideBySide n m o k d → n < max_open →
+    ((p j e : ℕ) → SideBySide (n + 1) 0 p j e → Kept (n + 1) p j e (placed 0 j f) ts (Signed T.Sign.RightParen ∷ us)) →
     (b : Bool) → needs_parens k q f ≡ b → Kept n o k d (placed q k f) (Signed T.Sign.LeftParen ∷ ts) us
 parens_by f n m o k d q ts us s l inside true h =
     let r = inside (o + 1) 0 d (record { opened = omega (arith, s.opened); most = omega (arith, l); row = omega arith; short = omega arith }) in
@@ -140,14 +137,14 @@ parens_by f n m o k d q ts us s l inside false h =
 
 -- ---- rows of `-`
 
-fewer : (k : ℕ) → k < 8 → one_more k ≡ k + 1
+fewer : (k : ℕ) → k < max_minus → one_more k ≡ k + 1
 fewer k h = omega (arith, h)
 
-minus_by : (f : Formula) (n m o k d q : ℕ) (ts us : Tokens) → q ≤ 4 → Stand n m o k d → m < 8 →
-    ((p j e : ℕ) → Stand n (m + 1) p j e → Kept n p j e (placed 4 j f) ts us) →
+minus_by : (f : Formula) (n m o k d q : ℕ) (ts us : Tokens) → q ≤ 4 → SideBySide n m o k d → m < max_minus →
+    ((p j e : ℕ) → SideBySide n (m + 1) p j e → Kept n p j e (placed 4 j f) ts us) →
     (b : Bool) → nat_le max_minus k ≡ b → Kept n o k d (placed q k (F.Formula.Neg f)) (Signed T.Sign.Minus ∷ ts) us
 minus_by f n m o k d q ts us l s few inside true h =
-    let e : 8 ≤ k = leb-true max_minus k h in
+    let e : max_minus ≤ k = leb-true max_minus k h in
     let r = inside (o + 1) (one_more 0) (d - 1) (record { opened = omega (arith, s.opened, s.row, e, few); most = s.most; row = omega arith; short = omega arith }) in
     let xs = placed 4 (one_more 0) f in
     let close = Signed T.Sign.RightParen ∷ [] in
@@ -159,7 +156,7 @@ minus_by f n m o k d q ts us l s few inside true h =
       no_longer = omega (arith, size-append xs close, r.no_longer, s.row, e, few);
     })
 minus_by f n m o k d q ts us l s few inside false h =
-    let e : k < 8 = leb-false max_minus k h in
+    let e : k < max_minus = leb-false max_minus k h in
     let i : one_more k ≡ k + 1 = fewer k e in
     let r = inside o (one_more k) d (record { opened = s.opened; most = s.most; row = omega (arith, s.row, i); short = omega (arith, i, e) }) in
     let xs = placed 4 (one_more k) f in
@@ -196,11 +193,11 @@ chain_by level f (G.RawOperands.operand_and op g os) n o k d q ts us vs l first 
 -- ---- forms
 
 -- inside the parentheses of a call
-in_call : (n o : ℕ) → o ≤ n → n < 64 → Stand (n + 1) 0 (o + 1) 0 0
+in_call : (n o : ℕ) → o ≤ n → n < max_open → SideBySide (n + 1) 0 (o + 1) 0 0
 in_call n o i j = record { opened = omega (arith, i); most = omega (arith, j); row = omega arith; short = omega arith }
 
 mutual
-  pub expr_kept : {ts us : Tokens} {f : Raw} → IsExpr ts f us → IsNamed f → (n m o k d : ℕ) → Stand n m o k d → IsShallow n m ts → Kept n o k d (placed 0 k (tree f)) ts us
+  pub expr_kept : {ts us : Tokens} {f : Raw} → IsExpr ts f us → IsNamed f → (n m o k d : ℕ) → SideBySide n m o k d → IsShallow n m ts → Kept n o k d (placed 0 k (tree f)) ts us
   expr_kept (alone c) w n m o k d s h = chain_kept c w n m o k d 0 (omega arith) s h
   expr_kept {ts = ts} {us = vs} (compare {us = us} {f = f} {g = g} {s = t} {op = op} c e b) w n m o k d s h =
       let r = chain_kept c w.0 n m o k d 1 (omega arith) s h in
@@ -219,13 +216,13 @@ mutual
         no_longer = omega (arith, size-append xs (x ∷ ys), r.no_longer, q.no_longer, ap (λ y. size (Signed y ∷ us)) i);
       }
 
-  chain_kept : {level : Level} {ts us : Tokens} {f : Raw} → IsChain level ts f us → IsNamed f → (n m o k d q : ℕ) → q ≤ level_place level → Stand n m o k d → IsShallow n m ts → Kept n o k d (placed q k (tree f)) ts us
+  chain_kept : {level : Level} {ts us : Tokens} {f : Raw} → IsChain level ts f us → IsNamed f → (n m o k d q : ℕ) → q ≤ level_place level → SideBySide n m o k d → IsShallow n m ts → Kept n o k d (placed q k (tree f)) ts us
   chain_kept {level} {ts = ts} {us = vs} (chain {us = us} {f = f} {rest = os} b l) w n m o k d q small s h =
       let v = chained_named level f os w in
       let r = operand_kept b v.0 n m o k d (level_place level + 1) (omega arith) s h in
       chain_by level f os n o k d q ts us vs small (λ p i. operand_kept b v.0 n m o k d p i s h) (links_kept l v.1 n o (omega (arith, s.opened)) s.most r.behind)
 
-  links_kept : {level : Level} {ts us : Tokens} {os : RawOperands} → IsLinks level ts os us → AreNamed os → (n o : ℕ) → o ≤ n → n ≤ 64 → IsShallow n 0 ts → Kept n o 0 0 (operands_tokens (level_place level + 1) (operand_trees os)) ts us
+  links_kept : {level : Level} {ts us : Tokens} {os : RawOperands} → IsLinks level ts os us → AreNamed os → (n o : ℕ) → o ≤ n → n ≤ max_open → IsShallow n 0 ts → Kept n o 0 0 (operands_tokens (level_place level + 1) (operand_trees os)) ts us
   links_kept no_link w n o i j h = record { behind = h; shallow = λ rest r. r; no_longer = omega arith }
   links_kept {level} {us = vs} (link {ts = ts} {us = us} {s = t} {op = op} {f = f} {rest = os} e b l) w n o i j h =
       let a : t ≡ op_sign op = operator_sign level t op e in
@@ -240,18 +237,18 @@ mutual
         no_longer = omega (arith, size-append xs ys, r.no_longer, q.no_longer, ap (λ y. size (Signed y ∷ ts)) a);
       }
 
-  operand_kept : {level : Level} {ts us : Tokens} {f : Raw} → IsOperand level ts f us → IsNamed f → (n m o k d q : ℕ) → q ≤ level_place level + 1 → Stand n m o k d → IsShallow n m ts → Kept n o k d (placed q k (tree f)) ts us
+  operand_kept : {level : Level} {ts us : Tokens} {f : Raw} → IsOperand level ts f us → IsNamed f → (n m o k d q : ℕ) → q ≤ level_place level + 1 → SideBySide n m o k d → IsShallow n m ts → Kept n o k d (placed q k (tree f)) ts us
   operand_kept (sum c) w n m o k d q small s h = chain_kept c w n m o k d q small s h
   operand_kept (prod c) w n m o k d q small s h = chain_kept c w n m o k d q small s h
   operand_kept (unary u) w n m o k d q small s h = unary_kept u w n m o k d q small s h
 
-  unary_kept : {ts us : Tokens} {f : Raw} → IsUnary ts f us → IsNamed f → (n m o k d q : ℕ) → q ≤ 4 → Stand n m o k d → IsShallow n m ts → Kept n o k d (placed q k (tree f)) ts us
+  unary_kept : {ts us : Tokens} {f : Raw} → IsUnary ts f us → IsNamed f → (n m o k d q : ℕ) → q ≤ 4 → SideBySide n m o k d → IsShallow n m ts → Kept n o k d (placed q k (tree f)) ts us
   unary_kept {us = us} (neg {ts = ts} {f = f} u) w n m o k d q small s h =
       let p = or_parts (nat_le max_minus m) (is_deep_from n (m + 1) ts) h in
       minus_by (tree f) n m o k d q ts us small s (leb-false max_minus m p.0) (λ a j e z. unary_kept u w n (m + 1) a j e 4 (omega arith) z p.1) (nat_le max_minus k) refl
   unary_kept (atom a) w n m o k d q small s h = atom_kept a w n m o k d q (omega (arith, small)) s h
 
-  atom_kept : {ts us : Tokens} {f : Raw} → IsAtom ts f us → IsNamed f → (n m o k d q : ℕ) → q ≤ 5 → Stand n m o k d → IsShallow n m ts → Kept n o k d (placed q k (tree f)) ts us
+  atom_kept : {ts us : Tokens} {f : Raw} → IsAtom ts f us → IsNamed f → (n m o k d q : ℕ) → q ≤ 5 → SideBySide n m o k d → IsShallow n m ts → Kept n o k d (placed q k (tree f)) ts us
   atom_kept {f = f} number w n m o k d q small s h = moved (wide k q (tree f) small refl) (record { behind = h; shallow = λ rest r. r; no_longer = omega arith })
   atom_kept {f = f} text w n m o k d q small s h = moved (wide k q (tree f) small refl) (record { behind = h; shallow = λ rest r. r; no_longer = omega arith })
   atom_kept {f = f} truth w n m o k d q small s h = moved (wide k q (tree f) small refl) (record { behind = h; shallow = λ rest r. r; no_longer = omega arith })
@@ -273,7 +270,7 @@ mutual
       let p = opens n m ts h in
       parens_by (tree f) n m o k d q ts us s p.0 (λ a j c z. expr_kept e w (n + 1) 0 a j c z p.1) (needs_parens k q (tree f)) refl
 
-  arguments_kept : {ts us : Tokens} {xs : Raws} → IsArguments ts xs us → AllNamed xs → (n o : ℕ) → o ≤ n → n < 64 → IsShallow (n + 1) 0 ts → KeptArguments n o (arguments_tokens (trees xs)) ts us
+  arguments_kept : {ts us : Tokens} {xs : Raws} → IsArguments ts xs us → AllNamed xs → (n o : ℕ) → o ≤ n → n < max_open → IsShallow (n + 1) 0 ts → KeptArguments n o (arguments_tokens (trees xs)) ts us
   arguments_kept {us = us} no_argument w n o i j h = record { behind = closes n 0 us h; shallow = λ rest r. closing o 0 rest r; no_longer = omega arith }
   arguments_kept (argument {f = f} {xs = fs} e a) w n o i j h =
       let r = moved (sym (at_start (tree f))) (expr_kept e w.0 (n + 1) 0 (o + 1) 0 0 (in_call n o i j) h) in
@@ -286,7 +283,7 @@ mutual
         no_longer = omega (arith, size-append xs ys, r.no_longer, q.no_longer);
       }
 
-  more_kept : {ts us : Tokens} {xs : Raws} → IsMore ts xs us → AllNamed xs → (n o : ℕ) → o ≤ n → n < 64 → IsShallow (n + 1) 0 ts → KeptArguments n o (more_tokens (trees xs)) ts us
+  more_kept : {ts us : Tokens} {xs : Raws} → IsMore ts xs us → AllNamed xs → (n o : ℕ) → o ≤ n → n < max_open → IsShallow (n + 1) 0 ts → KeptArguments n o (more_tokens (trees xs)) ts us
   more_kept {us = us} close w n o i j h = record { behind = closes n 0 us h; shallow = λ rest r. closing o 0 rest r; no_longer = omega arith }
   more_kept (comma {f = f} {xs = fs} e a) w n o i j h =
       let r = moved (sym (at_start (tree f))) (expr_kept e w.0 (n + 1) 0 (o + 1) 0 0 (in_call n o i j) h) in

@@ -1,6 +1,6 @@
 -- What the grammar makes of tokens: operators of their levels, and numbers, texts, names and addresses of tokens.
-use Rattle.std.proofs.Common.{◌≡◌, ℕ, ◌<◌, ◌≤◌, ◌^◌, IsTrue, [], ◌∷◌, length, ap, refl, sym, subst}
-use Rattle.std.specs.Prelude.{Option, Some, None}
+use Rattle.std.proofs.Common.{◌≡◌, ℕ, ◌<◌, ◌≤◌, ◌^◌, IsTrue, length, ap, subst}
+use Rattle.std.specs.Prelude.{Some}
 use Rattle.std.specs.List.{AllByRecursion}
 use Rattle.std.specs.Str.{is_utf8}
 use Rattle.gl_calculus.specs.Limits.{max_text}
@@ -43,7 +43,7 @@ abbrev mutual
 
 -- ---- signs
 
-same_some : {o p : Op} → Some o ≡ Some p → o ≡ p
+pub same_some : {o p : Op} → Some o ≡ Some p → o ≡ p
 same_some h = cc
 
 pub comparison_sign : (s : Sign) (op : Op) → comparison s ≡ Some op → s ≡ op_sign op

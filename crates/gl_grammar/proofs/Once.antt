@@ -1,13 +1,13 @@
 -- A list of tokens has at most one form, behind which it ends in one place.
-use Rattle.std.proofs.Common.{◌≡◌, ℕ, ◌+◌, ◌<◌, ◌≤◌, [], ◌∷◌, ap, refl, sym, subst, ◌∙◌, arith, lit<}
-use Rattle.std.specs.Prelude.{Option, Some, None}
+use Rattle.std.proofs.Common.{◌≡◌, [], ◌∷◌, ap, refl, sym, subst, ◌∙◌, arith, lit<}
+use Rattle.std.specs.Prelude.{Option, Some}
 use Rattle.gl_calculus.specs.Formula.{Op, Level}
 use Rattle.gl_calculus.specs.Formula as F
 use Rattle.gl_language.specs.Token.{Sign, Token, Signed}
 use Rattle.gl_language.specs.Token as T
 use Rattle.gl_language.specs.Grammar.{Raw, Raws, no_raw, raw_and, RawOperands, Tokens, comparison, operator, chained, IsExpr, alone, compare, IsChain, chain, IsLinks, no_link, link, IsOperand, sum, prod, unary, IsUnary, neg, atom, IsAtom, number, text, truth, address, spill, corners, variable, apply, parens, IsArguments, no_argument, argument, IsMore, close, comma}
 use Rattle.gl_language.specs.Grammar as G
-use Rattle.gl_grammar.proofs.Ends.{binds, Ends, chain_end, operand_end, later, compares, operates, links_end, more_ends}
+use Rattle.gl_grammar.proofs.Ends.{Ends, chain_end, operand_end, later, compares, operates, links_end, more_ends}
 
 -- the same form, and the same tokens behind it
 abbrev pub Same : {A : Type 0} → A → A → Tokens → Tokens → Type 0

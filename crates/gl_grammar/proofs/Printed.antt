@@ -1,20 +1,19 @@
 -- The canonical text of a well formed formula is read as this formula, and is no longer than the text that it was read from.
-use Rattle.std.proofs.Common.{◌≡◌, ◌≤◌, IsFalse, [], ◌++◌, length, refl, sym, subst, arith}
+use Rattle.std.proofs.Common.{◌≡◌, ◌≤◌, IsFalse, [], length, refl, sym, subst, arith}
 use Rattle.std.specs.Prelude.{None}
 use Rattle.std.proofs.lemmas.List.{append-nil}
 use Rattle.gl_calculus.specs.Limits.{max_formula}
-use Rattle.gl_calculus.specs.Formula.{Formula}
 use Rattle.gl_language.specs.Text.{formula_text}
 use Rattle.gl_language.specs.Canonical.{formula_tokens, HasTokens}
 use Rattle.gl_language.specs.Grammar.{Raw, Tokens, IsExpr, is_deep, form_fault, tree, Parses}
 use Rattle.gl_language.specs.Laws.{PrintsBack}
 use Rattle.gl_lex.proofs.Back.{canonical_is_lexed}
 use Rattle.gl_grammar.specs.Laws.{WellFormedHasTokens, WellFormedParses}
-use Rattle.gl_grammar.proofs.Named.{IsNamed, is_named}
+use Rattle.gl_grammar.proofs.Named.{is_named}
 use Rattle.gl_grammar.proofs.Made.{AreTokens, expr_made, has_tokens}
-use Rattle.gl_grammar.proofs.Back.{placed, canonical_read}
+use Rattle.gl_grammar.proofs.Back.{canonical_read}
 use Rattle.gl_grammar.proofs.Sizes.{size, text_size, lexes_size}
-use Rattle.gl_grammar.proofs.Kept.{Stand, Kept, at_start, expr_kept}
+use Rattle.gl_grammar.proofs.Kept.{Kept, at_start, expr_kept}
 use Rattle.gl_grammar.proofs.Readings.{read_tokens}
 
 -- tokens that are read as a form without faults
@@ -31,7 +30,7 @@ module _ (ts : Tokens) (raw : Raw) (tokens : AreTokens ts) (not_deep : IsFalse (
   raw_form : IsExpr (formula_tokens (tree raw)) raw []
   raw_form = subst (λ z. IsExpr z raw []) (append-nil (formula_tokens (tree raw))) (canonical_read raw (expr_made form tokens).0 (is_named raw no_fault) [])
 
-  -- the canonical text is as long as the canonical tokens
+  -- the canonical text is no longer than the spellings of the tokens read
   raw_size : length (formula_text (tree raw)) ≤ size ts
   raw_size = omega (arith, text_size (tree raw) raw_has_tokens 0, raw_kept.no_longer)
 

@@ -1,13 +1,10 @@
 -- A text is at most one formula, or has one first fault, and what is read is well formed.
-use Rattle.std.proofs.Common.{◌≡◌, ◌<◌, ◌≤◌, true, false, IsTrue, IsFalse, [], length, ap, refl, sym, subst, ◌∙◌, arith}
-use Rattle.std.specs.Prelude.{Option, Some, None}
+use Rattle.std.proofs.Common.{◌≡◌, true, false, IsTrue, IsFalse, [], ap, refl, sym, subst, ◌∙◌, arith}
+use Rattle.std.specs.Prelude.{Some, None}
 use Rattle.std.specs.List.{AllByRecursion}
-use Rattle.gl_calculus.specs.Limits.{max_formula}
-use Rattle.gl_calculus.specs.Formula.{Formula}
 use Rattle.gl_language.specs.Text.{Bytes}
-use Rattle.gl_language.specs.Token.{IsToken, Reads, no_more, space, token, Lexes, LexFault}
-use Rattle.gl_language.specs.Grammar.{Raw, Tokens, IsExpr, is_deep, form_fault, tree, Parses, ParseFault, IsParseFault, long, lex, deep, syntax, form}
-use Rattle.gl_language.specs.Grammar as G
+use Rattle.gl_language.specs.Token.{IsToken, Reads, no_more, space, token, Lexes}
+use Rattle.gl_language.specs.Grammar.{Raw, Tokens, IsExpr, is_deep, form_fault, tree, ParseFault, long, lex, deep, syntax, form}
 use Rattle.gl_language.specs.Laws.{OneFormula, OneFault, FormulaOrFault, ReadsWellFormed}
 use Rattle.gl_lex.proofs.Once.{one_token_list, one_lex_fault, tokens_or_fault}
 use Rattle.gl_grammar.proofs.Once.{one_form}

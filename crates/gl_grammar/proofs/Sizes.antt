@@ -1,5 +1,5 @@
 -- The length of a text and of its tokens: the canonical spelling of a token is the shortest, and the canonical text of a formula is its tokens' spellings.
-use Rattle.std.proofs.Common.{◌≡◌, ◌≢◌, ℕ, ◌+◌, ◌-◌, ◌*◌, ◌/◌, ◌%◌, ◌^◌, ◌<◌, ◌≤◌, pos, negsuc, Bool, true, false, ◌==◌, ◌⊎◌, inl, inr, [], ◌∷◌, ◌++◌, length, refl, ap, sym, subst, ◌∙◌, arith, IsTrue, IsFalse}
+use Rattle.std.proofs.Common.{◌≡◌, ◌≢◌, ℕ, ◌+◌, ◌-◌, ◌*◌, ◌/◌, ◌%◌, ◌^◌, ◌<◌, ◌≤◌, pos, negsuc, Bool, true, false, ◌==◌, ◌⊎◌, inl, inr, [], ◌∷◌, ◌++◌, length, refl, ap, arith, IsTrue, IsFalse}
 use Rattle.std.specs.Prelude.{codes, flat_map}
 use Rattle.std.specs.Fmt.{decimal}
 use Rattle.std.specs.List.{AllByRecursion, join_with_byte}
@@ -7,14 +7,13 @@ use Rattle.std.proofs.lemmas.Bool.{cases_lt}
 use Rattle.std.proofs.lemmas.Bool.Decides.{nat_tests}
 use Rattle.std.proofs.lemmas.Fmt.{decimal_digit, decimal_step}
 use Rattle.std.proofs.lemmas.List.{length-append, length_push}
-use Rattle.gl_calculus.specs.Grid.{Addr}
 use Rattle.gl_calculus.specs.Notation.{address_text}
 use Rattle.gl_calculus.specs.Formula.{Op, Formula, Formulas, Operands}
 use Rattle.gl_calculus.specs.Formula as F
-use Rattle.gl_language.specs.Text.{Bytes, escaped, is_control, hex_digit, literal_text, truth_text, op_text, fun_text, level_place, one_more, minus_of, in_parens, in_place, needs_parens, text_behind, operands_text, texts, formula_text}
+use Rattle.gl_language.specs.Text.{Bytes, escaped, is_control, literal_text, truth_text, op_text, fun_text, level_place, one_more, minus_of, in_parens, in_place, needs_parens, text_behind, operands_text, texts}
 use Rattle.gl_language.specs.Token as T
 use Rattle.gl_language.specs.Token.{Token, Sign, is_digit, IsRow, Decodes, Spells, Reads, no_more, space, token, integer, quoted, address, truth, word, variable, signed, Lexes, sign_text}
-use Rattle.gl_language.specs.Canonical.{Tokens, op_sign, tokens_in_place, tokens_behind, operands_tokens, arguments_tokens, more_tokens, formula_tokens, HasTokens, HaveTokens, AllHaveTokens}
+use Rattle.gl_language.specs.Canonical.{Tokens, op_sign, tokens_in_place, tokens_behind, operands_tokens, arguments_tokens, more_tokens, HasTokens, HaveTokens, AllHaveTokens}
 use Rattle.gl_lex.specs.Front.{value_from}
 use Rattle.gl_lex.proofs.Values.{value_grows}
 
