@@ -1,9 +1,9 @@
 //! What the arguments of a function come to.
-ghost use Rattle.std.specs.Prelude.{◌≡◌, Ok};
+ghost use Rattle.std.specs.Prelude.{◌≡◌, ◌≤◌, IfOk, Ok};
 ghost use Rattle.gl_calculus.specs.Functions as F;
 ghost use Rattle.gl_value.specs.View.{value_tree};
 ghost use Rattle.gl_arrays.specs.Answers.{continued};
-ghost use Rattle.gl_arrays.specs.Columns.{within};
+ghost use Rattle.gl_arrays.specs.Parts.{within};
 
 use gl_value::{ErrKind, Scalar, Value};
 
@@ -44,5 +44,17 @@ pub fn from_one(n: i64, extent: u16) -> Result<u16, ErrKind>
             }
         }
         Err(_) => Err(ErrKind::Ref),
+    }
+}
+
+/// A number from 1 on; `#VALUE!` below.
+pub fn positive(n: i64) -> Result<u64, ErrKind>
+    ensures positive { IfOk result (λ m. 1 ≤ m) }
+    ensures value { continued (λ m. Ok m) result ≡ F.positive n }
+{
+    if n > 0 {
+        Ok(n.unsigned_abs())
+    } else {
+        Err(ErrKind::Value)
     }
 }
