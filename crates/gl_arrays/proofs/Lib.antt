@@ -1,3 +1,4 @@
 pub mod Ranges
 pub mod Tables
 pub mod OneColumn
+pub mod Windows

@@ -10,6 +10,7 @@ use Rattle.gl_calculus.specs.Grid.{Size, size}
 use Rattle.gl_calculus.specs.ErrKind.{ErrKind}
 use Rattle.gl_calculus.specs.Value.{Scalar, Scalars, Value, One, Array, items, scalars}
 use Rattle.gl_calculus.specs.Lift.{item, shape, is_small, table, table_if, cut, rows, width, rows_if, from_rows}
+use Rattle.gl_calculus.specs.Functions.{some_rows, value_or_error, when}
 use Rattle.gl_calculus.specs.Sound.{is_size, are_sound, is_sound_value}
 use Rattle.gl_arrays.specs.Parts.{row}
 use Rattle.gl_arrays.proofs.Ranges.{flat_map_same, map_same, map_shift, get_or_rows}
@@ -84,3 +85,38 @@ from_rows_are f m n h =
     let same : size (length rs) (width rs) ≡ size m n = size_of (length rs) (width rs) (size m n) (length-map-range_with_len (λ i. map (f i) (range_with_len 0 n)) 0 m) (width_rows f m n h) in
     ap (λ z. rows_if (is_small z) rs) same
     ∙ rows_if_is (is_small (size m n)) rs (size m n) f same (flat_map_rows (λ i. map (f i) (range_with_len 0 n)) (range_with_len 0 m))
+
+-- the array of some rows
+pub some_rows_are : (k : ErrKind) (f : ℕ → ℕ → Scalar) (m n : ℕ) → 0 < m → 0 < n → value_or_error (some_rows k (map (λ i. map (f i) (range_with_len 0 n)) (range_with_len 0 m))) ≡ table (size m n) f
+some_rows_are k f m n h l =
+    let rs = map (λ i. map (f i) (range_with_len 0 n)) (range_with_len 0 m) in
+    ap (λ b. value_or_error (when b k (from_rows rs))) (ap (nat_lt 0) (width_rows f m n h) ∙ test_lt 0 n l) ∙ from_rows_are f m n h
+
+-- an element beyond the extents
+pub beyond_rows : (v : Value) (i j : ℕ) → (shape v).rows ≤ i → item v i j ≡ Scalar.Err ErrKind.Na
+beyond_rows (One x) i j h = let off : (i == 0) ≡ false = grind (arith, nat_tests) in rw off refl
+beyond_rows (Array s xs) i j h = let off : nat_lt i s.rows ≡ false = grind (arith, nat_tests) in rw off refl
+
+and_off : (b c : Bool) → c ≡ false → (b && c) ≡ false
+and_off true c h = h
+and_off false c h = refl
+
+pub beyond_cols : (v : Value) (i j : ℕ) → (shape v).cols ≤ j → item v i j ≡ Scalar.Err ErrKind.Na
+beyond_cols (One x) i j h = let off : (j == 0) ≡ false = grind (arith, nat_tests) in rw (and_off (i == 0) (j == 0) off) refl
+beyond_cols (Array s xs) i j h = let off : nat_lt j s.cols ≡ false = grind (arith, nat_tests) in rw (and_off (nat_lt i s.rows) (nat_lt j s.cols) off) refl
+
+size_small : (m n : ℕ) → is_size (size m n) ≡ true → (0 < m) × (0 < n) × (m * n ≤ 10000)
+size_small m n h =
+    let p = and_parts (nat_lt 0 m && nat_lt 0 n) (nat_le (m * n) 10000) h in
+    let q = and_parts (nat_lt 0 m) (nat_lt 0 n) p.0 in
+    (grind (arith, nat_tests, q.0), grind (arith, nat_tests, q.1), grind (arith, nat_tests, p.1))
+
+below_product : (m n k : ℕ) → 0 < n → m * n ≤ k → m ≤ k
+below_product m n k h l = grind arith
+
+pub extents_small : (v : Value) → IsTrue (is_sound_value v) → (0 < (shape v).rows) × (0 < (shape v).cols) × ((shape v).rows ≤ 10000) × ((shape v).cols ≤ 10000)
+extents_small (One x) h = (omega arith, omega arith, omega arith, omega arith)
+extents_small (Array s xs) h =
+    let p = size_small s.rows s.cols (and_parts (is_size s) _ (and_parts (is_size s && _) (are_sound xs) h).0).0 in
+    let swap : s.cols * s.rows ≤ 10000 = grind (arith, p.2) in
+    (p.0, p.1, below_product s.rows s.cols 10000 p.1 p.2, below_product s.cols s.rows 10000 p.0 swap)

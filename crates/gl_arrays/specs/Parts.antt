@@ -1,5 +1,5 @@
 -- Places, rows and columns of a value.
-use Rattle.std.specs.Prelude.{ℕ, ◌+◌, ◌*◌, pos, nat_lt, Bool, ◌&&◌, Ok, Err, List, map}
+use Rattle.std.specs.Prelude.{ℕ, suc, ◌+◌, ◌-◌, ◌*◌, min, ℤ, pos, negsuc, nat_lt, Bool, ◌&&◌, Ok, Err, List, map}
 use Rattle.std.specs.List.{range_with_len}
 use Rattle.gl_calculus.specs.ErrKind.{ErrKind}
 use Rattle.gl_calculus.specs.Value.{Scalar, Int, Value}
@@ -26,3 +26,25 @@ row v i = map (item v i) (range_with_len 0 (shape v).cols)
 -- the number at a place of so many columns, counted from 1 in row-major order
 abbrev pub numbered : ℕ → ℕ → ℕ → Scalar
 numbered cols i j = Int (pos (i * cols + j + 1))
+
+-- the first of the rows or columns that TAKE keeps of so many, and how many it keeps
+abbrev pub kept_start : ℤ → ℕ → ℕ
+kept_start (pos n) extent = 0
+kept_start (negsuc n) extent = extent - suc n
+
+abbrev pub kept_count : ℤ → ℕ → ℕ
+kept_count (pos n) extent = min n extent
+kept_count (negsuc n) extent = min (suc n) extent
+
+-- the first of the rows or columns that DROP leaves of so many, and how many it leaves
+abbrev pub left_start : ℤ → ℕ → ℕ
+left_start (pos n) extent = min n extent
+left_start (negsuc n) extent = 0
+
+abbrev pub left_count : ℤ → ℕ → ℕ
+left_count (pos n) extent = extent - n
+left_count (negsuc n) extent = extent - suc n
+
+-- m rows from row a on of n columns from column b on
+abbrev pub window : Value → ℕ → ℕ → ℕ → ℕ → List (List Scalar)
+window v a m b n = map (λ i. map (λ j. item v (a + i) (b + j)) (range_with_len 0 n)) (range_with_len 0 m)

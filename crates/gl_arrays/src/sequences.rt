@@ -1,5 +1,5 @@
 //! Numbered arrays, and arrays with rows and columns exchanged.
-ghost use Rattle.std.specs.Prelude.{◌≡◌, ◌≤◌, ◌<◌, ◌+◌, ◌*◌, pos, IsTrue, IfOk, IfSome, OnNone, Ok};
+ghost use Rattle.std.specs.Prelude.{◌≡◌, ◌≤◌, ◌<◌, ◌+◌, ◌*◌, pos, IsTrue, IfOk, IfSome, IfNone, Ok};
 ghost use Rattle.gl_calculus.specs.Grid.{size};
 ghost use Rattle.gl_calculus.specs.Value as V;
 ghost use Rattle.gl_calculus.specs.Lift as L;
@@ -24,7 +24,7 @@ pub fn fitting(rows: u64, cols: u64) -> Option<(u16, u16)>
     requires some_rows { 1 ≤ rows }
     requires some_cols { 1 ≤ cols }
     ensures some { IfSome result (λ s. (s.0 ≡ rows) × (s.1 ≡ cols)) }
-    ensures none { OnNone result (10000 < rows * cols) }
+    ensures none { IfNone result (10000 < rows * cols) }
 {
     if rows <= MAX_CELLS && cols <= MAX_CELLS {
         Some((rows as u16, cols as u16))
