@@ -1,13 +1,16 @@
 -- The elements of a value of one column.
-use Rattle.std.proofs.Common.{◌≡◌, ℕ, zero, suc, ◌+◌, ◌*◌, ◌-◌, ◌<◌, ◌≤◌, ◌==◌, Bool, true, false, ◌&&◌, List, [], ◌∷◌, length, map, get_or, refl, ap, sym, ◌∙◌, arith, IsTrue, if◌then◌else◌}
+use Rattle.std.proofs.Common.{◌≡◌, Option, Some, None, Result, Ok, Err, ℕ, zero, suc, ◌+◌, ◌*◌, ◌-◌, ◌<◌, ◌≤◌, ◌==◌, Bool, true, false, ◌&&◌, List, [], ◌∷◌, length, map, get_or, refl, ap, sym, ◌∙◌, arith, IsTrue, if◌then◌else◌}
 use Rattle.std.specs.List.{range_with_len}
+use Rattle.std.specs.Option.{option_or}
 use Rattle.std.proofs.lemmas.Bool.{and_parts, eqb-true}
 use Rattle.std.proofs.lemmas.List.FromFn.{fill_by_all}
 use Rattle.gl_calculus.specs.ErrKind.{ErrKind}
 use Rattle.gl_calculus.specs.Value.{Scalar, Value, One, Array, items, elements}
-use Rattle.gl_calculus.specs.Lift.{item, shape}
+use Rattle.gl_calculus.specs.Lift.{item, shape, rows}
 use Rattle.gl_calculus.specs.Operators.{agrees}
-use Rattle.gl_calculus.specs.Functions.{is_column_beside, looked_up}
+use Rattle.gl_calculus.specs.Functions.{is_column_beside, looked_up, first_fault, truth_fault, no_fault, no_error, some_rows, kept_rows, filter_rows}
+use Rattle.gl_value.specs.declared.ErrKind as Code
+use Rattle.gl_arrays.specs.Answers.{continued}
 use Rattle.gl_calculus.specs.Sound.{is_sound_value}
 use Rattle.gl_arrays.specs.Parts.{column_from, are_columns}
 use Rattle.gl_arrays.proofs.Tables.{count, item_in}
@@ -59,3 +62,26 @@ pub lookup_start : (x : Scalar) (u v : Value) (n : ℕ) → n ≡ (shape u).rows
 lookup_start x u v n e h a b =
     let z : n - 0 ≡ (shape u).rows = omega arith in
     rw z (lookup_all x u v h a b)
+
+-- ---- faults
+
+fault_more : (v : Value) (i n m : ℕ) → n ≡ suc m → first_fault truth_fault (column_from v i n) ≡ option_or (truth_fault (item v i 0)) (first_fault truth_fault (column_from v (i + 1) m))
+fault_more v i n m e = rw e refl
+
+pub fault_passed : (v : Value) (i n : ℕ) (g : Option ErrKind) → i < n → None ≡ truth_fault (item v i 0) → first_fault truth_fault (column_from v i (n - i)) ≡ g → first_fault truth_fault (column_from v (i + 1) (n - (i + 1))) ≡ g
+fault_passed v i n g h fine e =
+    let step = fault_more v i (n - i) (n - (i + 1)) (omega arith) in
+    sym (rw (← fine) at step) ∙ e
+
+pub fault_found : (v : Value) (i n m : ℕ) (k : ErrKind) → i < n → n ≡ m → Some k ≡ truth_fault (item v i 0) → first_fault truth_fault (column_from v i (n - i)) ≡ first_fault truth_fault (column_from v 0 n) → Err k ≡ no_fault (first_fault truth_fault (column_from v 0 m))
+fault_found v i n m k h z fault e =
+    let step = fault_more v i (n - i) (n - (i + 1)) (omega arith) in
+    let first = rw (← fault) at step in
+    let all : first_fault truth_fault (column_from v 0 m) ≡ Some k = rw (← z) (sym e ∙ first) in
+    rw all refl
+
+-- the tests of FILTER, the last of which looks for faults
+pub filter_tests : (r : Result (Unit {0}) Code.ErrKind) (v keep : Value) → Ok v ≡ no_error v → Ok keep ≡ no_error keep → is_column_beside keep v ≡ true
+    → continued (λ u. Ok u) r ≡ no_fault (first_fault truth_fault (elements keep)) → continued (λ u. some_rows ErrKind.Na (kept_rows (elements keep) (rows v))) r ≡ filter_rows v keep
+filter_tests (Ok u) v keep e f on g = rw (← e, ← f, on, ← g) refl
+filter_tests (Err k) v keep e f on g = rw (← e, ← f, on, ← g) refl

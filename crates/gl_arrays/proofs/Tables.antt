@@ -13,7 +13,7 @@ use Rattle.gl_calculus.specs.Lift.{item, shape, is_small, table, table_if, cut, 
 use Rattle.gl_calculus.specs.Functions.{some_rows, value_or_error, when}
 use Rattle.gl_calculus.specs.Sound.{is_size, are_sound, is_sound_value}
 use Rattle.gl_arrays.specs.Parts.{row}
-use Rattle.gl_arrays.proofs.Ranges.{flat_map_same, map_same, map_shift, get_or_rows}
+use Rattle.gl_arrays.proofs.Ranges.{flat_map_same, map_same, map_shift, get_or_rows, count_rows}
 
 pub size_of : (m n : ℕ) (s : Size) → m ≡ s.rows → n ≡ s.cols → size m n ≡ s
 size_of m n s e f = λ i. record { rows = e i; cols = f i }
@@ -37,7 +37,7 @@ table_large m n f h =
 
 -- ---- elements
 
-test_lt : (a b : ℕ) → a < b → nat_lt a b ≡ true
+pub test_lt : (a b : ℕ) → a < b → nat_lt a b ≡ true
 test_lt a b h = grind (arith, nat_tests)
 
 pub item_in : (s : Size) (xs : Scalars) (i j : ℕ) → i < s.rows → j < s.cols → item (Array s xs) i j ≡ get_or (items xs) (i * s.cols + j) (Scalar.Err ErrKind.Na)
@@ -64,9 +64,12 @@ cut_is (suc n) m ys d f e h =
     (λ i j p q. get_or-drop m ys (i * m + j) d ∙ (let z : m + (i * m + j) ≡ (1 + i) * m + j = grind arith in rw z (h (1 + i) j (omega arith) q)))
     ∙ sym (map_shift (λ i. map (f i) (range_with_len 0 m)) 1 0 1 n refl))
 
+pub rows_of : (s : Size) (xs : Scalars) → length (items xs) ≡ s.rows * s.cols → rows (Array s xs) ≡ map (row (Array s xs)) (range_with_len 0 s.rows)
+rows_of s xs h = cut_is s.rows s.cols (items xs) (Scalar.Err ErrKind.Na) (item (Array s xs)) h (λ i j p q. sym (item_in s xs i j p q))
+
 pub rows_are : (v : Value) → IsTrue (is_sound_value v) → rows v ≡ map (row v) (range_with_len 0 (shape v).rows)
 rows_are (One x) h = refl
-rows_are (Array s xs) h = cut_is s.rows s.cols (items xs) (Scalar.Err ErrKind.Na) (item (Array s xs)) (count s xs h) (λ i j p q. sym (item_in s xs i j p q))
+rows_are (Array s xs) h = rows_of s xs (count s xs h)
 
 flat_map_rows : (g : ℕ → List Scalar) (ks : List ℕ) → flat_map (λ r. r) (map g ks) ≡ flat_map g ks
 flat_map_rows g ks = flat_map-map (λ r. r) g ks
@@ -120,3 +123,33 @@ extents_small (Array s xs) h =
     let p = size_small s.rows s.cols (and_parts (is_size s) _ (and_parts (is_size s && _) (are_sound xs) h).0).0 in
     let swap : s.cols * s.rows ≤ 10000 = grind (arith, p.2) in
     (p.0, p.1, below_product s.rows s.cols 10000 p.1 p.2, below_product s.cols s.rows 10000 p.0 swap)
+
+pub cells_few : (v : Value) → IsTrue (is_sound_value v) → (shape v).rows * (shape v).cols ≤ 10000
+cells_few (One x) h = omega arith
+cells_few (Array s xs) h = (size_small s.rows s.cols (and_parts (is_size s) _ (and_parts (is_size s && _) (are_sound xs) h).0).0).2
+
+-- ---- the elements and the rows of a table
+
+items_scalars : (ys : List Scalar) → items (scalars ys) ≡ ys
+items_scalars [] = refl
+items_scalars (y ∷ ys) = ap (λ zs. y ∷ zs) (items_scalars ys)
+
+abbrev pub cells : ℕ → ℕ → (ℕ → ℕ → Scalar) → Scalars
+cells m n f = scalars (flat_map (λ i. map (f i) (range_with_len 0 n)) (range_with_len 0 m))
+
+pub small_table : (m n : ℕ) (f : ℕ → ℕ → Scalar) → is_small (size m n) ≡ true → table (size m n) f ≡ Array (size m n) (cells m n f)
+small_table m n f h = rw h refl
+
+pub table_item : (m n : ℕ) (f : ℕ → ℕ → Scalar) (i j : ℕ) → is_small (size m n) ≡ true → i < m → j < n → item (table (size m n) f) i j ≡ f i j
+table_item m n f i j h p q =
+    let z : 0 + i ≡ i = omega arith in
+    ap (λ v. item v i j) (small_table m n f h)
+    ∙ item_in (size m n) (cells m n f) i j p q
+    ∙ ap (λ ys. get_or ys (i * n + j) (Scalar.Err ErrKind.Na)) (items_scalars (flat_map (λ k. map (f k) (range_with_len 0 n)) (range_with_len 0 m)))
+    ∙ get_or_rows f n 0 m i j (Scalar.Err ErrKind.Na) p q
+    ∙ ap (λ k. f k j) z
+
+pub table_rows : (m n : ℕ) (f : ℕ → ℕ → Scalar) → is_small (size m n) ≡ true → rows (table (size m n) f) ≡ map (row (table (size m n) f)) (range_with_len 0 m)
+table_rows m n f h =
+    let same = small_table m n f h in
+    rw same (rows_of (size m n) (cells m n f) (ap length (items_scalars (flat_map (λ k. map (f k) (range_with_len 0 n)) (range_with_len 0 m))) ∙ count_rows f n 0 m))

@@ -9,7 +9,7 @@ use Rattle.gl_calculus.specs.Lift.{item, shape, rows}
 use Rattle.gl_calculus.specs.Functions.{kept, left_over, kept_part, left_over_part, take_last}
 use Rattle.gl_calculus.specs.Sound.{is_sound_value}
 use Rattle.gl_arrays.specs.Parts.{row, window, kept_start, kept_count, left_start, left_count}
-use Rattle.gl_arrays.proofs.Ranges.{map_same, map_shift, take_map, drop_map}
+use Rattle.gl_arrays.proofs.Ranges.{map_same, map_shift, map_map, take_map, drop_map}
 use Rattle.gl_arrays.proofs.Tables.{rows_are, beyond_rows, beyond_cols, extents_small}
 
 pub far_rows : (v : Value) (i j : ℕ) → IsTrue (is_sound_value v) → 65536 ≤ i → item v i j ≡ Scalar.Err ErrKind.Na
@@ -17,10 +17,6 @@ far_rows v i j h l = let e = extents_small v h in beyond_rows v i j (omega (arit
 
 pub far_cols : (v : Value) (i j : ℕ) → IsTrue (is_sound_value v) → 65536 ≤ j → item v i j ≡ Scalar.Err ErrKind.Na
 far_cols v i j h l = let e = extents_small v h in beyond_cols v i j (omega (arith, e.3))
-
-map_map : {X Y Z : Type 0} (f : Y → Z) (g : X → Y) (xs : List X) → map f (map g xs) ≡ map (λ x. f (g x)) xs
-map_map f g [] = refl
-map_map f g (x ∷ xs) = ap (λ ys. f (g x) ∷ ys) (map_map f g xs)
 
 -- the first so many, and those from a place on
 first_of : {X : Type 0} (g : ℕ → X) (r k m : ℕ) → m ≡ min k r → take k (map g (range_with_len 0 r)) ≡ map (λ i. g (0 + i)) (range_with_len 0 m)

@@ -1,10 +1,10 @@
 -- Places, rows and columns of a value.
-use Rattle.std.specs.Prelude.{ℕ, suc, ◌+◌, ◌-◌, ◌*◌, min, ℤ, pos, negsuc, nat_lt, Bool, ◌&&◌, Ok, Err, List, map}
+use Rattle.std.specs.Prelude.{ℕ, suc, ◌+◌, ◌-◌, ◌*◌, min, ℤ, pos, negsuc, nat_lt, Bool, ◌&&◌, Ok, Err, Option, None, Some, slice_get, List, map}
 use Rattle.std.specs.List.{range_with_len}
 use Rattle.gl_calculus.specs.ErrKind.{ErrKind}
 use Rattle.gl_calculus.specs.Value.{Scalar, Int, Value}
 use Rattle.gl_calculus.specs.Lift.{item, shape}
-use Rattle.gl_calculus.specs.Functions.{Try, when, is_column_beside}
+use Rattle.gl_calculus.specs.Functions.{Try, when, is_column_beside, keeps}
 
 -- a place within the extent
 abbrev pub within : ℕ → Try ℕ → Try ℕ
@@ -48,3 +48,16 @@ left_count (negsuc n) extent = extent - suc n
 -- m rows from row a on of n columns from column b on
 abbrev pub window : Value → ℕ → ℕ → ℕ → ℕ → List (List Scalar)
 window v a m b n = map (λ i. map (λ j. item v (a + i) (b + j)) (range_with_len 0 n)) (range_with_len 0 m)
+
+-- the row is kept: its first element is TRUE
+abbrev pub keeps_row : Value → ℕ → Bool
+keeps_row v i = keeps (item v i 0)
+
+-- the element in a column of the row, if there is one
+abbrev pub element_of : Value → Option ℕ → ℕ → Scalar
+element_of v None j = Scalar.Err ErrKind.Na
+element_of v (Some i) j = item v i j
+
+-- the element in a column of the row that is listed at a place
+abbrev pub picked : Value → List ℕ → ℕ → ℕ → Scalar
+picked v is i j = element_of v (slice_get is i) j
