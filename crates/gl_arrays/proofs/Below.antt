@@ -51,13 +51,13 @@ stack_rows (v ∷ vs) c h l =
     map-append (padded c) (rows v) (flat_map rows vs)
     ∙ ap (λ ys. map (padded c) ys ++ map (padded c) (flat_map rows vs)) h.0
     ∙ ap (λ ys. ys ++ map (padded c) (flat_map rows vs)) (
-      map_map (padded c) (row v) (range_with_len 0 r)
-      ∙ map_same (λ i. padded c (row v i)) f 0 r (λ i p q. padded_row v i c fits ∙ map_same (item v i) (below (v ∷ vs) i) 0 c (λ j a b. sym (below_first v vs i j (omega (arith, q)))))
+    map_map (padded c) (row v) (range_with_len 0 r)
+    ∙ map_same (λ i. padded c (row v i)) f 0 r (λ i p q. padded_row v i c fits ∙ map_same (item v i) (below (v ∷ vs) i) 0 c (λ j a b. sym (below_first v vs i j (omega (arith, q)))))
     )
     ∙ ap (λ ys. map f (range_with_len 0 r) ++ ys) (
-      stack_rows vs c h.1 others
-      ∙ map_same (λ i. map (below vs i) (range_with_len 0 c)) (λ i. f (r + i)) 0 t (λ i p q. map_same (below vs i) (below (v ∷ vs) (r + i)) 0 c (λ j a b. sym (below_rest v vs i j)))
-      ∙ sym (map_shift f r 0 (0 + r) t (omega arith))
+    stack_rows vs c h.1 others
+    ∙ map_same (λ i. map (below vs i) (range_with_len 0 c)) (λ i. f (r + i)) 0 t (λ i p q. map_same (below vs i) (below (v ∷ vs) (r + i)) 0 c (λ j a b. sym (below_rest v vs i j)))
+    ∙ sym (map_shift f r 0 (0 + r) t (omega arith))
     )
     ∙ sym (range_append f 0 r t)
 

@@ -6,3 +6,4 @@ pub mod Below
 pub mod Beside
 pub mod Listed
 pub mod NewRows
+pub mod Literals

@@ -33,9 +33,9 @@ listed v (k ∷ ks) =
     let n = (shape v).cols in
     let f = λ (i : ℕ). map (picked v (k ∷ ks) i) (range_with_len 0 n) in
     ap (λ rs. row v k ∷ rs) (
-      listed v ks
-      ∙ map_same (λ i. map (picked v ks i) (range_with_len 0 n)) (λ i. f (1 + i)) 0 (length ks) (λ i _ _. map_same (picked v ks i) (picked v (k ∷ ks) (1 + i)) 0 n (λ j _ _. sym (picked_rest v k ks i j)))
-      ∙ sym (map_shift f 1 0 1 (length ks) refl)
+    listed v ks
+    ∙ map_same (λ i. map (picked v ks i) (range_with_len 0 n)) (λ i. f (1 + i)) 0 (length ks) (λ i _ _. map_same (picked v ks i) (picked v (k ∷ ks) (1 + i)) 0 n (λ j _ _. sym (picked_rest v k ks i j)))
+    ∙ sym (map_shift f 1 0 1 (length ks) refl)
     )
 
 pub listed_table : (v : Value) (ks : List ℕ) → 0 < length ks → table (size (length ks) (shape v).cols) (picked v ks) ≡ from_rows (map (row v) ks)

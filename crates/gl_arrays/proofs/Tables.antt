@@ -54,8 +54,8 @@ cut_is zero m ys d f e h = refl
 cut_is (suc n) m ys d f e h =
     let enough : m ≤ length ys = grind arith in
     let first : take m ys ≡ map (f 0) (range_with_len 0 m) =
-        fill_by_all (f 0) (take m ys) m d (length-take-le m ys enough)
-        (λ k p. get_or-take m ys k d p ∙ (let z : zero * m + k ≡ k = grind arith in rw z at (h zero k (omega arith) p)))
+    fill_by_all (f 0) (take m ys) m d (length-take-le m ys enough)
+    (λ k p. get_or-take m ys k d p ∙ (let z : zero * m + k ≡ k = grind arith in rw z at (h zero k (omega arith) p)))
     in
     let rest : length (drop m ys) ≡ n * m = length-drop m ys ∙ grind arith in
     ap (λ r. r ∷ cut n m (drop m ys)) first

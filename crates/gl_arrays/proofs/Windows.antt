@@ -59,10 +59,10 @@ windows : (v : Value) (p : List (List Scalar) → List (List Scalar)) (q : List 
     → window v a m b n ≡ map q (p (rows v))
 windows v p q a m b n h e f =
     sym (
-      ap (λ rs. map q (p rs)) (rows_are v h)
-      ∙ ap (map q) e
-      ∙ map_map q (λ i. row v (a + i)) (range_with_len 0 m)
-      ∙ map_same (λ i. q (row v (a + i))) (λ i. map (λ j. item v (a + i) (b + j)) (range_with_len 0 n)) 0 m (λ i _ _. f (item v (a + i)))
+    ap (λ rs. map q (p rs)) (rows_are v h)
+    ∙ ap (map q) e
+    ∙ map_map q (λ i. row v (a + i)) (range_with_len 0 m)
+    ∙ map_same (λ i. q (row v (a + i))) (λ i. map (λ j. item v (a + i) (b + j)) (range_with_len 0 n)) 0 m (λ i _ _. f (item v (a + i)))
     )
 
 pub kept_window : (v : Value) (m n : ℤ) (r c a k b l : ℕ) → IsTrue (is_sound_value v) → r ≡ (shape v).rows → c ≡ (shape v).cols → a ≡ kept_start m r → k ≡ kept_count m r → b ≡ kept_start n c → l ≡ kept_count n c

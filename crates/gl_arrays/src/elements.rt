@@ -112,12 +112,7 @@ fn looked_up(x: &Scalar, keys: &Value, values: &Value) -> Result<Scalar, NoMemor
 /// come scalar errors of the keys and of the values, which must both have one column and equally
 /// many rows, or else the result is `#VALUE!`.
 #[tactic(auto, using(gl_value::specs::Forms::trees))]
-pub fn lookup(
-    _alloc: Global,
-    x: &Value,
-    keys: &Value,
-    values: &Value,
-) -> Result<Scalar, NoMemory>
+pub fn lookup(_alloc: Global, x: &Value, keys: &Value, values: &Value) -> Result<Scalar, NoMemory>
     requires sought { IsTrue (is_sound_value (value_tree x.now)) }
     requires keys { IsTrue (is_sound_value (value_tree keys.now)) }
     requires values { IsTrue (is_sound_value (value_tree values.now)) }

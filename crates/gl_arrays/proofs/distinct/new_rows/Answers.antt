@@ -29,18 +29,18 @@ loop-i-preserved c =
     let seen = list_any (same x) ks in
     let keys = c.in_ok-insert.ensures.keys in
     elim c.if-branch.branch [
-      then-branch+in_ok-push w ↦ (
+      | then-branch+in_ok-push w ↦ (
         (
-          let off = not_on seen c.in_ok-insert.field-0 c.in_ok-insert.ensures.added w.if-branch.true in
-          rw (w.new-is, w.in_ok-push.ensures.items) (row_added plain same (λ x y. same_rows x.items y.items) f ks after x c.loop-i.new.items c.loop-i.i n g c.loop-i-test.true c.in_ok-row_of.ensures off (rw off at keys) c.loop-i.invariant.0)
-        ),
+            let off = not_on seen c.in_ok-insert.field-0 c.in_ok-insert.ensures.added w.if-branch.true in
+            rw (w.new-is, w.in_ok-push.ensures.items) (row_added plain same (λ x y. same_rows x.items y.items) f ks after x c.loop-i.new.items c.loop-i.i n g c.loop-i-test.true c.in_ok-row_of.ensures off (rw off at keys) c.loop-i.invariant.0)
+            ),
         rw w.new-is (omega (arith, w.in_ok-push.ensures.len)),
       )
-    | else-branch w ↦ (
+      | else-branch w ↦ (
         (
-          let on = not_off seen c.in_ok-insert.field-0 c.in_ok-insert.ensures.added w.if-branch.false in
-          rw w.new-is (row_passed plain same (λ x y. same_rows x.items y.items) f ks after x c.loop-i.new.items c.loop-i.i n g c.loop-i-test.true c.in_ok-row_of.ensures on (rw on at keys) c.loop-i.invariant.0)
-        ),
+            let on = not_off seen c.in_ok-insert.field-0 c.in_ok-insert.ensures.added w.if-branch.false in
+            rw w.new-is (row_passed plain same (λ x y. same_rows x.items y.items) f ks after x c.loop-i.new.items c.loop-i.i n g c.loop-i-test.true c.in_ok-row_of.ensures on (rw on at keys) c.loop-i.invariant.0)
+            ),
         rw w.new-is (omega arith),
       )
     ]

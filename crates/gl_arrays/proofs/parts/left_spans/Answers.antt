@@ -15,6 +15,6 @@ returns c =
     let cols = c.left_over-2.ensures in
     let extents = c.extents-rows.ensures in
     let same =
-        left_window (value_tree c.args.v.now) c.in_ok-m.m c.in_ok-n.n _ _ _ _ _ _ c.requires extents.rows extents.cols (rw m at rows.start) (rw m at rows.count) (rw n at cols.start) (rw n at cols.count)
+    left_window (value_tree c.args.v.now) c.in_ok-m.m c.in_ok-n.n _ _ _ _ _ _ c.requires extents.rows extents.cols (rw m at rows.start) (rw m at rows.count) (rw n at cols.start) (rw n at cols.count)
     in
     rw (← c.in_ok-no_error.ensures, ← c.in_ok-m.ensures, ← c.in_ok-n.ensures) (ap (some_rows ErrKind.Value) same)

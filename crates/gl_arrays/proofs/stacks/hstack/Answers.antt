@@ -1,5 +1,4 @@
 use Rattle.std.proofs.Common.{◌≡◌, map, subst, arith, rules, IfOk}
-
 use Rattle.gl_value.specs.Forms.{scalar_tree-Err, value_tree-One}
 use Rattle.gl_value.specs.View.{value_tree}
 use Rattle.gl_arrays.specs.Stacks as S
