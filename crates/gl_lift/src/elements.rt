@@ -37,9 +37,9 @@ pub fn hull(s: (u16, u16), t: (u16, u16)) -> (u16, u16)
     (s.0.max(t.0), s.1.max(t.1))
 }
 
-/// The element at a row and a column.
+/// The element at a row and a column, from 0: `None` exactly beyond the extents.
 #[tactic(auto, using(gl_value::specs::Forms::trees))]
-fn element(v: &Value, i: u16, j: u16) -> Option<&Scalar>
+pub fn element(v: &Value, i: u16, j: u16) -> Option<&Scalar>
     requires { IsTrue (is_sound_value (value_tree v.now)) }
     ensures sound { IfSome result (λ x. IsSound x) }
     ensures value { option_map scalar_tree (option_copied result) ≡ present (value_tree v.now) i j }

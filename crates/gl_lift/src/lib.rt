@@ -1,8 +1,8 @@
 //! Operators on scalars, lifted to values: element by element, where an extent of 1 repeats.
 #![tactic(auto)]
 
+mod build;
 mod elements;
-mod table;
 mod tables;
 #[cfg(test)]
 mod tests;
@@ -14,6 +14,8 @@ ghost use Rattle.gl_calculus.specs.Sound.{is_sound_value};
 ghost use Rattle.gl_value.specs.View.{value_tree};
 ghost use Rattle.gl_lift.specs.Rules.{Computes1, Computes2, Computes3, AnswersSound1, AnswersSound2, AnswersSound3};
 
+pub use build::table;
+pub use elements::{element, extents};
 use gl_plane::NoMemory;
 use gl_value::{Scalar, Value};
 use std::alloc::Global;

@@ -2,7 +2,7 @@ use Rattle.std.proofs.Common.{arith, map}
 use Rattle.gl_value.specs.View.{scalar_tree}
 use Rattle.gl_lift.proofs.Rows.{element_more}
 use Rattle.gl_lift.proofs.Soundness.{sound_more}
-use Rattle.gl_lift.proofs.table.push_row.Goals as goal
+use Rattle.gl_lift.proofs.build.push_row.Goals as goal
 
 pub loop-j-preserved : goal.loop-j-preserved
 loop-j-preserved g c = (

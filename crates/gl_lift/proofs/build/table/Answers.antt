@@ -4,7 +4,7 @@ use Rattle.gl_calculus.specs.Grid.{size}
 use Rattle.gl_value.specs.Forms.{value_tree-Array}
 use Rattle.gl_lift.proofs.Rows.{row_more, table_is}
 use Rattle.gl_lift.proofs.Soundness.{array_is_sound}
-use Rattle.gl_lift.proofs.table.table.Goals as goal
+use Rattle.gl_lift.proofs.build.table.Goals as goal
 
 pub loop-i-preserved : goal.loop-i-preserved
 loop-i-preserved g c = (

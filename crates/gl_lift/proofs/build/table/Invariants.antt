@@ -4,7 +4,7 @@ use Rattle.gl_calculus.specs.Value as V
 use Rattle.gl_value.specs.View.{scalar_tree, item_trees}
 use Rattle.gl_calculus.specs.Sound.{are_sound}
 use Rattle.gl_lift.specs.Rules.{ComputesAt, AnswersSoundAt}
-use Rattle.gl_lift.proofs.table.table.Given as goal
+use Rattle.gl_lift.proofs.build.table.Given as goal
 
 abbrev pub invariant-loop-i : goal.invariant-loop-i
 invariant-loop-i g l =

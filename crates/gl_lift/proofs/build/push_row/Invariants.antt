@@ -4,7 +4,7 @@ use Rattle.gl_calculus.specs.Value as V
 use Rattle.gl_value.specs.View.{scalar_tree, item_trees}
 use Rattle.gl_calculus.specs.Sound.{are_sound}
 use Rattle.gl_lift.specs.Rules.{ComputesAt, AnswersSoundAt}
-use Rattle.gl_lift.proofs.table.push_row.Given as goal
+use Rattle.gl_lift.proofs.build.push_row.Given as goal
 
 abbrev pub invariant-loop-j : goal.invariant-loop-j
 invariant-loop-j g l =
