@@ -1,5 +1,5 @@
 -- The characters of plain texts.
-use Rattle.std.proofs.Common.{◌≡◌, ℕ, zero, suc, ◌+◌, ◌-◌, ◌*◌, ◌^◌, ◌/◌, ◌%◌, ◌<◌, ◌≤◌, ℤ, pos, List, [], ◌∷◌, ◌++◌, length, take, drop, true, false, refl, sym, ap, ◌∙◌, arith, FitsSigned, nat_le, IsTrue, codes, length-append, take-append-drop, encode_utf8_all}
+use Rattle.std.proofs.Common.{◌≡◌, ℕ, zero, suc, ◌+◌, ◌-◌, ◌*◌, ◌^◌, ◌/◌, ◌%◌, ◌<◌, ◌≤◌, ℤ, pos, List, [], ◌∷◌, ◌++◌, length, take, drop, true, false, refl, arith, FitsSigned, IsTrue, length-append, take-append-drop, encode_utf8_all}
 use Rattle.std.proofs.lemmas.Fmt.{decimal_by_steps, IsAscii-signed, length_signed_le}
 use Rattle.std.proofs.lemmas.Nat.{le-div, div_below}
 use Rattle.std.proofs.lemmas.Str.{chars-nil, chars-IsAscii, encodes-append, encodes-chars}

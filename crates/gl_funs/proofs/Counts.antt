@@ -1,9 +1,9 @@
 -- How many elements values have.
-use Rattle.std.proofs.Common.{◌≡◌, ℕ, ◌+◌, ◌*◌, ◌≤◌, ◌==◌, Bool, true, ◌&&◌, nat_le, nat_lt, List, [], ◌∷◌, ◌++◌, length, map, Option, Some, None, ℤ, arith, IsTrue, length-append, refl, sym}
+use Rattle.std.proofs.Common.{◌≡◌, ℕ, ◌*◌, ◌≤◌, ◌==◌, true, ◌&&◌, nat_le, nat_lt, List, [], ◌∷◌, length, arith, IsTrue, length-append}
 use Rattle.std.proofs.lemmas.Bool.{and_parts, eqb-true}
 use Rattle.std.proofs.lemmas.Bool.Decides.{nat_tests}
 use Rattle.std.proofs.lemmas.List.Elements.{All-head, All-tail}
-use Rattle.std.specs.List.{All, filter_map, cons_option}
+use Rattle.std.specs.List.{filter_map}
 use Rattle.gl_calculus.specs.Functions.{whole_number}
 use Rattle.gl_calculus.specs.Sound.{is_size, are_sound, is_sound_value}
 use Rattle.gl_calculus.specs.Value as V

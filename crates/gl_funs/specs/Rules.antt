@@ -1,5 +1,5 @@
 -- The functions taken apart as the code takes them.
-use Rattle.std.specs.Prelude.{ℕ, ℤ, pos, ◌+ℤ◌, Bool, ◌&&◌, ◌||◌, List, [], ◌∷◌, fold, filter_map, Option, Some, None, encode_utf8_all, chars}
+use Rattle.std.specs.Prelude.{ℕ, ℤ, pos, ◌+ℤ◌, Bool, List, fold, filter_map, Option, Some, None, encode_utf8_all, chars}
 use Rattle.gl_calculus.specs.ErrKind.{ErrKind}
 use Rattle.gl_calculus.specs.Value.{Scalar, Int, Text}
 use Rattle.gl_calculus.specs.Operators.{exact, plain}

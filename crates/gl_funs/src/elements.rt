@@ -58,13 +58,7 @@ fn element(v: &Value, k: usize) -> Option<&Scalar>
     ensures { option_map scalar_tree (option_copied result) ≡ slice_get (elements (value_tree v.now)) k }
 {
     match v {
-        Value::One(x) => {
-            if k == 0 {
-                Some(x)
-            } else {
-                None
-            }
-        }
+        Value::One(x) => { if k == 0 { Some(x) } else { None } }
         Value::Array(a) => item(a, k),
     }
 }

@@ -8,6 +8,8 @@
 mod elements;
 mod numbers;
 mod operands;
+#[cfg(test)]
+mod tests;
 mod texts;
 mod truths;
 

@@ -1,7 +1,5 @@
-use Rattle.std.proofs.Common.{◌≡◌, ◌+◌, ◌≤◌, length, arith}
-use Rattle.std.specs.List.{filter_map}
-use Rattle.gl_calculus.specs.Functions as F
-use Rattle.gl_funs.specs.Elements.{elements_of, elements_past}
+use Rattle.std.proofs.Common.{arith}
+use Rattle.gl_funs.specs.Elements.{elements_of}
 use Rattle.gl_funs.proofs.Counts.{elements_few, numbers_few}
 use Rattle.gl_funs.proofs.Folds.{count_more}
 use Rattle.gl_funs.proofs.numbers.count.Goals as goal

@@ -1,7 +1,7 @@
-use Rattle.std.proofs.Common.{◌≡◌, ◌+◌, ◌*◌, ◌^◌, ◌≤◌, length, unsigned_abs}
+use Rattle.std.proofs.Common.{◌≡◌}
 use Rattle.gl_calculus.specs.Functions as F
 use Rattle.gl_funs.specs.Elements.{elements_of, elements_past}
-use Rattle.gl_funs.specs.Rules.{total_from, extreme_from}
+use Rattle.gl_funs.specs.Rules.{extreme_from}
 use Rattle.gl_funs.proofs.numbers.greatest.Given as goal
 
 abbrev pub invariant-loop-x : goal.invariant-loop-x

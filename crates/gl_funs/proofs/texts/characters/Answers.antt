@@ -1,4 +1,4 @@
-use Rattle.std.proofs.Common.{◌≡◌, ◌≤◌, ◌<◌, length, arith, rules}
+use Rattle.std.proofs.Common.{◌≡◌, ◌≤◌, length, arith, rules}
 use Rattle.std.proofs.lemmas.Str.{chars_from_encodes, encodes-chars, length-le-encodes}
 use Rattle.std.specs.Str.{chars}
 use Rattle.gl_funs.proofs.texts.characters.Goals as goal

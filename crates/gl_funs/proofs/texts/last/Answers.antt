@@ -1,4 +1,4 @@
-use Rattle.std.proofs.Common.{◌≡◌, ◌-◌, ◌∙◌, ap, subst, drop, length, encode_utf8_all, string_bytes, IfOk}
+use Rattle.std.proofs.Common.{◌≡◌, ◌-◌, ◌∙◌, ap, subst, length, encode_utf8_all, string_bytes, IfOk}
 use Rattle.std.proofs.lemmas.Iterator.{YieldsList-from_chars, text_from_collect}
 use Rattle.std.proofs.lemmas.Iterator.Adapters.{YieldsList-from_skip}
 use Rattle.std.specs.Str.{chars}

@@ -1,4 +1,4 @@
-use Rattle.std.proofs.Common.{◌≡◌, ◌∙◌, pos, length, true, false, ap, refl, FitsSigned, arith, rules}
+use Rattle.std.proofs.Common.{◌≡◌, ◌∙◌, length, true, false, ap, refl, FitsSigned, rules}
 use Rattle.std.proofs.lemmas.Int.{to_z-of_z, to_z_pos}
 use Rattle.std.specs.Fmt.{signed_decimal}
 use Rattle.std.specs.Int.{w64}

@@ -1,4 +1,4 @@
-use Rattle.std.proofs.Common.{◌≡◌, ◌&&◌, ◌||◌}
+use Rattle.std.proofs.Common.{◌≡◌, ◌||◌}
 use Rattle.gl_calculus.specs.Functions as F
 use Rattle.gl_funs.specs.Elements.{elements_of, elements_past}
 use Rattle.gl_funs.specs.Rules.{verdict_from}

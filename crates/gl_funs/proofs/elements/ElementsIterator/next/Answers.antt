@@ -1,8 +1,7 @@
-use Rattle.std.proofs.Common.{rules, ◌≡◌, ◌∙◌, ◌<◌, length, arith, IsTrue}
+use Rattle.std.proofs.Common.{◌∙◌, IsTrue}
 use Rattle.std.proofs.lemmas.List.Elements.{All-rest}
 use Rattle.gl_calculus.specs.Sound.{is_sound_value}
-use Rattle.gl_value.specs.View.{scalar_tree, value_tree}
-use Rattle.gl_funs.specs.Elements.{AreSound, elements_past}
+use Rattle.gl_value.specs.View.{value_tree}
 use Rattle.gl_funs.proofs.Items.{one_given, next_value, longer}
 use Rattle.gl_funs.proofs.elements.ElementsIterator.next.Goals as goal
 
