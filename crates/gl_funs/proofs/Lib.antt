@@ -1,0 +1,5 @@
+pub mod Characters
+pub mod Counts
+pub mod Folds
+pub mod Items
+pub mod Remainders

@@ -1,0 +1,11 @@
+use Rattle.std.proofs.Common.{◌≡◌, ◌&&◌}
+use Rattle.gl_calculus.specs.Functions as F
+use Rattle.gl_funs.specs.Elements.{elements_of, elements_past}
+use Rattle.gl_funs.specs.Rules.{verdict_from}
+use Rattle.gl_funs.proofs.truths.all.Given as goal
+
+abbrev pub invariant-loop-x : goal.invariant-loop-x
+invariant-loop-x l =
+    (goal.iterator-loop-x).can_next l.x-iterator
+    × (goal.iterator-loop-x).is_finite l.x-iterator
+    × (F.verdict F.all_true (elements_of l.values) ≡ verdict_from ◌&&◌ F.all_true l.verdict (elements_past l.x-iterator.given l.x-iterator.values.now))

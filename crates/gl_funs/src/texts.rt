@@ -1,0 +1,166 @@
+//! LEN, LEFT and RIGHT, by characters, which are Unicode scalar values.
+ghost use Rattle.std.specs.Prelude.{◌≡◌, ◌≤◌, ◌<◌, ◌^◌, IsTrue, IfOk, take, length, chars, encode_utf8_all, string_bytes};
+ghost use Rattle.std.specs.Fmt.{decimal, signed_decimal};
+ghost use Rattle.std.specs.Rc.{rc_str_bytes};
+ghost use Rattle.gl_calculus.specs.Functions as F;
+ghost use Rattle.gl_calculus.specs.Operators as O;
+ghost use Rattle.gl_calculus.specs.Sound.{is_sound_scalar};
+ghost use Rattle.gl_value.specs.View.{scalar_tree};
+ghost use Rattle.gl_funs.specs.Rules.{natural, part_text};
+
+use crate::operands::{amount, fault};
+use gl_plane::NoMemory;
+use gl_value::{ErrKind, Scalar};
+use std::alloc::Global;
+use std::rc::RcStr;
+
+/// How many characters the plain text of a scalar has. An error passes, and a sheet value gives
+/// `#VALUE!`.
+#[tactic(auto, using(gl_value::specs::Forms::trees))]
+pub fn len(x: &Scalar) -> Scalar
+    ensures value { scalar_tree result ≡ F.text_length (scalar_tree x.now) }
+    ensures sound { IsTrue (is_sound_scalar (scalar_tree result)) }
+{
+    match x {
+        Scalar::Blank => Scalar::Int(0),
+        Scalar::Int(n) => Scalar::Int(i64::from(decimal_len(*n))),
+        Scalar::Bool(true) => Scalar::Int(4),
+        Scalar::Bool(false) => Scalar::Int(5),
+        Scalar::Text(t) => Scalar::Int(characters(t.as_str()) as i64),
+        Scalar::Err(kind) => Scalar::Err(*kind),
+        Scalar::Sheet(_) => Scalar::Err(ErrKind::Value),
+    }
+}
+
+/// How many characters a number has in decimal, with its sign.
+fn decimal_len(n: i64) -> u32
+    ensures { result ≡ length (signed_decimal n) }
+{
+    let digits = digits(n.unsigned_abs());
+    if n < 0 { digits + 1 } else { digits }
+}
+
+/// How many digits a number has.
+fn digits(n: u64) -> u32
+    ensures digits { result ≡ length (decimal n) }
+    ensures few { result ≤ 20 }
+{
+    match n.checked_ilog10() {
+        Some(power) => power + 1,
+        None => 1,
+    }
+}
+
+/// The first characters of the plain text of a scalar, all where it has fewer.
+///
+/// An error of the first operand is the result, else one of the second. A sheet value, or a second
+/// operand that is no number or is negative, gives `#VALUE!`; a blank counts as 0.
+#[tactic(auto, using(gl_value::specs::Forms::trees))]
+pub fn left(alloc: Global, x: &Scalar, n: &Scalar) -> Result<Scalar, NoMemory>
+    ensures value { IfOk result (λ z. scalar_tree z ≡ F.text_part take (scalar_tree x.now) (scalar_tree n.now)) }
+    ensures sound { IsTrue (is_sound_scalar (scalar_tree x.now)) → IfOk result (λ z. IsTrue (is_sound_scalar (scalar_tree z))) }
+{
+    if let Some(kind) = fault(x, n) {
+        return Ok(Scalar::Err(kind));
+    }
+    match natural(n) {
+        Some(n) => first_part(alloc, x, n),
+        None => Ok(Scalar::Err(ErrKind::Value)),
+    }
+}
+
+/// The last characters of the plain text of a scalar, all where it has fewer. Errors are those of
+/// `left`.
+#[tactic(auto, using(gl_value::specs::Forms::trees))]
+pub fn right(alloc: Global, x: &Scalar, n: &Scalar) -> Result<Scalar, NoMemory>
+    ensures value { IfOk result (λ z. scalar_tree z ≡ F.text_part F.take_last (scalar_tree x.now) (scalar_tree n.now)) }
+    ensures sound { IsTrue (is_sound_scalar (scalar_tree x.now)) → IfOk result (λ z. IsTrue (is_sound_scalar (scalar_tree z))) }
+{
+    if let Some(kind) = fault(x, n) {
+        return Ok(Scalar::Err(kind));
+    }
+    match natural(n) {
+        Some(n) => last_part(alloc, x, n),
+        None => Ok(Scalar::Err(ErrKind::Value)),
+    }
+}
+
+/// The number of an operand, where it has one that is not negative.
+fn natural(n: &Scalar) -> Option<usize>
+    ensures { result ≡ natural (O.amount (scalar_tree n.now)) }
+{
+    match amount(n) {
+        Some(n) => usize::try_from(n).ok(),
+        None => None,
+    }
+}
+
+/// The first characters of the plain text of a scalar.
+#[tactic(auto, using(gl_value::specs::Forms::trees))]
+fn first_part(alloc: Global, x: &Scalar, n: usize) -> Result<Scalar, NoMemory>
+    ensures value { IfOk result (λ z. scalar_tree z ≡ part_text (take n) (scalar_tree x.now)) }
+    ensures sound { IsTrue (is_sound_scalar (scalar_tree x.now)) → IfOk result (λ z. IsTrue (is_sound_scalar (scalar_tree z))) }
+{
+    let text = plain(alloc, x)?;
+    let part = first(alloc, text.as_str(), n)?;
+    Ok(Scalar::Text(RcStr::from_string(part)?))
+}
+
+/// The last characters of the plain text of a scalar.
+#[tactic(auto, using(gl_value::specs::Forms::trees))]
+fn last_part(alloc: Global, x: &Scalar, n: usize) -> Result<Scalar, NoMemory>
+    ensures value { IfOk result (λ z. scalar_tree z ≡ part_text (F.take_last n) (scalar_tree x.now)) }
+    ensures sound { IsTrue (is_sound_scalar (scalar_tree x.now)) → IfOk result (λ z. IsTrue (is_sound_scalar (scalar_tree z))) }
+{
+    let text = plain(alloc, x)?;
+    let part = last(alloc, text.as_str(), n)?;
+    Ok(Scalar::Text(RcStr::from_string(part)?))
+}
+
+/// The first characters of a text.
+fn first(alloc: Global, text: &str, n: usize) -> Result<String, NoMemory>
+    ensures { IfOk result (λ s. string_bytes s ≡ encode_utf8_all (take n (chars text.now))) }
+{
+    let part: String = text.chars().take(n).collect(alloc)?;
+    Ok(part)
+}
+
+/// The last characters of a text.
+fn last(alloc: Global, text: &str, n: usize) -> Result<String, NoMemory>
+    ensures { IfOk result (λ s. string_bytes s ≡ encode_utf8_all (F.take_last n (chars text.now))) }
+{
+    let others = characters(text).saturating_sub(n);
+    let part: String = text.chars().skip(others).collect(alloc)?;
+    Ok(part)
+}
+
+/// How many characters a text has.
+fn characters(text: &str) -> usize
+    ensures count { result ≡ length (chars text.now) }
+    ensures few { result < 2 ^ 63 }
+{
+    text.chars().count()
+}
+
+/// The plain text of a scalar, which is empty where it has none.
+#[tactic(auto, using(gl_value::specs::Forms::trees))]
+fn plain(alloc: Global, x: &Scalar) -> Result<RcStr, NoMemory>
+    ensures value { IfOk result (λ t. rc_str_bytes t ≡ O.plain (scalar_tree x.now)) }
+    ensures sound { IsTrue (is_sound_scalar (scalar_tree x.now)) → IfOk result (λ t. length (rc_str_bytes t) ≤ 4096) }
+{
+    match x {
+        Scalar::Int(n) => integer_text(alloc, *n),
+        Scalar::Bool(true) => Ok(RcStr::from_str(alloc, "TRUE")?),
+        Scalar::Bool(false) => Ok(RcStr::from_str(alloc, "FALSE")?),
+        Scalar::Text(t) => Ok(t.clone()?),
+        _ => Ok(RcStr::from_str(alloc, "")?),
+    }
+}
+
+/// A number in decimal.
+fn integer_text(alloc: Global, n: i64) -> Result<RcStr, NoMemory>
+    ensures value { IfOk result (λ t. rc_str_bytes t ≡ signed_decimal n) }
+    ensures short { IfOk result (λ t. length (rc_str_bytes t) ≤ 4096) }
+{
+    Ok(RcStr::from_string(n.to_string(alloc)?)?)
+}
