@@ -8,8 +8,8 @@ ghost use Rattle.gl_value.specs.View.{value_tree};
 ghost use Rattle.gl_lift.specs.Elements.{paired, tripled};
 ghost use Rattle.gl_lift.specs.Rules.{Computes1, Computes2, Computes3, AnswersSound1, AnswersSound2, AnswersSound3};
 
-use crate::elements::{extents, hull, pair, single, triple};
 use crate::build::table;
+use crate::elements::{extents, hull, pair, single, triple};
 use gl_plane::NoMemory;
 use gl_value::{Scalar, Value};
 use std::alloc::Global;
