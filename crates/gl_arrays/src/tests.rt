@@ -6,44 +6,40 @@ use crate::{
     drop_part, extent_columns, extent_rows, filter, hstack, index, lookup, sequence, take,
     transpose, unique, vstack,
 };
+use Argument::{Blank, Na, Num, Number, True};
 use gl_plane::NoMemory;
 use gl_value::{ErrKind, Scalar, Value};
 use std::alloc::Global;
 use std::test::Fail;
 
-#[tactic(auto, using(gl_value::specs::Forms::trees))]
-fn int(n: i64) -> Value
-    ensures { IsTrue (is_sound_value (value_tree result)) }
-{
-    Value::One(Scalar::Int(n))
+/// A scalar argument.
+#[derive(Clone, Copy, Debug)]
+enum Argument {
+    Number(i64),
+    True,
+    Blank,
+    Num,
+    Na,
 }
 
 #[tactic(auto, using(gl_value::specs::Forms::trees))]
-fn truth(b: bool) -> Value
+fn value(a: Argument) -> Value
     ensures { IsTrue (is_sound_value (value_tree result)) }
 {
-    Value::One(Scalar::Bool(b))
-}
-
-#[tactic(auto, using(gl_value::specs::Forms::trees))]
-fn blank() -> Value
-    ensures { IsTrue (is_sound_value (value_tree result)) }
-{
-    Value::One(Scalar::Blank)
-}
-
-#[tactic(auto, using(gl_value::specs::Forms::trees))]
-fn error(k: ErrKind) -> Value
-    ensures { IsTrue (is_sound_value (value_tree result)) }
-{
-    Value::One(Scalar::Err(k))
+    match a {
+        Argument::Number(n) => Value::One(Scalar::Int(n)),
+        Argument::True => Value::One(Scalar::Bool(true)),
+        Argument::Blank => Value::One(Scalar::Blank),
+        Argument::Num => Value::One(Scalar::Err(ErrKind::Num)),
+        Argument::Na => Value::One(Scalar::Err(ErrKind::Na)),
+    }
 }
 
 /// The array of so many rows and columns of 1, 2 and so on.
 fn counted(alloc: Global, m: i64, n: i64) -> Result<Value, NoMemory>
     ensures { IfOk result (λ r. IsTrue (is_sound_value (value_tree r))) }
 {
-    sequence(alloc, &int(m), &int(n))
+    sequence(alloc, &value(Number(m)), &value(Number(n)))
 }
 
 fn below(alloc: Global, u: Value, v: Value) -> Result<Value, NoMemory>
@@ -60,6 +56,14 @@ fn beside(alloc: Global, u: Value, v: Value) -> Result<Value, NoMemory>
     ensures { IfOk result (λ r. IsTrue (is_sound_value (value_tree r))) }
 {
     hstack(alloc, &[u, v])
+}
+
+/// Three scalars, one under the other.
+fn column(alloc: Global, a: Argument, b: Argument, c: Argument) -> Result<Value, NoMemory>
+    ensures { IfOk result (λ r. IsTrue (is_sound_value (value_tree r))) }
+{
+    let two = below(alloc, value(a), value(b))?;
+    below(alloc, two, value(c))
 }
 
 /// A scalar as a number: an error by its place from -1 down, a blank as -10.
@@ -98,118 +102,128 @@ fn size(v: &Value) -> (u16, u16) {
 
 #[test]
 fn sequences(rt: HostRuntime) -> Result<(), Fail> {
-    let alloc = rt.alloc();
     for (m, n, extents, first) in [
-        (2i64, 3i64, (2u16, 3u16), 1i64),
-        (10_000, 1, (10_000, 1), 1),
-        (1, 10_000, (1, 10_000), 1),
-        (10_001, 1, (0, 0), -4),
-        (101, 100, (0, 0), -4),
-        (i64::MAX, i64::MAX, (0, 0), -4),
-        (0, 20_000, (0, 0), -2),
-        (3, -1, (0, 0), -2),
+        (Number(2), Number(3), (2u16, 3u16), 1i64),
+        (Number(10_000), Number(1), (10_000, 1), 1),
+        (Number(10_001), Number(1), (0, 0), -4),
+        (Number(101), Number(100), (0, 0), -4),
+        (Number(i64::MAX), Number(i64::MAX), (0, 0), -4),
+        (Number(0), Number(20_000), (0, 0), -2),
+        (Number(3), Blank, (0, 0), -2),
+        (Num, Na, (0, 0), -5),
+        (True, Na, (0, 0), -2),
     ] {
-        let v = counted(alloc, m, n)?;
-        assert_eq!(rt; (size(&v), at(&v, 0, 0)), (extents, first), "of {m} {n}");
+        let v = sequence(rt.alloc(), &value(m), &value(n))?;
+        assert_eq!(rt;
+            (size(&v), at(&v, 0, 0)),
+            (extents, first),
+            "of {m:?} {n:?}"
+        );
     }
-    let v = counted(alloc, 2, 3)?;
-    let w = transpose(alloc, &v)?;
-    assert_eq!(rt;
-        (size(&w), code(&extent_rows(&w)), code(&extent_columns(&w))),
-        ((3, 2), 3, 2)
-    );
+    Ok(())
+}
+
+#[test]
+fn rows_and_columns(rt: HostRuntime) -> Result<(), Fail> {
+    let v = counted(rt.alloc(), 2, 3)?;
+    let w = transpose(rt.alloc(), &v)?;
     for (i, j, n) in [(0u16, 1u16, 2i64), (1, 0, 4), (1, 2, 6)] {
         assert_eq!(rt; (at(&v, i, j), at(&w, j, i)), (n, n), "at {i} {j}");
     }
-    let first = sequence(alloc, &error(ErrKind::Num), &error(ErrKind::Na))?;
-    assert_eq!(rt; at(&first, 0, 0), -5);
-    assert_eq!(rt; at(&sequence(alloc, &v, &int(1))?, 0, 0), -2);
-    assert_eq!(rt; at(&transpose(alloc, &error(ErrKind::Num))?, 0, 0), -5);
-    assert_eq!(rt;
-        (
-            code(&extent_rows(&blank())),
-            code(&extent_columns(&error(ErrKind::Na)))
-        ),
-        (1, -3)
-    );
+    assert_eq!(rt; (code(&extent_rows(&w)), code(&extent_columns(&w))), (3, 2));
+    for (a, n, own) in [(Blank, 1i64, -10i64), (Na, -3, -3)] {
+        let x = value(a);
+        assert_eq!(rt; (code(&extent_rows(&x)), code(&extent_columns(&x))), (n, n));
+        assert_eq!(rt; at(&transpose(rt.alloc(), &x)?, 0, 0), own);
+    }
     Ok(())
 }
 
 #[test]
-fn elements(rt: HostRuntime) -> Result<(), Fail> {
-    let alloc = rt.alloc();
-    let v = counted(alloc, 2, 2)?;
+fn indexes(rt: HostRuntime) -> Result<(), Fail> {
+    let v = counted(rt.alloc(), 2, 2)?;
     for (r, c, n) in [
-        (1i64, 1i64, 1i64),
-        (1, 2, 2),
-        (2, 1, 3),
-        (3, 1, -1),
-        (1, 3, -1),
-        (0, 1, -1),
-        (1, -1, -1),
-        (65_537, 1, -1),
+        (Number(1), Number(1), 1i64),
+        (Number(1), Number(2), 2),
+        (Number(2), Number(1), 3),
+        (Number(3), Number(1), -1),
+        (Number(1), Number(3), -1),
+        (Blank, Number(1), -1),
+        (Number(65_537), Number(1), -1),
+        (Num, Na, -5),
+        (Number(9), Na, -3),
+        (True, Na, -2),
     ] {
-        assert_eq!(rt; code(&index(alloc, &v, &int(r), &int(c))?), n, "at {r} {c}");
+        let x = index(rt.alloc(), &v, &value(r), &value(c))?;
+        assert_eq!(rt; code(&x), n, "at {r:?} {c:?}");
     }
-    let (num, na) = (error(ErrKind::Num), error(ErrKind::Na));
-    assert_eq!(rt; code(&index(alloc, &na, &num, &int(1))?), -3);
-    assert_eq!(rt; code(&index(alloc, &v, &num, &na)?), -5);
-    assert_eq!(rt; code(&index(alloc, &v, &int(9), &na)?), -3);
-    assert_eq!(rt; code(&index(alloc, &v, &blank(), &v)?), -2);
-    assert_eq!(rt; code(&index(alloc, &int(7), &int(1), &int(1))?), 7);
-
-    let keys = below(alloc, below(alloc, int(5), blank())?, int(5))?;
-    let values = counted(alloc, 3, 1)?;
-    for (x, n) in [(5i64, 1i64), (0, 2), (6, -3)] {
-        assert_eq!(rt; code(&lookup(alloc, &int(x), &keys, &values)?), n, "of {x}");
-    }
-    assert_eq!(rt; code(&lookup(alloc, &blank(), &keys, &values)?), 2);
-    assert_eq!(rt; code(&lookup(alloc, &keys, &na, &values)?), -2);
-    assert_eq!(rt; code(&lookup(alloc, &int(5), &na, &num)?), -3);
-    assert_eq!(rt; code(&lookup(alloc, &int(5), &v, &v)?), -2);
-    assert_eq!(rt; code(&lookup(alloc, &int(5), &keys, &v)?), -2);
+    let x = index(rt.alloc(), &value(Na), &value(Num), &v)?;
+    assert_eq!(rt; code(&x), -3);
     Ok(())
 }
 
 #[test]
-fn parts(rt: HostRuntime) -> Result<(), Fail> {
-    let alloc = rt.alloc();
-    let v = counted(alloc, 3, 3)?;
-    for (m, n, extents, first) in [
-        (2i64, -1i64, (2u16, 1u16), 3i64),
-        (-2, 9, (2, 3), 4),
-        (i64::MIN, i64::MAX, (3, 3), 1),
-        (0, 1, (0, 0), -2),
-        (1, 0, (0, 0), -2),
+fn lookups(rt: HostRuntime) -> Result<(), Fail> {
+    let keys = column(rt.alloc(), Number(5), Blank, Number(5))?;
+    let values = counted(rt.alloc(), 3, 1)?;
+    for (x, n) in [
+        (Number(5), 1i64),
+        (Number(0), 2),
+        (Blank, 2),
+        (Number(6), -3),
+        (Num, -5),
     ] {
-        let w = take(alloc, &v, &int(m), &int(n))?;
-        assert_eq!(rt; (size(&w), at(&w, 0, 0)), (extents, first), "take {m} {n}");
+        let y = lookup(rt.alloc(), &value(x), &keys, &values)?;
+        assert_eq!(rt; code(&y), n, "of {x:?}");
     }
+    let y = lookup(rt.alloc(), &keys, &value(Na), &values)?;
+    assert_eq!(rt; code(&y), -2);
+    let z = lookup(rt.alloc(), &value(Blank), &value(Na), &value(Num))?;
+    assert_eq!(rt; code(&z), -3);
+    Ok(())
+}
+
+#[test]
+fn parts_taken(rt: HostRuntime) -> Result<(), Fail> {
+    let v = counted(rt.alloc(), 3, 3)?;
     for (m, n, extents, first) in [
-        (1i64, -2i64, (2u16, 1u16), 4i64),
-        (0, 0, (3, 3), 1),
-        (-1, 1, (2, 2), 2),
-        (3, 0, (0, 0), -2),
-        (0, -3, (0, 0), -2),
-        (i64::MIN, 0, (0, 0), -2),
+        (Number(2), Number(-1), (2u16, 1u16), 3i64),
+        (Number(-2), Number(9), (2, 3), 4),
+        (Number(i64::MIN), Number(i64::MAX), (3, 3), 1),
+        (Blank, Number(1), (0, 0), -2),
+        (Number(1), Number(0), (0, 0), -2),
+        (Number(0), Num, (0, 0), -5),
     ] {
-        let w = drop_part(alloc, &v, &int(m), &int(n))?;
-        assert_eq!(rt; (size(&w), at(&w, 0, 0)), (extents, first), "drop {m} {n}");
+        let w = take(rt.alloc(), &v, &value(m), &value(n))?;
+        assert_eq!(rt; (size(&w), at(&w, 0, 0)), (extents, first), "{m:?} {n:?}");
     }
-    let one = take(alloc, &int(7), &int(1), &int(-1))?;
-    assert_eq!(rt; (size(&one), at(&one, 0, 0)), ((1, 1), 7));
-    let same = drop_part(alloc, &int(7), &blank(), &blank())?;
-    assert_eq!(rt; (size(&same), at(&same, 0, 0)), ((1, 1), 7));
-    let first = take(alloc, &error(ErrKind::Div0), &error(ErrKind::Num), &int(1))?;
-    assert_eq!(rt; at(&first, 0, 0), -6);
+    Ok(())
+}
+
+#[test]
+fn parts_left(rt: HostRuntime) -> Result<(), Fail> {
+    let v = counted(rt.alloc(), 3, 3)?;
+    for (m, n, extents, first) in [
+        (Number(1), Number(-2), (2u16, 1u16), 4i64),
+        (Blank, Number(0), (3, 3), 1),
+        (Number(-1), Number(1), (2, 2), 2),
+        (Number(3), Number(0), (0, 0), -2),
+        (Number(0), Number(-3), (0, 0), -2),
+        (Number(i64::MIN), Number(0), (0, 0), -2),
+        (True, Num, (0, 0), -2),
+    ] {
+        let w = drop_part(rt.alloc(), &v, &value(m), &value(n))?;
+        assert_eq!(rt; (size(&w), at(&w, 0, 0)), (extents, first), "{m:?} {n:?}");
+    }
+    let one = drop_part(rt.alloc(), &value(True), &value(Blank), &value(Blank))?;
+    assert_eq!(rt; size(&one), (1, 1));
     Ok(())
 }
 
 #[test]
 fn stacks(rt: HostRuntime) -> Result<(), Fail> {
-    let alloc = rt.alloc();
-    let u = beside(alloc, counted(alloc, 2, 1)?, int(9))?;
-    let v = below(alloc, counted(alloc, 1, 2)?, int(9))?;
+    let u = beside(rt.alloc(), counted(rt.alloc(), 2, 1)?, value(Number(9)))?;
+    let v = below(rt.alloc(), counted(rt.alloc(), 1, 2)?, value(Number(9)))?;
     assert_eq!(rt; (size(&u), size(&v)), ((2, 2), (2, 2)));
     for (i, j, m, n) in [
         (0u16, 0u16, 1i64, 1i64),
@@ -219,56 +233,55 @@ fn stacks(rt: HostRuntime) -> Result<(), Fail> {
     ] {
         assert_eq!(rt; (at(&u, i, j), at(&v, i, j)), (m, n), "at {i} {j}");
     }
-    let large = below(alloc, counted(alloc, 100, 100)?, int(1))?;
-    assert_eq!(rt; at(&large, 0, 0), -4);
-    let column = beside(alloc, error(ErrKind::Num), counted(alloc, 3, 1)?)?;
-    assert_eq!(rt;
-        (size(&column), at(&column, 0, 0), at(&column, 2, 1)),
-        ((3, 2), -5, 3)
-    );
     Ok(())
 }
 
 #[test]
-fn rows(rt: HostRuntime) -> Result<(), Fail> {
-    let alloc = rt.alloc();
-    let v = counted(alloc, 3, 2)?;
-    let keep = below(alloc, below(alloc, truth(true), blank())?, truth(true))?;
-    let kept = filter(alloc, &v, &keep)?;
-    assert_eq!(rt;
-        (size(&kept), at(&kept, 0, 1), at(&kept, 1, 0)),
-        ((2, 2), 2, 5)
-    );
-    let mixed = below(alloc, below(alloc, blank(), error(ErrKind::Num))?, int(1))?;
-    assert_eq!(rt; at(&filter(alloc, &v, &mixed)?, 0, 0), -5);
-    assert_eq!(rt; at(&filter(alloc, &v, &truth(true))?, 0, 0), -2);
-    assert_eq!(rt; at(&filter(alloc, &int(7), &blank())?, 0, 0), -3);
-    let one = filter(alloc, &int(7), &truth(true))?;
-    assert_eq!(rt; (size(&one), at(&one, 0, 0)), ((1, 1), 7));
-    assert_eq!(rt;
-        at(
-            &filter(alloc, &error(ErrKind::Na), &error(ErrKind::Num))?,
-            0,
-            0
-        ),
-        -3
-    );
+fn filters(rt: HostRuntime) -> Result<(), Fail> {
+    let v = counted(rt.alloc(), 3, 1)?;
+    for (second, third, extents, first) in [
+        (Blank, True, (2u16, 1u16), 1i64),
+        (Num, Na, (0, 0), -5),
+        (Number(1), Na, (0, 0), -2),
+    ] {
+        let keep = column(rt.alloc(), True, second, third)?;
+        let w = filter(rt.alloc(), &v, &keep)?;
+        assert_eq!(rt;
+            (size(&w), at(&w, 0, 0)),
+            (extents, first),
+            "{second:?} {third:?}"
+        );
+    }
+    for (x, keep, extents, first) in [
+        (Number(7), True, (1u16, 1u16), 7i64),
+        (Number(7), Blank, (0, 0), -3),
+        (Na, Num, (0, 0), -3),
+    ] {
+        let w = filter(rt.alloc(), &value(x), &value(keep))?;
+        assert_eq!(rt;
+            (size(&w), at(&w, 0, 0)),
+            (extents, first),
+            "{x:?} {keep:?}"
+        );
+    }
+    Ok(())
+}
 
-    let row = counted(alloc, 1, 2)?;
-    let twice = below(alloc, below(alloc, row, v)?, beside(alloc, int(1), int(2))?)?;
-    let distinct = unique(alloc, &twice)?;
-    assert_eq!(rt;
-        (size(&distinct), at(&distinct, 0, 1), at(&distinct, 1, 0)),
-        ((3, 2), 2, 3)
-    );
-    let zeros = unique(
-        alloc,
-        &below(alloc, below(alloc, int(0), blank())?, int(0))?,
-    )?;
-    assert_eq!(rt;
-        (size(&zeros), at(&zeros, 0, 0), at(&zeros, 1, 0)),
-        ((2, 1), 0, -10)
-    );
-    assert_eq!(rt; size(&unique(alloc, &int(7))?), (0, 0));
+#[test]
+fn distinct_rows(rt: HostRuntime) -> Result<(), Fail> {
+    for (a, b, c, extents, second) in [
+        (Number(0), Blank, Number(0), (2u16, 1u16), -10i64),
+        (Number(1), Number(1), Number(2), (2, 1), 2),
+        (Na, Na, Na, (1, 1), -20),
+        (Number(3), Number(2), Number(1), (3, 1), 2),
+    ] {
+        let w = unique(rt.alloc(), &column(rt.alloc(), a, b, c)?)?;
+        assert_eq!(rt;
+            (size(&w), at(&w, 1, 0)),
+            (extents, second),
+            "{a:?} {b:?} {c:?}"
+        );
+    }
+    assert_eq!(rt; size(&unique(rt.alloc(), &value(True))?), (0, 0));
     Ok(())
 }
