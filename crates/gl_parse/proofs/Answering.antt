@@ -1,6 +1,6 @@
 -- What the reader answers, and why.
 use Rattle.std.proofs.Common.{◌≡◌, ℕ, ◌<◌, ◌≤◌, Bool, true, false, List, [], length, ap, sym, subst, ◌∙◌, refl}
-use Rattle.std.specs.Prelude.{Some, None, Option, if◌then◌else◌}
+use Rattle.std.specs.Prelude.{Some, None, Option, Result, Ok, Err, if◌then◌else◌}
 use Rattle.gl_calculus.specs.Limits.{max_formula}
 use Rattle.gl_calculus.specs.Formula as F
 use Rattle.gl_language.specs.Text.{Bytes}
@@ -9,7 +9,12 @@ use Rattle.gl_language.specs.Grammar.{Tokens, Raw, IsExpr, Parses, IsParseFault,
 use Rattle.gl_language.specs.Grammar as G
 use Rattle.gl_ast.specs.declared.Formula.{Formula}
 use Rattle.gl_ast.specs.View.{formula_tree}
-use Rattle.gl_parse.specs.Faults.{IsSpelled, AnyCorners, InOrder}
+use Rattle.gl_lex.specs.declared.Token.{Token}
+use Rattle.gl_lex.specs.View.{tokens_in}
+use Rattle.gl_parse.specs.declared.fault.ParseFault.{ParseFault as Fault}
+use Rattle.gl_parse.specs.declared.fault.ParseFault.TheVariants as fault
+use Rattle.gl_parse.specs.Outcome.{Answers}
+use Rattle.gl_parse.specs.Faults.{IsSpelled, AnyCorners, InOrder, Checked}
 use Rattle.gl_parse.proofs.Spelling.{lexed_tokens, expr_spelled, in_order}
 
 -- ---- the faults of forms
@@ -66,3 +71,18 @@ module _ (text : Bytes) (ts : Tokens) (short : length text ≤ max_formula) (lex
     formula_read f g r none h = record { short = short; tokens = ts; lexes = lexes; not_deep = flat; raw = f; form = r; no_fault = none; is_tree = h (expr_spelled r (lexed_tokens lexes)).0 }
 
 pub ruleset read_rules = (deep_text, no_expression, faulty_form, formula_read)
+
+-- what is answered for a form answers the text
+form_answers : (text : Bytes) (ts : Tokens) (f : Raw) (r : Result Formula Fault) → length text ≤ max_formula → Lexes text ts → is_deep ts ≡ false → IsExpr ts f [] → Checked f r → Answers text r
+form_answers text ts f (Ok g) short lexes flat r h = formula_read text ts short lexes flat f (formula_tree g) r h.0 h.1
+form_answers text ts f (Err fault.Range) short lexes flat r h = faulty_form text ts short lexes flat f G.ParseFault.Range r h
+form_answers text ts f (Err fault.Name) short lexes flat r h = faulty_form text ts short lexes flat f G.ParseFault.Name r h
+form_answers text ts f (Err fault.Arity) short lexes flat r h = faulty_form text ts short lexes flat f G.ParseFault.Arity r h
+form_answers text ts f (Err fault.NoMemory) short lexes flat r h = tt
+form_answers text ts f (Err fault.Long) short lexes flat r h = absurd h
+form_answers text ts f (Err (fault.Lex x)) short lexes flat r h = absurd h
+form_answers text ts f (Err fault.Deep) short lexes flat r h = absurd h
+form_answers text ts f (Err fault.Syntax) short lexes flat r h = absurd h
+
+pub read_is : (text bytes : Bytes) (tokens : List Token) (f : Raw) (r : Result Formula Fault) → bytes ≡ text → length text ≤ max_formula → Lexes text (tokens_in text tokens) → is_deep (tokens_in bytes tokens) ≡ false → IsExpr (tokens_in bytes tokens) f [] → Checked f r → Answers text r
+read_is text bytes tokens f r e short lexes flat reads h = form_answers text (tokens_in bytes tokens) f r short (subst (λ z. Lexes text (tokens_in z tokens)) (sym e) lexes) flat reads h

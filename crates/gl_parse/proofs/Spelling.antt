@@ -76,7 +76,7 @@ mutual
   atom_spelled G.truth h = (tt, h.1)
   atom_spelled G.address h = (address_token h.0, h.1)
   atom_spelled G.spill h = (address_token h.0, h.1.1)
-  atom_spelled G.corners h = ((address_token h.0, (address_token h.1.1.0, tt)), h.1.1.1)
+  atom_spelled G.corners h = ((address_token h.0, address_token h.1.1.0, tt), h.1.1.1)
   atom_spelled G.variable h = (variable_token h.0, h.1)
   atom_spelled (G.apply r) h = arguments_spelled r h.1.1
   atom_spelled (G.parens r) h =
@@ -118,7 +118,7 @@ mutual
   in_order (G.Raw.Boolean b) s h = s
   in_order (G.Raw.At a) s h = s
   in_order (G.Raw.Spill a) s h = s
-  in_order (G.Raw.Corners a b) s h = (s.0, (s.1, corners_ordered a b h))
+  in_order (G.Raw.Corners a b) s h = (s.0, s.1, corners_ordered a b h)
   in_order (G.Raw.Var v) s h = s
   in_order (G.Raw.Neg f) s h = in_order f s (neither false (some_form is_bad_range f) h).1
   in_order (G.Raw.Chain level f rest) s h =
