@@ -1,0 +1,274 @@
+-- A form and the formula that is built of it.
+use Rattle.std.proofs.Common.{◌≡◌, ◌≢◌, ℕ, ◌+◌, ◌*◌, ◌^◌, ◌<◌, ◌≤◌, ℤ, pos, negsuc, Bool, true, false, IsTrue, List, [], ◌∷◌, ◌++◌, drop, map, length, get_or, ap, sym, subst, ◌∙◌, refl, arith}
+use Rattle.std.specs.Prelude.{Option, Some, None, Result, Ok, Err, IfOk, zero, suc, if◌then◌else◌}
+use Rattle.std.specs.List.{AllByRecursion}
+use Rattle.std.specs.Str.{IsAscii, IsUtf8}
+use Rattle.std.specs.Rc.{rc_str_bytes}
+use Rattle.std.proofs.lemmas.Str.{IsUtf8-from_ascii}
+use Rattle.std.proofs.lemmas.List.{at_drop_more, at_drop_all, map-append}
+use Rattle.std.specs.declared.alloc.Global.{Global}
+use Rattle.std.specs.declared.boxed.Box.{Box}
+use Rattle.std.specs.declared.vec.Vec.{Vec}
+use Rattle.std.specs.declared.rc.RcStr.{RcStr}
+use Rattle.gl_calculus.specs.Grid.{Addr, range}
+use Rattle.gl_calculus.specs.Formula as F
+use Rattle.gl_language.specs.Text.{Bytes}
+use Rattle.gl_language.specs.Token.{IsRow, is_lower}
+use Rattle.gl_language.specs.Grammar.{tree, trees, operand_trees, let_or_call, call_of, function_of, is_let, is_variable}
+use Rattle.gl_language.specs.Grammar as G
+use Rattle.gl_lex.specs.View.{number}
+use Rattle.gl_plane.specs.declared.NoMemory.{NoMemory}
+use Rattle.gl_ast.specs.declared.Level.{Level}
+use Rattle.gl_ast.specs.declared.Op.{Op}
+use Rattle.gl_ast.specs.declared.Fun.{Fun}
+use Rattle.gl_ast.specs.declared.Formula.{Formula}
+use Rattle.gl_ast.specs.declared.Formula.TheVariants as f
+use Rattle.gl_ast.specs.View.{formula_tree, argument_trees, level_tree, op_tree, fun_tree}
+use Rattle.gl_ast.specs.View as ast
+use Rattle.gl_ast.specs.Forms.{formula_tree-Int, formula_tree-Text, formula_tree-Bool, formula_tree-At, formula_tree-Spill, formula_tree-Area, formula_tree-Var, formula_tree-Neg, formula_tree-Chain, formula_tree-Compare, formula_tree-Call, formula_tree-Let}
+use Rattle.gl_parse.specs.declared.raw.Span.{Span}
+use Rattle.gl_parse.specs.declared.raw.Raw.{Raw}
+use Rattle.gl_parse.specs.declared.raw.Raw.TheVariants as r
+use Rattle.gl_parse.specs.Raws.{raw_tree, letters, links, raws_of, pairs, plains}
+use Rattle.gl_parse.specs.Faults.{IsSpelled, AreSpelled, AreSpelledOperands, InOrder, bound_by}
+use Rattle.gl_parse.proofs.Forms.{tree-Number, tree-Text, tree-Bool, tree-At, tree-Spill, tree-Corners, tree-Var, tree-Neg, tree-Chain, tree-Compare, tree-Apply}
+use Rattle.gl_parse.proofs.Naming.{not_bound, IsLet}
+
+-- ---- letters
+
+lower_ascii : (b : ℕ) → IsTrue (is_lower b) → b < 128
+lower_ascii b h = grind (arith)
+
+row_ascii : (bs : Bytes) → AllByRecursion (λ b. IsTrue (is_lower b)) bs → IsAscii bs
+row_ascii [] h i = omega arith
+row_ascii (b ∷ bs) h zero = lower_ascii b h.0
+row_ascii (b ∷ bs) h (suc i) = row_ascii bs h.1 i
+
+pub row_utf8 : (bs : Bytes) → IsRow is_lower bs → IsUtf8 bs
+row_utf8 bs h = IsUtf8-from_ascii bs (row_ascii bs h.1)
+
+pub not_row : (bs : Bytes) → (IsUtf8 bs → ⊥) → IsRow is_lower bs → ⊥
+not_row bs n h = n (row_utf8 bs h)
+
+pub ruleset letter_rules = (row_utf8, not_row)
+
+-- ---- leaves
+
+abbrev pub IsBuilt : Bytes → Raw → Formula → Type 0
+IsBuilt text raw g = IsSpelled InOrder (raw_tree text raw) → formula_tree g ≡ tree (raw_tree text raw)
+
+number_is : (n : ℤ) → number n < 2 ^ 63 → n ≡ pos (number n)
+number_is (pos n) h = refl
+number_is (negsuc n) h = absurd (omega arith)
+
+-- what is known of a form, by its variant
+known : (text : Bytes) (raw : Raw) (t : G.Raw) (g : Formula) → raw_tree text raw ≡ t → (IsSpelled InOrder t → formula_tree g ≡ tree t) → IsBuilt text raw g
+known text raw t g e h s = h (subst (IsSpelled InOrder) e s) ∙ sym (ap tree e)
+
+module _ (text : Bytes) (raw : Raw) where
+  pub built_number : (n : ℤ) → raw ≡ r.Number n → IsBuilt text raw (f.Int n)
+  built_number n e = known text raw _ (f.Int n) (ap (raw_tree text) e ∙ tree-Number text n) (λ s. formula_tree-Int n ∙ ap F.Formula.Int (number_is n s))
+
+  pub built_text : (t u : RcStr Global) → raw ≡ r.Text t → rc_str_bytes u ≡ rc_str_bytes t → IsBuilt text raw (f.Text u)
+  built_text t u e h = known text raw _ (f.Text u) (ap (raw_tree text) e ∙ tree-Text text t) (λ s. formula_tree-Text u ∙ ap F.Formula.Text h)
+
+  pub built_bool : (b : Bool) → raw ≡ r.Bool b → IsBuilt text raw (f.Bool b)
+  built_bool b e = known text raw _ (f.Bool b) (ap (raw_tree text) e ∙ tree-Bool text b) (λ s. formula_tree-Bool b)
+
+  pub built_at : (a : Addr) → raw ≡ r.At a → IsBuilt text raw (f.At a)
+  built_at a e = known text raw _ (f.At a) (ap (raw_tree text) e ∙ tree-At text a) (λ s. formula_tree-At a)
+
+  pub built_spill : (a : Addr) → raw ≡ r.Spill a → IsBuilt text raw (f.Spill a)
+  built_spill a e = known text raw _ (f.Spill a) (ap (raw_tree text) e ∙ tree-Spill text a) (λ s. formula_tree-Spill a)
+
+  pub built_corners : (a b : Addr) (g : Formula) → raw ≡ r.Corners a b → (InOrder a b → formula_tree g ≡ F.Formula.Area (range a b)) → IsBuilt text raw g
+  built_corners a b g e h = known text raw _ g (ap (raw_tree text) e ∙ tree-Corners text a b) (λ s. h s.2)
+
+  pub built_var : (v : Span) (name : RcStr Global) → raw ≡ r.Var v → (IsRow is_lower (letters text v) → rc_str_bytes name ≡ letters text v) → IsBuilt text raw (f.Var name)
+  built_var v name e h = known text raw _ (f.Var name) (ap (raw_tree text) e ∙ tree-Var text v) (λ s. formula_tree-Var name ∙ ap F.Formula.Var (h s))
+
+  pub built_neg : (x : Box Raw Global) (y : Raw) (b : Box Formula Global) (g : Formula) → raw ≡ r.Neg x → y ≡ x.value → b.value ≡ g → IsBuilt text y g → IsBuilt text raw (f.Neg b)
+  built_neg x y b g e m h j = let i = subst (λ z. IsBuilt text z g) m j in known text raw _ (f.Neg b) (ap (raw_tree text) e ∙ tree-Neg text x) (λ s. formula_tree-Neg b ∙ ap (λ z. F.Formula.Neg (formula_tree z)) h ∙ ap F.Formula.Neg (i s))
+
+  pub built_compare : (o : Op) (x y : Box Raw Global) (u v : Raw) (b c : Box Formula Global) (g k : Formula) → raw ≡ r.Compare o x y → u ≡ x.value → v ≡ y.value → b.value ≡ g → c.value ≡ k → IsBuilt text u g → IsBuilt text v k → IsBuilt text raw (f.Compare o b c)
+  built_compare o x y u v b c g k e m n h j p q =
+      let i = subst (λ z. IsBuilt text z g) m p in
+      let l = subst (λ z. IsBuilt text z k) n q in
+      known text raw _ (f.Compare o b c) (ap (raw_tree text) e ∙ tree-Compare text o x y)
+      (λ s. formula_tree-Compare o b c ∙ ap (λ z. F.Formula.Compare (op_tree o) (formula_tree z) (formula_tree c.value)) h ∙ ap (λ z. F.Formula.Compare (op_tree o) (formula_tree g) (formula_tree z)) j
+          ∙ ap (λ z. F.Formula.Compare (op_tree o) z (formula_tree k)) (i s.0) ∙ ap (λ z. F.Formula.Compare (op_tree o) (tree (raw_tree text x.value)) z) (l s.1))
+
+  pub built_chain : (l : Level) (x : Box Raw Global) (v : Vec (Op × Raw) Global) (u : Raw) (xs : List (Op × Raw)) (b : Box Formula Global) (g : Formula) (w : Vec (Op × Formula) Global) → raw ≡ r.Chain l x v → u ≡ x.value → xs ≡ v.items → b.value ≡ g → IsBuilt text u g → (AreSpelledOperands InOrder (links (pairs text xs)) → ast.operand_trees w.items ≡ operand_trees (links (pairs text xs))) → IsBuilt text raw (f.Chain l b w)
+  built_chain l x v u xs b g w e m n h p q =
+      let i = subst (λ z. IsBuilt text z g) m p in
+      let j = subst (λ z. AreSpelledOperands InOrder (links (pairs text z)) → ast.operand_trees w.items ≡ operand_trees (links (pairs text z))) n q in
+      known text raw _ (f.Chain l b w) (ap (raw_tree text) e ∙ tree-Chain text l x v)
+      (λ s. formula_tree-Chain l b w ∙ ap (λ z. F.Formula.Chain (level_tree l) (formula_tree z) (ast.operand_trees w.items)) h ∙ ap (λ z. F.Formula.Chain (level_tree l) z (ast.operand_trees w.items)) (i s.0)
+          ∙ ap (λ z. F.Formula.Chain (level_tree l) (tree (raw_tree text x.value)) z) (j s.1))
+
+  pub built_apply : (word : Span) (v : Vec Raw Global) (ws : Bytes) (xs : List Raw) (g : Formula) → raw ≡ r.Apply word v → ws ≡ letters text word → xs ≡ v.items → (AreSpelled InOrder (raws_of (plains text xs)) → formula_tree g ≡ let_or_call ws (trees (raws_of (plains text xs)))) → IsBuilt text raw g
+  built_apply word v ws xs g e m n p =
+      let q = subst (λ z. AreSpelled InOrder (raws_of (plains text xs)) → formula_tree g ≡ let_or_call z (trees (raws_of (plains text xs)))) m p in
+      let h = subst (λ z. AreSpelled InOrder (raws_of (plains text z)) → formula_tree g ≡ let_or_call (letters text word) (trees (raws_of (plains text z)))) n q in
+      known text raw _ g (ap (raw_tree text) e ∙ tree-Apply text word v) h
+
+pub ruleset build_rules = (built_number, built_text, built_bool, built_at, built_spill, built_corners, built_var, built_neg, built_compare, built_chain, built_apply)
+
+-- ---- lists
+
+-- these formulas, and then those
+abbrev pub formulas_onto : List Formula → F.Formulas → F.Formulas
+formulas_onto [] more = more
+formulas_onto (g ∷ gs) more = F.Formulas.formula_and (formula_tree g) (formulas_onto gs more)
+
+abbrev pub operands_onto : List (Op × Formula) → F.Operands → F.Operands
+operands_onto [] more = more
+operands_onto (p ∷ ps) more = F.Operands.operand_and (op_tree p.0) (formula_tree p.1) (operands_onto ps more)
+
+formulas_push : (gs : List Formula) (g : Formula) (more : F.Formulas) → formulas_onto (gs ++ g ∷ []) more ≡ formulas_onto gs (F.Formulas.formula_and (formula_tree g) more)
+formulas_push [] g more = refl
+formulas_push (h ∷ gs) g more = ap (F.Formulas.formula_and (formula_tree h)) (formulas_push gs g more)
+
+operands_push : (ps : List (Op × Formula)) (o : Op) (g : Formula) (more : F.Operands) → operands_onto (ps ++ (o, g) ∷ []) more ≡ operands_onto ps (F.Operands.operand_and (op_tree o) (formula_tree g) more)
+operands_push [] o g more = refl
+operands_push (p ∷ ps) o g more = ap (F.Operands.operand_and (op_tree p.0) (formula_tree p.1)) (operands_push ps o g more)
+
+formulas_all : (gs : List Formula) → formulas_onto gs F.Formulas.no_formula ≡ argument_trees gs
+formulas_all [] = refl
+formulas_all (g ∷ gs) = ap (F.Formulas.formula_and (formula_tree g)) (formulas_all gs)
+
+operands_all : (ps : List (Op × Formula)) → operands_onto ps F.Operands.no_operand ≡ ast.operand_trees ps
+operands_all [] = refl
+operands_all (p ∷ ps) = ap (F.Operands.operand_and (op_tree p.0) (formula_tree p.1)) (operands_all ps)
+
+-- The formulas of the first arguments are built.
+abbrev pub ArgumentsSoFar : Bytes → List Raw → ℕ → List Formula → Type 0
+ArgumentsSoFar text xs i built =
+    AreSpelled InOrder (raws_of (plains text xs)) → AreSpelled InOrder (raws_of (plains text (drop i xs))) × (formulas_onto built (trees (raws_of (plains text (drop i xs)))) ≡ trees (raws_of (plains text xs)))
+
+pub argument_built : (text : Bytes) (xs : List Raw) (i : ℕ) (built longer : List Formula) (x : Raw) (g : Formula) → i < length xs → x ≡ get_or xs i x → longer ≡ built ++ g ∷ [] → IsBuilt text x g → ArgumentsSoFar text xs i built → ArgumentsSoFar text xs (i + 1) longer
+argument_built text xs i built longer x g h is push b so s =
+    let e : plains text (drop i xs) ≡ raw_tree text x ∷ plains text (drop (i + 1) xs) = at_drop_more (λ (ys : List Raw). plains text ys) xs i x h ∙ ap (λ z. raw_tree text z ∷ plains text (drop (i + 1) xs)) (sym is) in
+    let p = so s in
+    let q : AreSpelled InOrder (raws_of (raw_tree text x ∷ plains text (drop (i + 1) xs))) = subst (λ z. AreSpelled InOrder (raws_of z)) e p.0 in
+    let more = trees (raws_of (plains text (drop (i + 1) xs))) in
+    (q.1, ap (λ z. formulas_onto z more) push ∙ formulas_push built g more ∙ ap (λ z. formulas_onto built (F.Formulas.formula_and z more)) (b q.0) ∙ sym (ap (λ z. formulas_onto built (trees (raws_of z))) e) ∙ p.1)
+
+pub arguments_built : (text : Bytes) (xs : List Raw) (i : ℕ) (built : List Formula) → length xs ≤ i → ArgumentsSoFar text xs i built → AreSpelled InOrder (raws_of (plains text xs)) → argument_trees built ≡ trees (raws_of (plains text xs))
+arguments_built text xs i built h so s =
+    let e : plains text (drop i xs) ≡ [] = at_drop_all (λ (ys : List Raw). plains text ys) xs i h in
+    sym (formulas_all built) ∙ sym (ap (λ z. formulas_onto built (trees (raws_of z))) e) ∙ (so s).1
+
+-- The same of operands.
+abbrev pub OperandsSoFar : Bytes → List (Op × Raw) → ℕ → List (Op × Formula) → Type 0
+OperandsSoFar text xs i built =
+    AreSpelledOperands InOrder (links (pairs text xs)) → AreSpelledOperands InOrder (links (pairs text (drop i xs))) × (operands_onto built (operand_trees (links (pairs text (drop i xs)))) ≡ operand_trees (links (pairs text xs)))
+
+pub operand_built : (text : Bytes) (xs : List (Op × Raw)) (i : ℕ) (built longer : List (Op × Formula)) (x : Op × Raw) (g : Formula) → i < length xs → x ≡ get_or xs i x → longer ≡ built ++ (x.0, g) ∷ [] → IsBuilt text x.1 g → OperandsSoFar text xs i built → OperandsSoFar text xs (i + 1) longer
+operand_built text xs i built longer x g h is push b so s =
+    let e : pairs text (drop i xs) ≡ (op_tree x.0, raw_tree text x.1) ∷ pairs text (drop (i + 1) xs) = at_drop_more (λ (ys : List (Op × Raw)). pairs text ys) xs i x h ∙ ap (λ (z : Op × Raw). (op_tree z.0, raw_tree text z.1) ∷ pairs text (drop (i + 1) xs)) (sym is) in
+    let p = so s in
+    let q : AreSpelledOperands InOrder (links ((op_tree x.0, raw_tree text x.1) ∷ pairs text (drop (i + 1) xs))) = subst (λ z. AreSpelledOperands InOrder (links z)) e p.0 in
+    let more = operand_trees (links (pairs text (drop (i + 1) xs))) in
+    (q.1, ap (λ z. operands_onto z more) push ∙ operands_push built x.0 g more ∙ ap (λ z. operands_onto built (F.Operands.operand_and (op_tree x.0) z more)) (b q.0) ∙ sym (ap (λ z. operands_onto built (operand_trees (links z))) e) ∙ p.1)
+
+pub operands_built : (text : Bytes) (xs : List (Op × Raw)) (i : ℕ) (built : List (Op × Formula)) → length xs ≤ i → OperandsSoFar text xs i built → AreSpelledOperands InOrder (links (pairs text xs)) → ast.operand_trees built ≡ operand_trees (links (pairs text xs))
+operands_built text xs i built h so s =
+    let e : pairs text (drop i xs) ≡ [] = at_drop_all (λ (ys : List (Op × Raw)). pairs text ys) xs i h in
+    sym (operands_all built) ∙ sym (ap (λ z. operands_onto built (operand_trees (links z))) e) ∙ (so s).1
+
+pub ruleset operand_rules = (operand_built, operands_built)
+
+pub ruleset argument_rules = (argument_built, arguments_built)
+
+-- ---- calls
+
+abbrev is_var : F.Formula → Bool
+is_var (F.Formula.Var v) = true
+is_var g = false
+
+is_var_call : (x : Option F.Fun) (xs : F.Formulas) → is_var (call_of x xs) ≡ false
+is_var_call (Some g) xs = refl
+is_var_call None xs = refl
+
+is_var_let : (word : Bytes) (x : Bool) (v : Bytes) (g k : F.Formula) (xs : F.Formulas) → is_var (if x then F.Formula.Let v g k else call_of (function_of word) xs) ≡ false
+is_var_let word true v g k xs = refl
+is_var_let word false v g k xs = is_var_call (function_of word) xs
+
+-- a call is no variable
+call_no_variable : (word : Bytes) (xs : F.Formulas) → is_var (let_or_call word xs) ≡ false
+call_no_variable word F.Formulas.no_formula = is_var_call (function_of word) _
+call_no_variable word (F.Formulas.formula_and (F.Formula.Var v) F.Formulas.no_formula) = is_var_call (function_of word) _
+call_no_variable word (F.Formulas.formula_and (F.Formula.Var v) (F.Formulas.formula_and g F.Formulas.no_formula)) = is_var_call (function_of word) _
+call_no_variable word (F.Formulas.formula_and (F.Formula.Var v) (F.Formulas.formula_and g (F.Formulas.formula_and k F.Formulas.no_formula))) = is_var_let word (is_let word) v g k _
+call_no_variable word (F.Formulas.formula_and (F.Formula.Var v) (F.Formulas.formula_and g (F.Formulas.formula_and k (F.Formulas.formula_and l xs)))) = is_var_call (function_of word) _
+call_no_variable word (F.Formulas.formula_and (F.Formula.Int n) xs) = is_var_call (function_of word) _
+call_no_variable word (F.Formulas.formula_and (F.Formula.Text t) xs) = is_var_call (function_of word) _
+call_no_variable word (F.Formulas.formula_and (F.Formula.Bool b) xs) = is_var_call (function_of word) _
+call_no_variable word (F.Formulas.formula_and (F.Formula.At a) xs) = is_var_call (function_of word) _
+call_no_variable word (F.Formulas.formula_and (F.Formula.Spill a) xs) = is_var_call (function_of word) _
+call_no_variable word (F.Formulas.formula_and (F.Formula.Area r) xs) = is_var_call (function_of word) _
+call_no_variable word (F.Formulas.formula_and (F.Formula.Neg g) xs) = is_var_call (function_of word) _
+call_no_variable word (F.Formulas.formula_and (F.Formula.Chain l g rest) xs) = is_var_call (function_of word) _
+call_no_variable word (F.Formulas.formula_and (F.Formula.Compare o g k) xs) = is_var_call (function_of word) _
+call_no_variable word (F.Formulas.formula_and (F.Formula.Call o ys) xs) = is_var_call (function_of word) _
+call_no_variable word (F.Formulas.formula_and (F.Formula.Let v g k) xs) = is_var_call (function_of word) _
+
+plain_first : (word : Bytes) (g : F.Formula) (xs : F.Formulas) → is_var g ≡ false → let_or_call word (F.Formulas.formula_and g xs) ≡ call_of (function_of word) (F.Formulas.formula_and g xs)
+plain_first word (F.Formula.Var v) xs h = cc
+plain_first word (F.Formula.Int n) xs h = refl
+plain_first word (F.Formula.Text t) xs h = refl
+plain_first word (F.Formula.Bool b) xs h = refl
+plain_first word (F.Formula.At a) xs h = refl
+plain_first word (F.Formula.Spill a) xs h = refl
+plain_first word (F.Formula.Area r) xs h = refl
+plain_first word (F.Formula.Neg g) xs h = refl
+plain_first word (F.Formula.Chain l g rest) xs h = refl
+plain_first word (F.Formula.Compare o g k) xs h = refl
+plain_first word (F.Formula.Call o ys) xs h = refl
+plain_first word (F.Formula.Let v g k) xs h = refl
+
+pub plain_word : (word : Bytes) (v : Bytes) (g k : F.Formula) → is_let word ≡ false → let_or_call word (F.Formulas.formula_and (F.Formula.Var v) (F.Formulas.formula_and g (F.Formulas.formula_and k F.Formulas.no_formula))) ≡ call_of (function_of word) (F.Formulas.formula_and (F.Formula.Var v) (F.Formulas.formula_and g (F.Formulas.formula_and k F.Formulas.no_formula)))
+plain_word word v g k h = ap (λ z. if z then F.Formula.Let v g k else call_of (function_of word) (F.Formulas.formula_and (F.Formula.Var v) (F.Formulas.formula_and g (F.Formulas.formula_and k F.Formulas.no_formula)))) h
+
+pub let_word : (word : Bytes) (v : Bytes) (g k : F.Formula) → is_let word ≡ true → let_or_call word (F.Formulas.formula_and (F.Formula.Var v) (F.Formulas.formula_and g (F.Formulas.formula_and k F.Formulas.no_formula))) ≡ F.Formula.Let v g k
+let_word word v g k h = ap (λ z. if z then F.Formula.Let v g k else call_of (function_of word) (F.Formulas.formula_and (F.Formula.Var v) (F.Formulas.formula_and g (F.Formulas.formula_and k F.Formulas.no_formula)))) h
+
+plain_call : (word : Bytes) (fs : List G.Raw) → bound_by word fs ≡ None → let_or_call word (trees (raws_of fs)) ≡ call_of (function_of word) (trees (raws_of fs))
+plain_call word [] h = refl
+plain_call word (G.Raw.Var v ∷ []) h = refl
+plain_call word (G.Raw.Var v ∷ g ∷ []) h = refl
+plain_call word (G.Raw.Var v ∷ g ∷ body ∷ []) h = plain_word word v (tree g) (tree body) (not_bound (is_let word) v h)
+plain_call word (G.Raw.Var v ∷ g ∷ body ∷ k ∷ fs) h = refl
+plain_call word (G.Raw.Number n ∷ fs) h = refl
+plain_call word (G.Raw.Text t ∷ fs) h = refl
+plain_call word (G.Raw.Boolean b ∷ fs) h = refl
+plain_call word (G.Raw.At a ∷ fs) h = refl
+plain_call word (G.Raw.Spill a ∷ fs) h = refl
+plain_call word (G.Raw.Corners a b ∷ fs) h = refl
+plain_call word (G.Raw.Neg x ∷ fs) h = refl
+plain_call word (G.Raw.Chain l x rest ∷ fs) h = refl
+plain_call word (G.Raw.Compare o x g ∷ fs) h = refl
+plain_call word (G.Raw.Apply w xs ∷ fs) h = plain_first word (let_or_call w (trees xs)) (trees (raws_of fs)) (call_no_variable w (trees xs))
+
+pub plain_is : (text : Bytes) (word : Bytes) (xs : List Raw) (r : Result Formula NoMemory) → bound_by word (plains text xs) ≡ None → (AreSpelled InOrder (raws_of (plains text xs)) → IfOk r (λ g. formula_tree g ≡ call_of (function_of word) (trees (raws_of (plains text xs))))) → AreSpelled InOrder (raws_of (plains text xs)) → IfOk r (λ g. formula_tree g ≡ let_or_call word (trees (raws_of (plains text xs))))
+plain_is text word xs (Ok g) h b s = b s ∙ sym (plain_call word (plains text xs) h)
+plain_is text word xs (Err e) h b s = tt
+
+pub apply_is : (text : Bytes) (raw : Raw) (word : Span) (v : Vec Raw Global) (ws : Bytes) (xs : List Raw) (x : Result Formula NoMemory) → raw ≡ r.Apply word v → ws ≡ letters text word → xs ≡ v.items → (AreSpelled InOrder (raws_of (plains text xs)) → IfOk x (λ g. formula_tree g ≡ let_or_call ws (trees (raws_of (plains text xs))))) → IsSpelled InOrder (raw_tree text raw) → IfOk x (λ g. formula_tree g ≡ tree (raw_tree text raw))
+apply_is text raw word v ws xs (Ok g) e m n h s = built_apply text raw word v ws xs g e m n h s
+apply_is text raw word v ws xs (Err x) e m n h s = tt
+
+pub built_let : (text : Bytes) (word : Bytes) (xs : List Raw) (v ws : Bytes) (x y : Raw) (name : RcStr Global) (b c : Box Formula Global) (g k : Formula) → IsLet text word xs v x y → ws ≡ v → (IsRow is_lower ws → rc_str_bytes name ≡ ws) → b.value ≡ g → c.value ≡ k → IsBuilt text x g → IsBuilt text y k → AreSpelled InOrder (raws_of (plains text xs)) → formula_tree (f.Let name b c) ≡ let_or_call word (trees (raws_of (plains text xs)))
+built_let text word xs v ws x y name b c g k is w mm h j p q s =
+    let m : IsRow is_lower v → rc_str_bytes name ≡ v = subst (λ z. IsRow is_lower z → rc_str_bytes name ≡ z) w mm in
+    let t : AreSpelled InOrder (raws_of (G.Raw.Var v ∷ raw_tree text x ∷ raw_tree text y ∷ [])) = subst (λ z. AreSpelled InOrder (raws_of z)) is.arguments s in
+    formula_tree-Let name b c ∙ ap (λ z. F.Formula.Let z (formula_tree b.value) (formula_tree c.value)) (m t.0)
+    ∙ ap (λ z. F.Formula.Let v (formula_tree z) (formula_tree c.value)) h ∙ ap (λ z. F.Formula.Let v (formula_tree g) (formula_tree z)) j
+    ∙ ap (λ z. F.Formula.Let v z (formula_tree k)) (p t.1.0) ∙ ap (λ z. F.Formula.Let v (tree (raw_tree text x)) z) (q t.1.1.0)
+    ∙ sym (ap (λ z. let_or_call word (trees (raws_of z))) is.arguments ∙ let_word word v (tree (raw_tree text x)) (tree (raw_tree text y)) is.is_let)
+
+pub built_call : (xs : F.Formulas) (o : Fun) (v : Vec Formula Global) (w : Option F.Fun) → ((ys : F.Formulas) → call_of w ys ≡ F.Formula.Call (fun_tree o) ys) → argument_trees v.items ≡ xs → formula_tree (f.Call o v) ≡ call_of w xs
+built_call xs o v w h e = formula_tree-Call o v ∙ ap (F.Formula.Call (fun_tree o)) e ∙ sym (h xs)
+
+pub ruleset call_rules = (plain_is, built_let)

@@ -1,0 +1,14 @@
+pub mod AllRead
+pub mod Answering
+pub mod Building
+pub mod Calls
+pub mod Deeper
+pub mod Ends
+pub mod Forms
+pub mod Law
+pub mod Naming
+pub mod Rules
+pub mod Rulesets
+pub mod Spelling
+pub mod Walks
+pub mod Words

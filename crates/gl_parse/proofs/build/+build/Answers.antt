@@ -1,0 +1,34 @@
+use Rattle.gl_language.specs.Grammar.{function_of}
+use Rattle.gl_parse.specs.Raws.{letters}
+use Rattle.gl_parse.proofs.Naming.{let_is}
+use Rattle.gl_parse.proofs.Building.{built_text, built_compare, apply_is, argument_built, operand_built, plain_is, built_let, built_call}
+use Rattle.gl_parse.proofs.build.+build.Goals as goal
+
+pub build-returns-in_ok-clone-in-Text : goal.build-returns-in_ok-clone-in-Text
+build-returns-in_ok-clone-in-Text t c = built_text c.args.text.now c.args.raw.now c.in-Text.t _ c.in-Text.is c.in_ok-clone-in-Text.ensures.cases
+
+pub build-returns-in_ok-new-in-Compare-2 : goal.build-returns-in_ok-new-in-Compare-2
+build-returns-in_ok-new-in-Compare-2 t c =
+    built_compare c.args.text.now c.args.raw.now c.in-Compare.op c.in-Compare.f c.in-Compare.g _ _ _ _ _ _ c.in-Compare.is c.deref-in-Compare.ensures c.deref-in-Compare-2.ensures c.in_ok-new-in-Compare.ensures.ok c.in_ok-new-in-Compare-2.ensures.ok
+    c.in_ok-f-in-Compare.ensures c.in_ok-g-in-Compare.ensures
+
+pub build-returns-in-Apply : goal.build-returns-in-Apply
+build-returns-in-Apply t c = apply_is c.args.text.now c.args.raw.now c.in-Apply.word c.in-Apply.xs _ _ _ c.in-Apply.is c.spelling-in-Apply.ensures c.deref-in-Apply.ensures.value c.build_call.ensures
+
+pub build_arguments-loop-raw-preserved : goal.build_arguments-loop-raw-preserved
+build_arguments-loop-raw-preserved t c = argument_built c.args.text.now c.args.xs.now c.loop-raw.raw-index c.loop-raw.built.items _ c.raw-item.result c.in_ok-next.next c.loop-raw-test.true c.raw-item.is c.in_ok-push.ensures.items c.in_ok-next.ensures c.loop-raw.invariant
+
+pub build_operands-loop-operand-preserved : goal.build_operands-loop-operand-preserved
+build_operands-loop-operand-preserved t c =
+    operand_built c.args.text.now c.args.rest.now c.loop-operand.operand-index c.loop-operand.built.items _ c.operand-item.result c.in_ok-next.next c.loop-operand-test.true c.operand-item.is c.in_ok-push.ensures.items c.in_ok-next.ensures c.loop-operand.invariant
+
+pub build_call-returns-in_default : goal.build_call-returns-in_default
+build_call-returns-in_default t c = plain_is c.args.text.now c.args.word.now c.args.xs.now _ (c.in_default.ensures.cases c.args.text.now) c.build_plain_call.ensures
+
+pub build_call-returns : goal.build_call-returns
+build_call-returns t c =
+    let is = let_is c.args.text.now c.args.word.now c.args.xs.now (letters c.args.text.now c.in-Some.name) _ _ _ _ c.in-Some.ensures.len (c.in-Some.ensures.cases c.args.text.now) c.index-xs-1.is c.index-xs-2.is in
+    built_let c.args.text.now c.args.word.now c.args.xs.now _ _ _ _ _ _ _ _ _ is c.spelling.ensures c.in_ok-name.ensures c.in_ok-new.ensures.ok c.in_ok-new-2.ensures.ok c.in_ok-f.ensures c.in_ok-body.ensures
+
+pub build_plain_call-returns : goal.build_plain_call-returns
+build_plain_call-returns t c = λ s. built_call _ _ _ (function_of c.args.word.now) c.called.ensures (c.in_ok-xs.ensures s)

@@ -1,0 +1,4 @@
+pub mod Outcome
+pub mod Faults
+pub mod Raws
+pub mod Reading

@@ -1,0 +1,30 @@
+//! A form as it is written, before its ranges, names and arguments are looked at.
+
+use gl_ast::{Level, Op};
+use gl_plane::Addr;
+use std::rc::RcStr;
+
+/// Where letters stand in the text, in bytes: from `start` up to `end`, `end` not with it.
+#[derive(Clone, Copy)]
+pub struct Span {
+    pub start: u32,
+    pub end: u32,
+}
+
+/// A form of the grammar. Parentheses make none.
+#[derive(Drop)]
+pub enum Raw {
+    Number(i64),
+    Text(RcStr),
+    Bool(bool),
+    At(Addr),
+    Spill(Addr),
+    /// `A1:B3`, whatever the order of its corners
+    Corners(Addr, Addr),
+    Var(Span),
+    Neg(Box<Raw>),
+    Chain(Level, Box<Raw>, Vec<(Op, Raw)>),
+    Compare(Op, Box<Raw>, Box<Raw>),
+    /// a call of a word, which may be no function
+    Apply(Span, Vec<Raw>),
+}
