@@ -1,6 +1,6 @@
 -- What a line asks, by its words.
 use Rattle.std.proofs.Common.{◌≡◌, ◌≢◌, ◌∙◌, ℕ, ◌*◌, ◌<◌, ◌≤◌, Bool, true, false, cond, leb, List, [], ◌∷◌, length, Option, Some, None, Result, Ok, Err, refl, sym, ap, subst, arith, IsTrue}
-use Rattle.std.specs.Prelude.{MatchOption, IsFalse, bytes_eq, codes}
+use Rattle.std.specs.Prelude.{MatchOption, IfSome, IfNone, IsFalse, bytes_eq, codes}
 use Rattle.std.specs.Str.{is_utf8}
 use Rattle.std.proofs.lemmas.Bool.Decides.{nat_tests}
 use Rattle.gl_calculus.specs.Limits.{max_payload, max_cells}
@@ -139,3 +139,9 @@ pub not_viewable : (x : Range) (n : ℕ) → n ≡ length (addresses x) → max_
 not_viewable x n e l =
     let k : max_cells < (extents x).rows * (extents x).cols = subst (λ (m : ℕ). max_cells < m) (e ∙ addresses_count x) l in
     grind (arith, nat_tests)
+
+-- ---- options
+
+pub option_cases : (P : Addr → Type 0) (Q : Type 0) (o : Option Addr) → IfSome o P → IfNone o Q → MatchOption o Q P
+option_cases P Q None s n = n
+option_cases P Q (Some a) s n = s
