@@ -1,7 +1,6 @@
 //! The canonical text of formulas.
 
 ghost use Rattle.std.specs.Prelude.{◌≡◌, ◌++◌, ◌∷◌, [], ◌≤◌, OnOk, IfOk, Bool, if◌then◌else◌};
-ghost use Rattle.std.specs.Fmt.{decimal, signed_decimal};
 ghost use Rattle.std.specs.List.{join_with_byte};
 ghost use Rattle.std.specs.String.{string_bytes};
 ghost use Rattle.gl_calculus.specs.Notation as notation;
@@ -9,8 +8,9 @@ ghost use Rattle.gl_language.specs.Text as text;
 ghost use Rattle.gl_ast.specs.View.{formula_tree, argument_trees, operand_trees, level_tree, op_tree};
 
 use crate::literal::{put, put_literal};
+use crate::notation::{put_address, put_int, put_range, put_truth};
 use crate::{Formula, Level, Op};
-use gl_plane::{Addr, NoMemory, Range};
+use gl_plane::{Addr, NoMemory};
 use std::alloc::Global;
 
 /// The canonical text of a formula, without `=`: no spaces, and parentheses exactly where the grammar can't have a form at its place, a ninth `-` in a row among them.
@@ -71,69 +71,11 @@ fn needs_parens(minus: u8, at: u8, f: &Formula) -> bool
     }
 }
 
-fn put_int(alloc: Global, out: &mut String, n: i64) -> Result<(), NoMemory>
-    ensures { OnOk result (string_bytes out.new ≡ string_bytes out.old ++ signed_decimal n) }
-{
-    let digits = n.to_string(alloc)?;
-    out.push_str(digits.as_str())?;
-    Ok(())
-}
-
-fn put_row(alloc: Global, out: &mut String, row: u16) -> Result<(), NoMemory>
-    ensures { OnOk result (string_bytes out.new ≡ string_bytes out.old ++ decimal row) }
-{
-    let digits = row.to_string(alloc)?;
-    out.push_str(digits.as_str())?;
-    Ok(())
-}
-
-fn put_column(out: &mut String, col: u16) -> Result<(), NoMemory>
-    requires some { 1 ≤ col }
-    requires few { col ≤ 702 }
-    ensures { OnOk result (string_bytes out.new ≡ string_bytes out.old ++ notation.column_text col) }
-{
-    if col <= 26 {
-        out.push((64 + col as u8) as char)?;
-        return Ok(());
-    }
-    out.push((64 + ((col - 1) / 26) as u8) as char)?;
-    out.push((65 + ((col - 1) % 26) as u8) as char)?;
-    Ok(())
-}
-
-fn put_address(alloc: Global, out: &mut String, a: Addr) -> Result<(), NoMemory>
-    ensures { OnOk result (string_bytes out.new ≡ string_bytes out.old ++ notation.address_text a) }
-{
-    put_column(out, a.col())?;
-    put_row(alloc, out, a.row())?;
-    Ok(())
-}
-
-fn put_range(alloc: Global, out: &mut String, r: Range) -> Result<(), NoMemory>
-    ensures { OnOk result (string_bytes out.new ≡ string_bytes out.old ++ text.range_text r) }
-{
-    put_address(alloc, out, r.first)?;
-    out.push_str(":")?;
-    put_address(alloc, out, r.last)?;
-    Ok(())
-}
-
 fn put_spill(alloc: Global, out: &mut String, a: Addr) -> Result<(), NoMemory>
     ensures { OnOk result (string_bytes out.new ≡ string_bytes out.old ++ (notation.address_text a ++ 35 ∷ [])) }
 {
     put_address(alloc, out, a)?;
     out.push_str("#")?;
-    Ok(())
-}
-
-fn put_truth(out: &mut String, b: bool) -> Result<(), NoMemory>
-    ensures { OnOk result (string_bytes out.new ≡ string_bytes out.old ++ text.truth_text b) }
-{
-    if b {
-        out.push_str("TRUE")?;
-    } else {
-        out.push_str("FALSE")?;
-    }
     Ok(())
 }
 

@@ -3,6 +3,7 @@
 
 mod canonical;
 mod literal;
+mod notation;
 #[cfg(test)]
 mod tests;
 mod words;
@@ -12,6 +13,8 @@ ghost use Rattle.gl_ast.specs.View.{formula_tree};
 
 pub use canonical::print;
 use gl_plane::{Addr, Range};
+pub use literal::{put, put_literal};
+pub use notation::{put_address, put_int, put_number, put_range, put_truth};
 use std::rc::RcStr;
 
 /// The version of the script, which some functions go by.

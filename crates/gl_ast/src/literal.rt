@@ -1,4 +1,4 @@
-//! Texts as literals.
+//! Texts as literals. What a text holds after `NoMemory` is not told.
 
 ghost use Rattle.std.specs.Prelude.{◌≡◌, ◌≢◌, ◌++◌, ◌∷◌, [], ◌/◌, ◌%◌, ◌<◌, OnOk, flat_map};
 ghost use Rattle.std.specs.Char.{encode_utf8};

@@ -2,3 +2,4 @@ pub mod Content
 pub mod Sheet
 pub mod Search
 pub mod Equal
+pub mod Plain

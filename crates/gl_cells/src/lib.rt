@@ -6,6 +6,7 @@ mod cells;
 mod clear;
 mod content;
 mod fault;
+mod plain;
 mod search;
 mod table;
 #[cfg(test)]
@@ -14,6 +15,7 @@ mod tests;
 pub use cells::Cells;
 pub use content::Content;
 pub use fault::PutFault;
+pub use plain::plain_scalar;
 
 /// The most formulas that a sheet has.
 pub const MAX_FORMULAS: usize = 16384;

@@ -2,7 +2,7 @@ ghost use Rattle.std.specs.Prelude.{IfOk};
 ghost use Rattle.gl_language.specs.Content.{IsProperContent};
 ghost use Rattle.gl_cells.specs.Content.{content_tree};
 
-use crate::{Cells, Content, MAX_CONTENTS, MAX_FORMULAS, PutFault};
+use crate::{Cells, Content, MAX_CONTENTS, MAX_FORMULAS, PutFault, plain_scalar};
 use gl_ast::Formula;
 use gl_plane::{Addr, Range};
 use gl_value::Scalar;
@@ -113,5 +113,36 @@ fn several_at_once(rt: HostRuntime) -> Result<(), Fail> {
     cells.put_all(rt.alloc(), list)?;
     assert_eq!(rt; cells.contents(), 1);
     assert!(rt; matches!(cells.content(a), Some(Content::Const(Scalar::Int(5)))));
+    Ok(())
+}
+
+fn number_of(x: &Scalar) -> Option<i64> {
+    match x {
+        Scalar::Int(n) => Some(*n),
+        _ => None,
+    }
+}
+
+#[test]
+fn plain_texts(rt: HostRuntime) -> Result<(), Fail> {
+    for (text, number) in [
+        ("007", Some(7)),
+        ("-0", Some(0)),
+        ("9223372036854775807", Some(9223372036854775807)),
+        ("-9223372036854775808", Some(-9223372036854775808)),
+        ("9223372036854775808", None),
+        ("-9223372036854775809", None),
+        ("-", None),
+        ("+1", None),
+        ("1.0", None),
+        ("TRUE", None),
+    ] {
+        let x = plain_scalar(rt.alloc(), text)?;
+        assert_eq!(rt; number_of(&x), number, "at {text}");
+    }
+    let truth = plain_scalar(rt.alloc(), "FALSE")?;
+    assert!(rt; matches!(truth, Scalar::Bool(false)));
+    let text = plain_scalar(rt.alloc(), "true")?;
+    assert!(rt; matches!(text, Scalar::Text(_)));
     Ok(())
 }

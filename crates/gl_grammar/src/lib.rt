@@ -1,0 +1,24 @@
+//! The laws of the grammar: a text is at most one formula or has one first fault, and the canonical text of a formula is read as this formula again. This crate has proofs alone; each law is the contract of a function that does nothing.
+#![tactic(auto)]
+
+ghost use Rattle.gl_language.specs.Laws.{OneFormula, OneFault, FormulaOrFault, PrintsBack, ReadsWellFormed};
+ghost use Rattle.gl_grammar.specs.Laws.{WellFormedHasTokens, WellFormedParses};
+
+/// A text is at most one formula, or has one first fault, and not both.
+pub fn one_answer()
+    ensures formula { OneFormula }
+    ensures fault { OneFault }
+    ensures apart { FormulaOrFault }
+{}
+
+/// What is read is well formed, and what is well formed is read from its canonical text.
+pub fn well_formed()
+    ensures reads { ReadsWellFormed }
+    ensures tokens { WellFormedHasTokens }
+    ensures parses { WellFormedParses }
+{}
+
+/// The canonical text of a formula that was read is read as this formula again, and is no longer than the text that it was read from.
+pub fn prints_back()
+    ensures { PrintsBack }
+{}

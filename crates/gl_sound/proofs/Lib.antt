@@ -1,0 +1,12 @@
+pub mod Values
+pub mod Operators
+pub mod Lift
+pub mod Rows
+pub mod Arrays
+pub mod Functions
+pub mod Sheets
+pub mod References
+pub mod Evaluation
+pub mod Proved
+pub mod WellFormed
+pub mod Needed
