@@ -1,8 +1,7 @@
 -- The content of a text, by what was read of it.
-use Rattle.std.proofs.Common.{◌≡◌, ◌≢◌, ◌∙◌, ℕ, ◌<◌, ◌≤◌, Bool, true, false, List, [], ◌∷◌, ◌++◌, length, get_or, Option, Some, None, Result, Ok, Err, refl, sym, ap, subst, arith, IsTrue}
+use Rattle.std.proofs.Common.{◌≡◌, ◌≢◌, ◌∙◌, ℕ, ◌<◌, ◌≤◌, true, false, List, [], ◌∷◌, ◌++◌, length, get_or, Err, refl, sym, ap, subst, arith, IsTrue}
 use Rattle.std.specs.Prelude.{ℤ, nat_le, ◌&&◌}
 use Rattle.std.specs.List.{AllByRecursion}
-use Rattle.std.specs.Rc.{rc_str_bytes, rc_value}
 use Rattle.std.specs.Str.{IsUtf8, is_utf8}
 use Rattle.std.proofs.lemmas.Bool.Decides.{nat_tests}
 use Rattle.std.proofs.lemmas.Str.{is_utf8-from_IsUtf8}
@@ -20,10 +19,8 @@ use Rattle.gl_lex.specs.declared.fault.LexFault.TheVariants as lex
 use Rattle.gl_parse.specs.Outcome.{IsRefused}
 use Rattle.gl_parse.specs.declared.fault.ParseFault.{ParseFault}
 use Rattle.gl_parse.specs.declared.fault.ParseFault.TheVariants as parse
-use Rattle.gl_script.specs.declared.requests.CommandFault.TheVariants as f
 use Rattle.gl_lex.specs.declared.fault.LexFault.{LexFault}
 use Rattle.gl_lex.specs.View.{IsLiteral}
-use Rattle.std.specs.declared.alloc.Global.{Global}
 use Rattle.gl_script.specs.Parts.{IsContent, is_int, formula_fault, literal_fault}
 use Rattle.gl_script.proofs.Decoded.{decoded_text}
 

@@ -43,7 +43,7 @@ pieces-at separator (b ∷ bs) rest h =
 abbrev pub Shape : Bytes → Type 0
 Shape bs = (pieces 32 bs ≡ bs ∷ []) ⊎ ((list_all is_digit bs ≡ false) × (p : Bytes) × (q : Bytes) × (ps : List Bytes) × (pieces 32 bs ≡ p ∷ q ∷ ps))
 
-first_piece : (bs : Bytes) → (p : Bytes) × (ps : List Bytes) × (pieces 32 bs ≡ p ∷ ps)
+pub first_piece : (bs : Bytes) → (p : Bytes) × (ps : List Bytes) × (pieces 32 bs ≡ p ∷ ps)
 first_piece [] = ([], [], refl)
 first_piece (b ∷ bs) =
     let ih = first_piece bs in

@@ -5,3 +5,5 @@ pub mod Places
 pub mod Decoded
 pub mod Contents
 pub mod Lines
+pub mod Once
+pub mod Alone

@@ -1,5 +1,5 @@
 -- What a line asks, by its words.
-use Rattle.std.proofs.Common.{◌≡◌, ◌≢◌, ◌∙◌, ℕ, ◌*◌, ◌<◌, ◌≤◌, Bool, true, false, cond, leb, List, [], ◌∷◌, length, Option, Some, None, Result, Ok, Err, refl, sym, ap, subst, arith, IsTrue}
+use Rattle.std.proofs.Common.{◌≡◌, ◌≢◌, ◌∙◌, ℕ, ◌*◌, ◌<◌, ◌≤◌, Bool, true, false, cond, leb, ◌∷◌, length, Option, Some, None, Ok, Err, refl, sym, ap, subst, arith, IsTrue}
 use Rattle.std.specs.Prelude.{MatchOption, IfSome, IfNone, IsFalse, bytes_eq, codes}
 use Rattle.std.specs.Str.{is_utf8}
 use Rattle.std.proofs.lemmas.Bool.Decides.{nat_tests}
@@ -12,14 +12,12 @@ use Rattle.gl_protocol.specs.Pieces.{is_number}
 use Rattle.gl_protocol.specs.Header.{payload_len, count_of}
 use Rattle.gl_protocol.specs.Commands as C
 use Rattle.gl_protocol.specs.Commands.{Read, Is, Not, Word, ReadsLine, ReadsWords, ReadsRange, SetWords, ImportWords, ClearWords, ViewWords, IsAddress, NoAddress, is_viewable, words_of, is_comment}
-use Rattle.gl_parse.specs.Outcome.{IsRefused}
-use Rattle.gl_parse.specs.declared.fault.ParseFault.{ParseFault}
 use Rattle.gl_cells.specs.declared.content.Content.{Content}
 use Rattle.gl_cells.specs.Content.{content_tree}
 use Rattle.gl_script.specs.declared.requests.CommandFault.{CommandFault}
 use Rattle.gl_script.specs.declared.requests.CommandFault.TheVariants as f
 use Rattle.gl_script.specs.declared.requests.Request.TheVariants as r
-use Rattle.gl_script.specs.Command.{Answers, Asks, Refuses, IsHeader, SetsText, parse_word, is_version_line}
+use Rattle.gl_script.specs.Command.{Answers, Asks, IsHeader, SetsText, is_version_line}
 use Rattle.gl_script.specs.Parts.{HasWords, IsContent, IsRange}
 use Rattle.gl_script.proofs.Cuts.{Says, says, same_bytes}
 
@@ -99,7 +97,7 @@ pub import_asks : (l place count : Bytes) (o : Option Addr) (n : ℕ) → HasWor
 unfolding payload_len
 import_asks l place count o n h e k =
     let s : Says l (Some (ImportWords place count)) = subst (Says l) h.words (says l) in
-    record { place = place; count = count; words = h.words; is_at = k; payload = rw h.text (s.1 ∙ sym e); }
+    record { place = place; count = count; words = h.words; is_at = k; payload = rw h.text (s.1 ∙ sym e) }
 
 too_many : (count : Bytes) → is_number count ≡ true → None ≡ count_of count → max_payload < digits_value count
 too_many count h e = by (leb (digits_value count) max_payload) refl (rw h at e)
@@ -115,8 +113,14 @@ import_refused l place count h e =
 
 -- ---- whole lines
 
-pub version_is : (l : Bytes) → bytes_eq l (codes "gridlet 2") ≡ true → IsTrue (is_version_line l)
-version_is l h = subst (λ (x : Bytes). IsTrue (is_version_line x)) (sym (same_bytes l (codes "gridlet 2") h)) refl
+no_words_of_version : (l : Bytes) → bytes_eq l (codes "gridlet 2") ≡ true → words_of l ≡ None
+no_words_of_version l h = subst (λ (x : Bytes). words_of x ≡ None) (sym (same_bytes l (codes "gridlet 2") h)) refl
+
+pub version_is : (l : Bytes) → IsFalse (is_comment l) → IsTrue (is_utf8 l) → bytes_eq l (codes "gridlet 2") ≡ true → Asks l r.Version
+version_is l n u h = (
+  subst (λ (x : Bytes). IsTrue (is_version_line x)) (sym (same_bytes l (codes "gridlet 2") h)) refl,
+  C.ReadsLine.command n u (no_words_of_version l h),
+)
 
 is_false : (b : Bool) → (b ≡ true → ⊥) → b ≡ false
 is_false true h = absurd (h refl)

@@ -1,10 +1,8 @@
 -- Addresses and ranges by their texts.
-use Rattle.std.proofs.Common.{◌≡◌, ◌≢◌, ◌∙◌, ℕ, zero, suc, ◌+◌, ◌^◌, ◌<◌, ◌≤◌, Bool, true, false, ◌&&◌, nat_le, List, [], ◌∷◌, ◌++◌, length, get_or, Option, Some, None, ◌⊎◌, inl, inr, refl, sym, ap, subst, arith, IsTrue}
-use Rattle.std.specs.Prelude.{IsFalse}
+use Rattle.std.proofs.Common.{◌≡◌, ◌∙◌, ℕ, zero, suc, Bool, true, false, ◌&&◌, nat_le, [], ◌∷◌, ◌++◌, Option, Some, ◌⊎◌, inl, inr, refl, sym, ap, subst, arith}
 use Rattle.std.specs.Fmt.{decimal}
-use Rattle.std.proofs.lemmas.Bool.Decides.{nat_tests}
-use Rattle.gl_calculus.specs.Grid.{Addr, Range, range, covers, grid, extents}
-use Rattle.gl_calculus.specs.Notation.{column_text, address_text}
+use Rattle.gl_calculus.specs.Grid.{Addr, Range, range}
+use Rattle.gl_calculus.specs.Notation.{column_text}
 use Rattle.gl_language.specs.Text.{Bytes}
 use Rattle.gl_language.specs.Token.{is_digit, is_upper}
 use Rattle.gl_plane.specs.Parts.{is_ordered}
@@ -38,11 +36,11 @@ address_lacks bs a h =
 
 -- ---- places
 
-holds_colon : (bs cs : Bytes) → Lacks 58 (bs ++ 58 ∷ cs) → ⊥
+pub holds_colon : (bs cs : Bytes) → Lacks 58 (bs ++ 58 ∷ cs) → ⊥
 holds_colon [] cs h = h 0 (omega arith) refl
 holds_colon (b ∷ bs) cs h = holds_colon bs cs (λ i l. h (suc i) (omega arith))
 
-same_cut : (bs cs us vs : Bytes) → Lacks 58 bs → Lacks 58 us → bs ++ 58 ∷ cs ≡ us ++ 58 ∷ vs → (bs ≡ us) × (cs ≡ vs)
+pub same_cut : (bs cs us vs : Bytes) → Lacks 58 bs → Lacks 58 us → bs ++ 58 ∷ cs ≡ us ++ 58 ∷ vs → (bs ≡ us) × (cs ≡ vs)
 same_cut bs cs us vs h k e =
     let p : cut_at 58 (bs ++ 58 ∷ cs) ≡ cut_at 58 (us ++ 58 ∷ vs) = ap (cut_at 58) e in
     let front : bs ≡ us = sym (ap (λ (x : Bytes × Option Bytes). x.0) (cut-at 58 bs cs h)) ∙ ap (λ (x : Bytes × Option Bytes). x.0) p ∙ ap (λ (x : Bytes × Option Bytes). x.0) (cut-at 58 us vs k) in

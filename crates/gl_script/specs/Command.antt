@@ -1,6 +1,5 @@
 -- What a line asks, or why it is refused, in the words of the definitions.
 use Rattle.std.specs.Prelude.{◌≡◌, ℕ, ◌∷◌, Bool, Option, Some, None, MatchOption, Result, Ok, Err, IsTrue, IsFalse, codes, ⊤}
-use Rattle.std.specs.Str.{is_utf8}
 use Rattle.gl_calculus.specs.Grid.{Addr}
 use Rattle.gl_language.specs.Text.{Bytes}
 use Rattle.gl_language.specs.Content.{IsProperContent}
@@ -45,7 +44,7 @@ word_of f.Text = Some C.TextWord
 word_of f.Field = Some C.FieldWord
 word_of f.NoMemory = None
 
--- the line that gives a script version Two where it stands first
+-- the line that gives a script version Two, where it is the first
 abbrev pub is_version_line : Bytes → Bool
 is_version_line l = is_line (codes "gridlet 2") (Line l)
 
@@ -57,7 +56,7 @@ pub record IsHeader (l : Bytes) (place_at : Option Addr) (n : ℕ) : Type 0 wher
   pub is_at : MatchOption place_at (NoAddress place) (IsAddress place)
   pub payload : payload_len l ≡ Some n
 
--- the line asks this
+-- The line asks this. The version line asks something only where it is the first of a script, and is refused elsewhere.
 abbrev pub Asks : Bytes → Request → Type 0
 Asks l r.Nothing = ReadsLine l (Is C.Request.Nothing)
 Asks l (r.Set a c) = ReadsLine l (Is (C.Request.Set a (content_tree c))) × IsProperContent (content_tree c)
@@ -70,7 +69,7 @@ Asks l r.Calc = ReadsLine l (Is C.Request.Calculate)
 Asks l r.Oracle = ReadsLine l (Is C.Request.ShowOracle)
 Asks l (r.Why a) = ReadsLine l (Is (C.Request.Why a))
 Asks l (r.Import a n) = IsHeader l a n
-Asks l r.Version = IsTrue (is_version_line l)
+Asks l r.Version = IsTrue (is_version_line l) × ReadsLine l (Not C.CommandWord)
 Asks l r.Quit = ReadsLine l (Is C.Request.Quit)
 
 -- the line sets an address to this text

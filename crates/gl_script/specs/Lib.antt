@@ -3,3 +3,4 @@ pub mod FeedView
 pub mod Framer
 pub mod Command
 pub mod Parts
+pub mod Laws

@@ -1,7 +1,6 @@
 -- The parts of a line: words, places and texts.
 use Rattle.std.specs.Prelude.{◌≡◌, ◌∷◌, Option, Some, None, Result, Ok, Err, IsTrue, IsFalse, Bool, true, false, ⊤}
 use Rattle.std.specs.Str.{is_utf8}
-use Rattle.gl_calculus.specs.Grid.{Addr, Range}
 use Rattle.gl_calculus.specs.Value as V
 use Rattle.gl_language.specs.Text.{Bytes}
 use Rattle.gl_language.specs.Content.{IsProperContent}

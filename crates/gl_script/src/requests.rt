@@ -32,10 +32,7 @@ pub enum Request {
     Oracle,
     Why(Addr),
     /// The header of an import, which `n` bytes follow; `at` is `None` where its place is no address.
-    Import {
-        at: Option<Addr>,
-        n: u32,
-    },
+    Import { at: Option<Addr>, n: u32 },
     /// The line `gridlet 2`, which asks something only where it is the first of a script.
     Version,
     Quit,

@@ -1,4 +1,4 @@
-use Rattle.std.proofs.Common.{None, Some, lit<}
+use Rattle.std.proofs.Common.{None, lit<}
 use Rattle.std.proofs.lemmas.Str.Pattern.{strip_prefix_char}
 use Rattle.gl_script.proofs.Contents.{no_formula}
 use Rattle.gl_script.proofs.content.read_content.Goals as goal

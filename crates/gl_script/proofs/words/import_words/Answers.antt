@@ -1,6 +1,5 @@
 use Rattle.std.proofs.Common.{◌≡◌, ◌∙◌, sym, ap, true, false, length}
 use Rattle.std.specs.Prelude.{codes, bytes_eq, ◌==◌}
-use Rattle.gl_language.specs.Text.{Bytes}
 use Rattle.gl_protocol.specs.Pieces.{is_number}
 use Rattle.gl_script.proofs.Cuts.{import-some, import-word, import-place, import-count}
 use Rattle.gl_script.proofs.words.import_words.Goals as goal

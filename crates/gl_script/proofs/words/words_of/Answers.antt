@@ -1,6 +1,5 @@
-use Rattle.std.proofs.Common.{◌≡◌, ◌∙◌, ◌∷◌, sym, ap, true, false, arith, Some, None, lit<}
+use Rattle.std.proofs.Common.{◌≡◌, ◌∙◌, sym, ap, true, false, arith, Some, None, lit<}
 use Rattle.std.specs.Prelude.{codes, bytes_eq}
-use Rattle.gl_language.specs.Text.{Bytes}
 use Rattle.gl_protocol.specs.Commands.{words_of}
 use Rattle.std.proofs.lemmas.Str.Pattern.{split_parts}
 use Rattle.gl_script.proofs.Cuts.{words-one, words-set, words-more}
