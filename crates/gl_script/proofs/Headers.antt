@@ -40,10 +40,10 @@ pieces-at separator (b ∷ bs) rest h =
     rw (e, ih) refl
 
 -- a text with no space is one piece, and one with a space is no number
-abbrev Shape : Bytes → Type 0
+abbrev pub Shape : Bytes → Type 0
 Shape bs = (pieces 32 bs ≡ bs ∷ []) ⊎ ((list_all is_digit bs ≡ false) × (p : Bytes) × (q : Bytes) × (ps : List Bytes) × (pieces 32 bs ≡ p ∷ q ∷ ps))
 
-first_piece : (bs : Bytes) → (p : Bytes) × (ps : List Bytes) × (pieces 32 bs ≡ p ∷ ps)
+pub first_piece : (bs : Bytes) → (p : Bytes) × (ps : List Bytes) × (pieces 32 bs ≡ p ∷ ps)
 first_piece [] = ([], [], refl)
 first_piece (b ∷ bs) =
     let ih = first_piece bs in
@@ -57,7 +57,7 @@ all-false : (b : Bool) (c : Bool) → c ≡ false → b && c ≡ false
 all-false true c e = e
 all-false false c e = refl
 
-shape : (bs : Bytes) → Shape bs
+pub shape : (bs : Bytes) → Shape bs
 shape [] = inl refl
 shape (b ∷ bs) =
     let P : Bool → Type 0 = λ c. eqb b 32 ≡ c → Shape (b ∷ bs) in
@@ -85,7 +85,7 @@ number-digits (b ∷ c ∷ bs) h =
       | false ↦ λ e. cc
     ]) h
 
-no_number : (bs : Bytes) → list_all is_digit bs ≡ false → is_number bs ≡ false
+pub no_number : (bs : Bytes) → list_all is_digit bs ≡ false → is_number bs ≡ false
 no_number bs h =
     let P : Bool → Type 0 = λ c. is_number bs ≡ c → c ≡ false in
     (elim (is_number bs) as P [ true ↦ λ e. let f = number-digits bs e in cc | false ↦ λ e. refl ]) refl

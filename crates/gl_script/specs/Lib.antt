@@ -1,3 +1,6 @@
 pub mod Feed
 pub mod FeedView
 pub mod Framer
+pub mod Command
+pub mod Parts
+pub mod Laws

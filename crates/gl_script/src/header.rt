@@ -18,7 +18,7 @@ fn are_digits(bytes: &[u8]) -> bool
 }
 
 // Digits without a leading zero, or `0`.
-fn is_number(digits: &[u8]) -> bool
+pub(crate) fn is_number(digits: &[u8]) -> bool
     ensures { result ≡ is_number digits.now }
 {
     match digits {
@@ -29,7 +29,7 @@ fn is_number(digits: &[u8]) -> bool
 }
 
 // The count that the last piece of a header writes.
-fn count_of(text: &str) -> Option<u32>
+pub(crate) fn count_of(text: &str) -> Option<u32>
     ensures value { result ≡ count_of text.now }
     ensures limit { IfSome result (λ n. n ≤ max_payload) }
 {

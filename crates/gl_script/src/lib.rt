@@ -1,13 +1,21 @@
-//! Scripts: a stream of bytes as lines and payloads.
+//! Scripts: a stream of bytes as lines and payloads, and lines as requests.
 #![tactic(auto)]
 
+#[cfg(test)]
+mod command_tests;
+mod content;
 mod feed;
 mod framer;
 mod header;
+pub mod laws;
+mod place;
+mod requests;
+mod words;
 
 pub use feed::{Event, Feed, MAX_LINE};
 pub use framer::{Ended, Framer};
 pub use header::{MAX_PAYLOAD, is_quit, payload_due};
+pub use requests::{CommandFault, MAX_VIEW, Request, command};
 
 #[cfg(test)]
 mod tests {

@@ -1,0 +1,19 @@
+use Rattle.std.proofs.Common.{subst}
+use Rattle.gl_protocol.specs.Commands as C
+use Rattle.gl_protocol.specs.Commands.{Is}
+use Rattle.gl_script.specs.Parts.{HasWords, words_tree}
+use Rattle.gl_script.specs.declared.words.Words.{Words}
+use Rattle.gl_script.proofs.Lines.{line_reads}
+use Rattle.gl_script.proofs.requests.read_words.Goals as goal
+
+pub returns-in-List : goal.returns-in-List
+returns-in-List c = λ l h. line_reads l C.ListWords (Is C.Request.ListAll) (subst (λ (ws : Words). HasWords l (words_tree ws)) c.in-List.is h) C.ReadsWords.list
+
+pub returns-in-Calc : goal.returns-in-Calc
+returns-in-Calc c = λ l h. line_reads l C.CalcWords (Is C.Request.Calculate) (subst (λ (ws : Words). HasWords l (words_tree ws)) c.in-Calc.is h) C.ReadsWords.calc
+
+pub returns-in-Oracle : goal.returns-in-Oracle
+returns-in-Oracle c = λ l h. line_reads l C.OracleWords (Is C.Request.ShowOracle) (subst (λ (ws : Words). HasWords l (words_tree ws)) c.in-Oracle.is h) C.ReadsWords.oracle
+
+pub returns-in-Quit : goal.returns-in-Quit
+returns-in-Quit c = λ l h. line_reads l C.QuitWords (Is C.Request.Quit) (subst (λ (ws : Words). HasWords l (words_tree ws)) c.in-Quit.is h) C.ReadsWords.quit

@@ -1,0 +1,95 @@
+-- What a line asks, or why it is refused, in the words of the definitions.
+use Rattle.std.specs.Prelude.{◌≡◌, ℕ, ◌∷◌, Bool, Option, Some, None, MatchOption, Result, Ok, Err, IsTrue, IsFalse, codes, ⊤}
+use Rattle.gl_calculus.specs.Grid.{Addr}
+use Rattle.gl_language.specs.Text.{Bytes}
+use Rattle.gl_language.specs.Content.{IsProperContent}
+use Rattle.gl_protocol.specs.Framing.{Line}
+use Rattle.gl_protocol.specs.Header.{payload_len}
+use Rattle.gl_protocol.specs.Output.{is_line}
+use Rattle.gl_protocol.specs.Commands as C
+use Rattle.gl_protocol.specs.Commands.{Word, Is, Not, ReadsLine, words_of, SetWords, ImportWords, is_comment, IsAddress, NoAddress}
+use Rattle.gl_lex.specs.declared.fault.LexFault.TheVariants as lex
+use Rattle.gl_parse.specs.Outcome.{IsRefused}
+use Rattle.gl_parse.specs.declared.fault.ParseFault.{ParseFault}
+use Rattle.gl_parse.specs.declared.fault.ParseFault.TheVariants as parse
+use Rattle.gl_cells.specs.Content.{content_tree}
+use Rattle.gl_script.specs.declared.requests.Request.{Request}
+use Rattle.gl_script.specs.declared.requests.Request.TheVariants as r
+use Rattle.gl_script.specs.declared.requests.CommandFault.{CommandFault}
+use Rattle.gl_script.specs.declared.requests.CommandFault.TheVariants as f
+
+-- the word of a formula's fault; a want of memory is none
+abbrev pub parse_word : ParseFault → Option Word
+parse_word parse.Long = Some C.LongWord
+parse_word (parse.Lex (lex.Token at_byte)) = Some C.TokenWord
+parse_word (parse.Lex (lex.Number at_byte)) = Some C.NumberWord
+parse_word (parse.Lex (lex.Text at_byte)) = Some C.TextWord
+parse_word (parse.Lex lex.NoMemory) = None
+parse_word parse.Deep = Some C.DeepWord
+parse_word parse.Syntax = Some C.SyntaxWord
+parse_word parse.Range = Some C.RangeWord
+parse_word parse.Name = Some C.NameWord
+parse_word parse.Arity = Some C.ArityWord
+parse_word parse.NoMemory = None
+
+-- the word of a refusal
+abbrev pub word_of : CommandFault → Option Word
+word_of f.Utf8 = Some C.Utf8Word
+word_of f.Word = Some C.CommandWord
+word_of f.Payload = Some C.PayloadWord
+word_of f.Address = Some C.AddressWord
+word_of f.Range = Some C.RangeWord
+word_of (f.Parse e) = parse_word e
+word_of f.Text = Some C.TextWord
+word_of f.Field = Some C.FieldWord
+word_of f.NoMemory = None
+
+-- the line that gives a script version Two, where it is the first
+abbrev pub is_version_line : Bytes → Bool
+is_version_line l = is_line (codes "gridlet 2") (Line l)
+
+-- the header of an import, which so many bytes follow: its place is this address, or none
+pub record IsHeader (l : Bytes) (place_at : Option Addr) (n : ℕ) : Type 0 where
+  pub place : Bytes
+  pub count : Bytes
+  pub words : words_of l ≡ Some (ImportWords place count)
+  pub is_at : MatchOption place_at (NoAddress place) (IsAddress place)
+  pub payload : payload_len l ≡ Some n
+
+-- The line asks this. The version line asks something only where it is the first of a script, and is refused elsewhere.
+abbrev pub Asks : Bytes → Request → Type 0
+Asks l r.Nothing = ReadsLine l (Is C.Request.Nothing)
+Asks l (r.Set a c) = ReadsLine l (Is (C.Request.Set a (content_tree c))) × IsProperContent (content_tree c)
+Asks l (r.Clear x) = ReadsLine l (Is (C.Request.Clear x))
+Asks l (r.Show a) = ReadsLine l (Is (C.Request.Show a))
+Asks l (r.View x) = ReadsLine l (Is (C.Request.View x))
+Asks l (r.Get a) = ReadsLine l (Is (C.Request.Get a))
+Asks l r.List = ReadsLine l (Is C.Request.ListAll)
+Asks l r.Calc = ReadsLine l (Is C.Request.Calculate)
+Asks l r.Oracle = ReadsLine l (Is C.Request.ShowOracle)
+Asks l (r.Why a) = ReadsLine l (Is (C.Request.Why a))
+Asks l (r.Import a n) = IsHeader l a n
+Asks l r.Version = IsTrue (is_version_line l) × ReadsLine l (Not C.CommandWord)
+Asks l r.Quit = ReadsLine l (Is C.Request.Quit)
+
+-- the line sets an address to this text
+abbrev pub SetsText : Bytes → Bytes → Type 0
+SetsText l t = (place : Bytes) × (words_of l ≡ Some (SetWords place t))
+
+-- what tells apart the faults that have one word
+abbrev pub IsCause : Bytes → CommandFault → Type 0
+IsCause l f.Word = IsFalse (is_version_line l)
+IsCause l f.Range = (t : Bytes) → SetsText l t → ⊥
+IsCause l (f.Parse e) = (t : Bytes) × SetsText l (61 ∷ t) × IsRefused t e
+IsCause l f.Text = (t : Bytes) × SetsText l (34 ∷ t)
+IsCause l e = ⊤
+
+-- the line is refused by the word of this fault, and for this cause
+abbrev pub Refuses : Bytes → CommandFault → Type 0
+Refuses l e = MatchOption (word_of e) ⊥ (λ w. ReadsLine l (Not w)) × IsCause l e
+
+-- the answer to a line is what it asks or why it is refused; a want of memory says nothing
+abbrev pub Answers : Bytes → Result Request CommandFault → Type 0
+Answers l (Ok x) = Asks l x
+Answers l (Err f.NoMemory) = ⊤
+Answers l (Err e) = Refuses l e

@@ -1,0 +1,15 @@
+//! Laws of the reading of lines.
+ghost use Rattle.gl_protocol.specs.Laws.{OneContent, OneRequest};
+ghost use Rattle.gl_script.specs.Laws.{OneHeader, HeaderAsksNothing};
+
+/// A text is read as one content or refused by one word, and a line as one request or by one word.
+pub fn one_reading()
+    ensures content { OneContent }
+    ensures line { OneRequest }
+{}
+
+/// A line is the header of one import at most, and such a line asks nothing else and is not refused.
+pub fn one_header()
+    ensures header { OneHeader }
+    ensures apart { HeaderAsksNothing }
+{}

@@ -1,0 +1,215 @@
+//! Lines as requests.
+ghost use Rattle.std.specs.Prelude.{◌≡◌, IsFalse};
+ghost use Rattle.gl_language.specs.Text.{Bytes};
+ghost use Rattle.gl_protocol.specs.Commands.{is_comment};
+ghost use Rattle.gl_protocol.specs.Commands as C;
+ghost use Rattle.gl_script.specs.Command.{Answers};
+ghost use Rattle.gl_script.specs.Parts.{HasWords, words_tree};
+
+use crate::content::read_content;
+use crate::header::count_of;
+use crate::place::{read_address, read_range};
+use crate::words::{Words, words_of};
+use gl_cells::Content;
+use gl_parse::ParseFault;
+use gl_plane::{Addr, NoMemory, Range};
+use std::alloc::{AllocFailed, Global};
+use std::str;
+
+/// What a line asks.
+#[derive(Drop)]
+pub enum Request {
+    /// Nothing: an empty line, or one that begins with `;`.
+    Nothing,
+    Set(Addr, Content),
+    Clear(Range),
+    Show(Addr),
+    /// A range of at most `MAX_VIEW` cells.
+    View(Range),
+    Get(Addr),
+    List,
+    Calc,
+    Oracle,
+    Why(Addr),
+    /// The header of an import, which `n` bytes follow; `at` is `None` where its place is no address.
+    Import { at: Option<Addr>, n: u32 },
+    /// The line `gridlet 2`, which asks something only where it is the first of a script.
+    Version,
+    Quit,
+}
+
+/// Why a line is refused: the first of these that holds, in this order.
+#[derive(Debug, Drop)]
+pub enum CommandFault {
+    /// The line isn't UTF-8.
+    Utf8,
+    /// No such command, an argument that is missing, empty or one too many, or a count that is neither `0`
+    /// nor digits without a leading zero.
+    Word,
+    /// The count of an import is above `MAX_PAYLOAD`.
+    Payload,
+    /// The address, or a corner of the range, is no address of the grid.
+    Address,
+    /// The corners of the range are not in order, or a view has more than `MAX_VIEW` cells.
+    Range,
+    /// The text of `set` begins with `=`, and what follows is no formula. It is never a want of memory.
+    Parse(ParseFault),
+    /// The text of `set` begins with `"` and is no literal.
+    Text,
+    /// The text of `set` is neither of these, nor a number, and is longer than a text may be.
+    Field,
+    NoMemory,
+}
+
+/// The most cells of a view.
+pub const MAX_VIEW: u32 = 10000;
+
+impl From<NoMemory> for CommandFault {
+    ghost use Rattle.std.specs.Prelude.{◌≡◌};
+    ghost use Rattle.gl_script.specs.declared.requests.CommandFault.TheVariants.{NoMemory};
+
+    ghost from_gives = { λ _ e. e ≡ NoMemory };
+
+    fn from(_: NoMemory) -> CommandFault {
+        CommandFault::NoMemory
+    }
+}
+
+impl<T: Drop> From<AllocFailed<T>> for CommandFault {
+    ghost use Rattle.std.specs.Prelude.{◌≡◌};
+    ghost use Rattle.gl_script.specs.declared.requests.CommandFault.TheVariants.{NoMemory};
+
+    ghost from_gives = { λ _ e. e ≡ NoMemory };
+
+    fn from(_: AllocFailed<T>) -> CommandFault {
+        CommandFault::NoMemory
+    }
+}
+
+/// What a line asks, or the first cause by which it is refused. A want of memory is always `NoMemory`.
+pub fn command(alloc: Global, line: &[u8]) -> Result<Request, CommandFault>
+    ensures { Answers line.now result }
+{
+    if is_comment(line) {
+        return Ok(Request::Nothing);
+    }
+    match str::from_utf8(line) {
+        Ok(text) => command_of_text(alloc, text),
+        Err(_) => Err(CommandFault::Utf8),
+    }
+}
+
+fn is_comment(line: &[u8]) -> bool
+    ensures { result ≡ is_comment line.now }
+{
+    match line.split_first() {
+        None => true,
+        Some((first, _)) => *first == b';',
+    }
+}
+
+fn command_of_text(alloc: Global, text: &str) -> Result<Request, CommandFault>
+    ensures { IsFalse (is_comment text.now) → Answers text.now result }
+{
+    if text == "gridlet 2" {
+        return Ok(Request::Version);
+    }
+    match words_of(text) {
+        Some(words) => read_words(alloc, words),
+        None => Err(CommandFault::Word),
+    }
+}
+
+// What the words of a line ask.
+fn read_words(alloc: Global, words: Words<'_>) -> Result<Request, CommandFault>
+    ensures { (l : Bytes) → HasWords l (words_tree words.entry) → Answers l result }
+{
+    match words {
+        Words::List => Ok(Request::List),
+        Words::Calc => Ok(Request::Calc),
+        Words::Oracle => Ok(Request::Oracle),
+        Words::Quit => Ok(Request::Quit),
+        Words::Set(place, text) => set(alloc, place, text),
+        Words::Clear(place) => clear(place),
+        Words::View(place) => view(place),
+        Words::Show(place) => show(place),
+        Words::Get(place) => get(place),
+        Words::Why(place) => why(place),
+        Words::Import(place, count) => import(place, count),
+    }
+}
+
+fn set(alloc: Global, place: &str, text: &str) -> Result<Request, CommandFault>
+    ensures { (l : Bytes) → HasWords l (C.SetWords place.now text.now) → Answers l result }
+{
+    match read_address(place) {
+        Some(a) => match read_content(alloc, text) {
+            Ok(content) => Ok(Request::Set(a, content)),
+            Err(fault) => Err(fault),
+        },
+        None => Err(CommandFault::Address),
+    }
+}
+
+fn clear(place: &str) -> Result<Request, CommandFault>
+    ensures { (l : Bytes) → HasWords l (C.ClearWords place.now) → Answers l result }
+{
+    match read_range(place) {
+        Ok(range) => Ok(Request::Clear(range)),
+        Err(fault) => Err(fault),
+    }
+}
+
+fn view(place: &str) -> Result<Request, CommandFault>
+    ensures { (l : Bytes) → HasWords l (C.ViewWords place.now) → Answers l result }
+{
+    match read_range(place) {
+        Ok(range) => {
+            if range.cells() <= MAX_VIEW {
+                Ok(Request::View(range))
+            } else {
+                Err(CommandFault::Range)
+            }
+        }
+        Err(fault) => Err(fault),
+    }
+}
+
+fn show(place: &str) -> Result<Request, CommandFault>
+    ensures { (l : Bytes) → HasWords l (C.ShowWords place.now) → Answers l result }
+{
+    match read_address(place) {
+        Some(a) => Ok(Request::Show(a)),
+        None => Err(CommandFault::Address),
+    }
+}
+
+fn get(place: &str) -> Result<Request, CommandFault>
+    ensures { (l : Bytes) → HasWords l (C.GetWords place.now) → Answers l result }
+{
+    match read_address(place) {
+        Some(a) => Ok(Request::Get(a)),
+        None => Err(CommandFault::Address),
+    }
+}
+
+fn why(place: &str) -> Result<Request, CommandFault>
+    ensures { (l : Bytes) → HasWords l (C.WhyWords place.now) → Answers l result }
+{
+    match read_address(place) {
+        Some(a) => Ok(Request::Why(a)),
+        None => Err(CommandFault::Address),
+    }
+}
+
+fn import(place: &str, count: &str) -> Result<Request, CommandFault>
+    ensures { (l : Bytes) → HasWords l (C.ImportWords place.now count.now) → Answers l result }
+{
+    match count_of(count) {
+        Some(n) => Ok(Request::Import {
+            at: read_address(place),
+            n,
+        }),
+        None => Err(CommandFault::Payload),
+    }
+}
