@@ -1,0 +1,4 @@
+pub mod Reached
+pub mod Texts
+pub mod Placing
+pub mod Rising

@@ -1,0 +1,12 @@
+//! The texts of values, contents, tables and oracles.
+#![tactic(auto)]
+
+mod oracle;
+mod tables;
+#[cfg(test)]
+mod tests;
+mod values;
+
+pub use oracle::oracle_text;
+pub use tables::table;
+pub use values::{content_text, shown_text};
