@@ -5,7 +5,6 @@ pub mod Calls
 pub mod Deeper
 pub mod Ends
 pub mod Forms
-pub mod Law
 pub mod Naming
 pub mod Rules
 pub mod Rulesets

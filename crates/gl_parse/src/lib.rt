@@ -12,6 +12,8 @@ mod peek;
 mod raw;
 mod reader;
 mod stop;
+#[cfg(test)]
+mod tests;
 mod walk;
 mod whole;
 
