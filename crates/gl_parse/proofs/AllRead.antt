@@ -6,7 +6,6 @@ use Rattle.gl_lex.specs.declared.Token.{Token}
 use Rattle.gl_lex.specs.View.{tokens_in}
 use Rattle.gl_parse.specs.Reading.{Only, Never}
 
-
 pub whole_tree : {ts us : Tokens} {t : Raw} → Only IsExpr 1 ts t us → us ≡ [] → IsExpr ts t [] × ((u : Raw) → IsExpr ts u [] → u ≡ t)
 whole_tree {ts} {us} {t} one h = (subst (λ z. IsExpr ts t z) h one.reads, λ u r. (one.only u [] r tt).0)
 

@@ -96,7 +96,7 @@ module _ (text : Bytes) (raw : Raw) where
       let l = subst (λ z. IsBuilt text z k) n q in
       known text raw _ (f.Compare o b c) (ap (raw_tree text) e ∙ tree-Compare text o x y)
       (λ s. formula_tree-Compare o b c ∙ ap (λ z. F.Formula.Compare (op_tree o) (formula_tree z) (formula_tree c.value)) h ∙ ap (λ z. F.Formula.Compare (op_tree o) (formula_tree g) (formula_tree z)) j
-          ∙ ap (λ z. F.Formula.Compare (op_tree o) z (formula_tree k)) (i s.0) ∙ ap (λ z. F.Formula.Compare (op_tree o) (tree (raw_tree text x.value)) z) (l s.1))
+      ∙ ap (λ z. F.Formula.Compare (op_tree o) z (formula_tree k)) (i s.0) ∙ ap (λ z. F.Formula.Compare (op_tree o) (tree (raw_tree text x.value)) z) (l s.1))
 
   pub built_chain : (l : Level) (x : Box Raw Global) (v : Vec (Op × Raw) Global) (u : Raw) (xs : List (Op × Raw)) (b : Box Formula Global) (g : Formula) (w : Vec (Op × Formula) Global) → raw ≡ r.Chain l x v → u ≡ x.value → xs ≡ v.items → b.value ≡ g → IsBuilt text u g → (AreSpelledOperands InOrder (links (pairs text xs)) → ast.operand_trees w.items ≡ operand_trees (links (pairs text xs))) → IsBuilt text raw (f.Chain l b w)
   built_chain l x v u xs b g w e m n h p q =
@@ -104,7 +104,7 @@ module _ (text : Bytes) (raw : Raw) where
       let j = subst (λ z. AreSpelledOperands InOrder (links (pairs text z)) → ast.operand_trees w.items ≡ operand_trees (links (pairs text z))) n q in
       known text raw _ (f.Chain l b w) (ap (raw_tree text) e ∙ tree-Chain text l x v)
       (λ s. formula_tree-Chain l b w ∙ ap (λ z. F.Formula.Chain (level_tree l) (formula_tree z) (ast.operand_trees w.items)) h ∙ ap (λ z. F.Formula.Chain (level_tree l) z (ast.operand_trees w.items)) (i s.0)
-          ∙ ap (λ z. F.Formula.Chain (level_tree l) (tree (raw_tree text x.value)) z) (j s.1))
+      ∙ ap (λ z. F.Formula.Chain (level_tree l) (tree (raw_tree text x.value)) z) (j s.1))
 
   pub built_apply : (word : Span) (v : Vec Raw Global) (ws : Bytes) (xs : List Raw) (g : Formula) → raw ≡ r.Apply word v → ws ≡ letters text word → xs ≡ v.items → (AreSpelled InOrder (raws_of (plains text xs)) → formula_tree g ≡ let_or_call ws (trees (raws_of (plains text xs)))) → IsBuilt text raw g
   built_apply word v ws xs g e m n p =

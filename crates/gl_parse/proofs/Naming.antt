@@ -231,7 +231,7 @@ other_word_by vs word v f body false e h =
     let a = not (is_some (function_of word)) in
     let b = not (list_any (bytes_eq v) vs) in
     let left = ((a || b) || has_bad_name vs f) || has_bad_name vs body in
-    ap (λ z. elim z [ | true ↦ has_bad_name vs f || has_bad_name (v ∷ vs) body | false ↦ left ]) e
+    ap (λ z. elim z [ true ↦ has_bad_name vs f || has_bad_name (v ∷ vs) body | false ↦ left ]) e
     ∙ four a b (has_bad_name vs f) (has_bad_name vs body)
     ∙ sym (ap (λ z. not (z || is_some (function_of word)) || bad_name_in vs (raws_of (G.Raw.Var v ∷ f ∷ body ∷ []))) e)
 
@@ -262,7 +262,7 @@ plain_call vs word (G.Raw.Apply w xs ∷ fs) h = refl
 pub let_names : (vs : List Bytes) (word : Bytes) (v : Bytes) (f body : G.Raw) → is_let word ≡ true → has_bad_name vs (G.Raw.Apply word (raws_of (G.Raw.Var v ∷ f ∷ body ∷ []))) ≡ has_bad_name vs f || has_bad_name (v ∷ vs) body
 let_names vs word v f body h =
     let left = ((not (is_some (function_of word)) || not (list_any (bytes_eq v) vs)) || has_bad_name vs f) || has_bad_name vs body in
-    ap (λ z. elim z [ | true ↦ has_bad_name vs f || has_bad_name (v ∷ vs) body | false ↦ left ]) h
+    ap (λ z. elim z [ true ↦ has_bad_name vs f || has_bad_name (v ∷ vs) body | false ↦ left ]) h
 
 -- an answer that is another one
 pub answer_is : (r : Result Bool NoMemory) (x y : Bool) → IfOk r (λ b. b ≡ x) → x ≡ y → IfOk r (λ b. b ≡ y)

@@ -137,9 +137,15 @@ fn allows(fun: Fun, xs: &[Raw]) -> bool
     ensures { (text : Bytes) → result ≡ G.allows (fun_tree fun) (plains text xs.now) }
 {
     match fun {
-        Fun::Sum | Fun::Count | Fun::Min | Fun::Max | Fun::And | Fun::Or => between(1, MAX_ARGUMENTS, xs),
+        Fun::Sum | Fun::Count | Fun::Min | Fun::Max | Fun::And | Fun::Or => between(
+            1,
+            MAX_ARGUMENTS,
+            xs,
+        ),
         Fun::HStack | Fun::VStack => between(2, MAX_ARGUMENTS, xs),
-        Fun::Mod | Fun::Left | Fun::Right | Fun::IfError | Fun::Sequence | Fun::Filter => between(2, 2, xs),
+        Fun::Mod | Fun::Left | Fun::Right | Fun::IfError | Fun::Sequence | Fun::Filter => between(
+            2, 2, xs,
+        ),
         Fun::If | Fun::Index | Fun::Take | Fun::Drop | Fun::Lookup => between(3, 3, xs),
         Fun::Na | Fun::This => between(0, 0, xs),
         Fun::Sheet => allows_sheet(xs),

@@ -87,7 +87,11 @@ pub fn build(alloc: Global, text: &[u8], raw: &Raw) -> Result<Formula, NoMemory>
 
 #[cycle(build)]
 #[tactic(auto, using(crate::proofs::Building::operand_rules))]
-fn build_operands(alloc: Global, text: &[u8], rest: &[(Op, Raw)]) -> Result<Vec<(Op, Formula)>, NoMemory>
+fn build_operands(
+    alloc: Global,
+    text: &[u8],
+    rest: &[(Op, Raw)],
+) -> Result<Vec<(Op, Formula)>, NoMemory>
     ensures { AreSpelledOperands InOrder (links (pairs text.now rest.now)) → IfOk result (λ v. operand_trees v.items ≡ G.operand_trees (links (pairs text.now rest.now))) }
 {
     let mut built = Vec::new(alloc);
@@ -129,7 +133,12 @@ fn build_call(alloc: Global, text: &[u8], word: &[u8], xs: &[Raw]) -> Result<For
 /// A call that binds nothing.
 #[cycle(build)]
 #[tactic(auto, using(gl_ast::specs::Forms::trees))]
-fn build_plain_call(alloc: Global, text: &[u8], word: &[u8], xs: &[Raw]) -> Result<Formula, NoMemory>
+fn build_plain_call(
+    alloc: Global,
+    text: &[u8],
+    word: &[u8],
+    xs: &[Raw],
+) -> Result<Formula, NoMemory>
     ensures { AreSpelled InOrder (raws_of (plains text.now xs.now)) → IfOk result (λ f. formula_tree f ≡ G.call_of (G.function_of word.now) (G.trees (raws_of (plains text.now xs.now)))) }
 {
     let xs = build_arguments(alloc, text, xs)?;

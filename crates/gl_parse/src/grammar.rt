@@ -49,13 +49,21 @@ pub fn expr<'a>(alloc: Global, text: &[u8], tokens: &'a [Token]) -> Result<(Raw,
         return Ok((first, rest));
     };
     let (second, rest) = chain(alloc, text, Level::Cat, rest)?;
-    Ok((Raw::Compare(op, Box::new(alloc, first)?, Box::new(alloc, second)?), rest))
+    Ok((
+        Raw::Compare(op, Box::new(alloc, first)?, Box::new(alloc, second)?),
+        rest,
+    ))
 }
 
 /// Operands joined by the operators of a level, or one alone.
 #[cycle(grammar)]
 #[tactic(auto, using(crate::proofs::Rulesets::chain_rules))]
-fn chain<'a>(alloc: Global, text: &[u8], level: Level, tokens: &'a [Token]) -> Result<(Raw, &'a [Token]), Stop>
+fn chain<'a>(
+    alloc: Global,
+    text: &[u8],
+    level: Level,
+    tokens: &'a [Token],
+) -> Result<(Raw, &'a [Token]), Stop>
     ensures cases { Decides result (λ p. raw_tree text.now p.0) (λ p. tokens_in text.now p.1.now) (IsChain (level_tree level)) (chain_end (level_tree level)) (tokens_in text.now tokens.now) }
     ensures shrinks { IfOk result (λ p. length p.1.now < length tokens.now) }
 {
@@ -83,7 +91,12 @@ fn chained(alloc: Global, level: Level, first: Raw, others: Vec<(Op, Raw)>) -> R
 
 #[cycle(grammar)]
 #[tactic(auto, using(crate::proofs::Rulesets::operand_rules))]
-fn operand<'a>(alloc: Global, text: &[u8], level: Level, tokens: &'a [Token]) -> Result<(Raw, &'a [Token]), Stop>
+fn operand<'a>(
+    alloc: Global,
+    text: &[u8],
+    level: Level,
+    tokens: &'a [Token],
+) -> Result<(Raw, &'a [Token]), Stop>
     ensures cases { Decides result (λ p. raw_tree text.now p.0) (λ p. tokens_in text.now p.1.now) (IsOperand (level_tree level)) (operand_end (level_tree level)) (tokens_in text.now tokens.now) }
     ensures shrinks { IfOk result (λ p. length p.1.now < length tokens.now) }
 {
@@ -135,7 +148,12 @@ fn atom<'a>(alloc: Global, text: &[u8], tokens: &'a [Token]) -> Result<(Raw, &'a
 /// A call of this word, behind which the tokens are.
 #[cycle(grammar)]
 #[tactic(auto, using(crate::proofs::Rulesets::call_rules))]
-fn call<'a>(alloc: Global, text: &[u8], word: Span, tokens: &'a [Token]) -> Result<(Raw, &'a [Token]), Stop>
+fn call<'a>(
+    alloc: Global,
+    text: &[u8],
+    word: Span,
+    tokens: &'a [Token],
+) -> Result<(Raw, &'a [Token]), Stop>
     ensures cases { Decides result (λ p. raw_tree text.now p.0) (λ p. tokens_in text.now p.1.now) IsAtom 5 (Word (letters text.now word) ∷ tokens_in text.now tokens.now) }
     ensures shrinks { IfOk result (λ p. length p.1.now < length tokens.now) }
 {
@@ -149,7 +167,11 @@ fn call<'a>(alloc: Global, text: &[u8], word: Span, tokens: &'a [Token]) -> Resu
 /// What stands behind the left parenthesis of a call.
 #[cycle(grammar)]
 #[tactic(auto, using(crate::proofs::Rulesets::argument_rules))]
-fn arguments<'a>(alloc: Global, text: &[u8], tokens: &'a [Token]) -> Result<(Vec<Raw>, &'a [Token]), Stop>
+fn arguments<'a>(
+    alloc: Global,
+    text: &[u8],
+    tokens: &'a [Token],
+) -> Result<(Vec<Raw>, &'a [Token]), Stop>
     ensures cases { Decides result (λ p. raws_of (plains text.now p.0.items)) (λ p. tokens_in text.now p.1.now) IsArguments 5 (tokens_in text.now tokens.now) }
     ensures shrinks { IfOk result (λ p. length p.1.now < length tokens.now) }
 {

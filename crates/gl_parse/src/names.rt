@@ -99,13 +99,22 @@ fn bad_name(text: &[u8], scope: &mut Vec<Span>, raw: &Raw) -> Result<bool, NoMem
             bad_name(text, scope, g)
         }
         Raw::Apply(word, xs) => bad_name_in_call(text, scope, spelling(text, *word), xs),
-        Raw::Number(_) | Raw::Text(_) | Raw::Bool(_) | Raw::At(_) | Raw::Spill(_) | Raw::Corners(_, _) => Ok(false),
+        Raw::Number(_)
+        | Raw::Text(_)
+        | Raw::Bool(_)
+        | Raw::At(_)
+        | Raw::Spill(_)
+        | Raw::Corners(_, _) => Ok(false),
     }
 }
 
 #[cycle(names)]
 #[tactic(auto, using(crate::proofs::Naming::operand_rules))]
-fn bad_name_in_operands(text: &[u8], scope: &mut Vec<Span>, rest: &[(Op, Raw)]) -> Result<bool, NoMemory>
+fn bad_name_in_operands(
+    text: &[u8],
+    scope: &mut Vec<Span>,
+    rest: &[(Op, Raw)],
+) -> Result<bool, NoMemory>
     ensures value { IfOk result (λ b. b ≡ G.bad_name_in_operands (spec.scope text.now scope.old.items) (links (pairs text.now rest.now))) }
     ensures same { IfOk result (λ b. scope.new.items ≡ scope.old.items) }
 {
@@ -136,7 +145,12 @@ fn bad_name_in_arguments(text: &[u8], scope: &mut Vec<Span>, xs: &[Raw]) -> Resu
 /// A call, which binds a variable in its third argument where it is a `LET` of three arguments with a variable first.
 #[cycle(names)]
 #[tactic(auto, using(crate::proofs::Naming::call_rules))]
-fn bad_name_in_call(text: &[u8], scope: &mut Vec<Span>, word: &[u8], xs: &[Raw]) -> Result<bool, NoMemory>
+fn bad_name_in_call(
+    text: &[u8],
+    scope: &mut Vec<Span>,
+    word: &[u8],
+    xs: &[Raw],
+) -> Result<bool, NoMemory>
     ensures value { IfOk result (λ b. b ≡ G.has_bad_name (spec.scope text.now scope.old.items) (G.Raw.Apply word.now (raws_of (plains text.now xs.now)))) }
     ensures same { IfOk result (λ b. scope.new.items ≡ scope.old.items) }
 {
@@ -153,7 +167,12 @@ fn bad_name_in_call(text: &[u8], scope: &mut Vec<Span>, word: &[u8], xs: &[Raw])
 /// A form in which a variable is bound.
 #[cycle(names)]
 #[tactic(auto, using(crate::proofs::Naming::body_rules))]
-fn bad_name_in_body(text: &[u8], scope: &mut Vec<Span>, name: Span, body: &Raw) -> Result<bool, NoMemory>
+fn bad_name_in_body(
+    text: &[u8],
+    scope: &mut Vec<Span>,
+    name: Span,
+    body: &Raw,
+) -> Result<bool, NoMemory>
     ensures value { IfOk result (λ b. b ≡ G.has_bad_name (letters text.now name ∷ spec.scope text.now scope.old.items) (raw_tree text.now body.now)) }
     ensures same { IfOk result (λ b. scope.new.items ≡ scope.old.items) }
 {
@@ -165,7 +184,12 @@ fn bad_name_in_body(text: &[u8], scope: &mut Vec<Span>, name: Span, body: &Raw) 
 
 /// A call that binds nothing.
 #[cycle(names)]
-fn bad_name_in_plain_call(text: &[u8], scope: &mut Vec<Span>, word: &[u8], xs: &[Raw]) -> Result<bool, NoMemory>
+fn bad_name_in_plain_call(
+    text: &[u8],
+    scope: &mut Vec<Span>,
+    word: &[u8],
+    xs: &[Raw],
+) -> Result<bool, NoMemory>
     ensures value { IfOk result (λ b. b ≡ (not (G.is_let word.now || is_some (G.function_of word.now)) || G.bad_name_in (spec.scope text.now scope.old.items) (raws_of (plains text.now xs.now)))) }
     ensures same { IfOk result (λ b. scope.new.items ≡ scope.old.items) }
 {

@@ -72,7 +72,13 @@ pub fn some_form(text: &[u8], fault: FormFault, raw: &Raw) -> bool
         Raw::Chain(_, f, rest) => some_form(text, fault, f) || some_operand(text, fault, rest),
         Raw::Compare(_, f, g) => some_form(text, fault, f) || some_form(text, fault, g),
         Raw::Apply(_, xs) => some_argument(text, fault, xs),
-        Raw::Number(_) | Raw::Text(_) | Raw::Bool(_) | Raw::At(_) | Raw::Spill(_) | Raw::Corners(_, _) | Raw::Var(_) => false,
+        Raw::Number(_)
+        | Raw::Text(_)
+        | Raw::Bool(_)
+        | Raw::At(_)
+        | Raw::Spill(_)
+        | Raw::Corners(_, _)
+        | Raw::Var(_) => false,
     }
 }
 

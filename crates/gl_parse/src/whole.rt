@@ -16,5 +16,9 @@ pub fn whole(alloc: Global, text: &[u8], tokens: &[Token]) -> Result<Raw, Stop>
     ensures { IsReadAs (tokens_in text.now tokens.now) (raw_tree text.now) result }
 {
     let (raw, rest) = expr(alloc, text, tokens)?;
-    if rest.is_empty() { Ok(raw) } else { Err(Stop::Syntax) }
+    if rest.is_empty() {
+        Ok(raw)
+    } else {
+        Err(Stop::Syntax)
+    }
 }
