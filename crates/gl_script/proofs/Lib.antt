@@ -7,3 +7,4 @@ pub mod Contents
 pub mod Lines
 pub mod Once
 pub mod Alone
+pub mod ReadsBack

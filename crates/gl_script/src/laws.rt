@@ -1,5 +1,5 @@
 //! Laws of the reading of lines.
-ghost use Rattle.gl_protocol.specs.Laws.{OneContent, OneRequest};
+ghost use Rattle.gl_protocol.specs.Laws.{OneContent, OneRequest, SetReadsBack, ImportReadsBack};
 ghost use Rattle.gl_script.specs.Laws.{OneHeader, HeaderAsksNothing};
 
 /// A text is read as one content or refused by one word, and a line as one request or by one word.
@@ -12,4 +12,10 @@ pub fn one_reading()
 pub fn one_header()
     ensures header { OneHeader }
     ensures apart { HeaderAsksNothing }
+{}
+
+/// The text of a content that was set or imported is read as this content again.
+pub fn reads_back()
+    ensures set { SetReadsBack }
+    ensures imported { ImportReadsBack }
 {}
