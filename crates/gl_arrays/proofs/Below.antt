@@ -1,5 +1,5 @@
 -- Values one under the other.
-use Rattle.std.proofs.Common.{◌≡◌, ℕ, zero, suc, ◌+◌, ◌*◌, ◌-◌, ◌<◌, ◌≤◌, Bool, true, false, nat_lt, max, List, [], ◌∷◌, ◌++◌, length, map, replicate, refl, ap, sym, ◌∙◌, arith, IsTrue, if◌then◌else◌}
+use Rattle.std.proofs.Common.{◌≡◌, ℕ, ◌+◌, ◌-◌, ◌<◌, ◌≤◌, false, nat_lt, List, [], ◌∷◌, ◌++◌, length, map, replicate, refl, ap, sym, ◌∙◌, arith}
 use Rattle.std.specs.List.{range_with_len, flat_map}
 use Rattle.std.proofs.lemmas.Bool.Decides.{nat_tests}
 use Rattle.std.proofs.lemmas.List.{map-append}
@@ -9,11 +9,10 @@ use Rattle.gl_calculus.specs.ErrKind.{ErrKind}
 use Rattle.gl_calculus.specs.Value.{Scalar, Value}
 use Rattle.gl_calculus.specs.Lift.{item, shape, table, rows, from_rows}
 use Rattle.gl_calculus.specs.Functions.{padded, greatest_cols, vstack}
-use Rattle.gl_calculus.specs.Sound.{is_sound_value}
 use Rattle.gl_arrays.specs.Parts.{row}
 use Rattle.gl_arrays.specs.Stacks.{total_rows, below}
 use Rattle.gl_arrays.proofs.Ranges.{map_same, map_shift, map_map, map_const, range_append}
-use Rattle.gl_arrays.proofs.Tables.{rows_are, from_rows_are, beyond_cols, test_lt}
+use Rattle.gl_arrays.proofs.Tables.{from_rows_are, beyond_cols, test_lt}
 
 abbrev pub HaveRows : List Value → Type 0
 HaveRows [] = Unit {0}

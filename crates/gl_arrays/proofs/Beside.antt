@@ -1,20 +1,20 @@
 -- Sound values, one under the other and side by side.
-use Rattle.std.proofs.Common.{◌≡◌, ℕ, zero, suc, ◌+◌, ◌*◌, ◌-◌, ◌<◌, ◌≤◌, Bool, true, false, nat_lt, nat_le, max, List, [], ◌∷◌, length, map, refl, ap, sym, ◌∙◌, arith, IsTrue, All, if◌then◌else◌}
+use Rattle.std.proofs.Common.{◌≡◌, ℕ, ◌+◌, ◌*◌, ◌-◌, ◌<◌, ◌≤◌, Bool, true, false, nat_lt, max, List, [], ◌∷◌, length, map, refl, ap, sym, ◌∙◌, arith, IsTrue, All, if◌then◌else◌}
 use Rattle.std.specs.List.{range_with_len}
 use Rattle.std.proofs.lemmas.Bool.Decides.{nat_tests}
 use Rattle.std.proofs.lemmas.List.{length-map}
 use Rattle.std.proofs.lemmas.List.Elements.{All-head, All-tail}
 use Rattle.gl_calculus.specs.Grid.{Size, size}
 use Rattle.gl_calculus.specs.ErrKind.{ErrKind}
-use Rattle.gl_calculus.specs.Value.{Scalar, Scalars, Value, One, Array}
+use Rattle.gl_calculus.specs.Value.{Scalar, Value, One}
 use Rattle.gl_calculus.specs.Lift.{item, shape, is_small, table, rows}
 use Rattle.gl_calculus.specs.Functions.{flipped, transpose, greatest_cols, vstack, hstack}
-use Rattle.gl_calculus.specs.Sound.{is_size, is_sound_value}
+use Rattle.gl_calculus.specs.Sound.{is_sound_value}
 use Rattle.gl_value.specs.View.{value_tree}
 use Rattle.gl_value.specs.declared.Value as Code
 use Rattle.gl_arrays.specs.Parts.{row}
 use Rattle.gl_arrays.specs.Stacks.{total_rows, total_cols, greatest_rows, below, beside}
-use Rattle.gl_arrays.proofs.Tables.{rows_are, extents_small, cells_few, small_table, table_item, table_rows, table_same, table_large, beyond_rows, beyond_cols, test_lt}
+use Rattle.gl_arrays.proofs.Tables.{rows_are, extents_small, cells_few, small_table, table_item, table_rows, table_same, table_large, beyond_rows, beyond_cols}
 use Rattle.gl_arrays.proofs.Below.{HaveRows, vstack_is}
 
 abbrev pub AreSound : List Value → Type 0

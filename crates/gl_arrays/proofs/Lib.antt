@@ -6,4 +6,3 @@ pub mod Below
 pub mod Beside
 pub mod Listed
 pub mod NewRows
-pub mod Literals

@@ -1,13 +1,13 @@
 -- The rows that a list names, and those that a column of truths keeps.
-use Rattle.std.proofs.Common.{◌≡◌, ℕ, zero, suc, ◌+◌, ◌-◌, ◌<◌, ◌≤◌, Bool, true, false, cond, None, slice_get, List, [], ◌∷◌, ◌++◌, length, map, filter, refl, ap, sym, ◌∙◌, arith, IsTrue, if◌then◌else◌}
+use Rattle.std.proofs.Common.{◌≡◌, ℕ, zero, suc, ◌+◌, ◌<◌, ◌≤◌, Bool, true, false, cond, None, slice_get, List, [], ◌∷◌, ◌++◌, length, map, filter, refl, ap, sym, ◌∙◌, arith, IsTrue, if◌then◌else◌}
 use Rattle.std.specs.List.{range_with_len}
 use Rattle.std.proofs.lemmas.List.{map-id}
 use Rattle.std.proofs.lemmas.List.FromFn.{length-map-range_with_len, filter_of_map_range_with_len_more}
 use Rattle.gl_calculus.specs.Grid.{size}
 use Rattle.gl_calculus.specs.ErrKind.{ErrKind}
-use Rattle.gl_calculus.specs.Value.{Scalar, Value, One, elements}
+use Rattle.gl_calculus.specs.Value.{Scalar, Value, elements}
 use Rattle.gl_calculus.specs.Lift.{item, shape, table, rows, width, from_rows}
-use Rattle.gl_calculus.specs.Functions.{is_column_beside, keeps, kept_rows, some_rows, value_or_error, when, first_fault, truth_fault}
+use Rattle.gl_calculus.specs.Functions.{is_column_beside, keeps, kept_rows, some_rows, value_or_error, when}
 use Rattle.gl_calculus.specs.Sound.{is_sound_value}
 use Rattle.gl_arrays.specs.Parts.{row, picked, keeps_row, column_from}
 use Rattle.gl_arrays.proofs.Ranges.{map_same, map_shift}

@@ -1,12 +1,12 @@
 -- The rows and columns that TAKE keeps and DROP leaves.
-use Rattle.std.proofs.Common.{◌≡◌, ℕ, suc, ◌+◌, ◌-◌, ◌<◌, ◌≤◌, ℤ, pos, negsuc, min, List, [], ◌∷◌, length, map, take, drop, refl, ap, sym, ◌∙◌, arith, IsTrue}
+use Rattle.std.proofs.Common.{◌≡◌, ℕ, suc, ◌+◌, ◌-◌, ◌≤◌, ℤ, pos, negsuc, min, List, length, map, take, drop, refl, ap, sym, ◌∙◌, arith, IsTrue}
 use Rattle.std.specs.List.{range_with_len}
 use Rattle.std.proofs.lemmas.List.{take_min, drop_min}
 use Rattle.std.proofs.lemmas.List.FromFn.{length-map-range_with_len}
 use Rattle.gl_calculus.specs.ErrKind.{ErrKind}
 use Rattle.gl_calculus.specs.Value.{Scalar, Value}
 use Rattle.gl_calculus.specs.Lift.{item, shape, rows}
-use Rattle.gl_calculus.specs.Functions.{kept, left_over, kept_part, left_over_part, take_last}
+use Rattle.gl_calculus.specs.Functions.{kept, left_over, kept_part, left_over_part}
 use Rattle.gl_calculus.specs.Sound.{is_sound_value}
 use Rattle.gl_arrays.specs.Parts.{row, window, kept_start, kept_count, left_start, left_count}
 use Rattle.gl_arrays.proofs.Ranges.{map_same, map_shift, map_map, take_map, drop_map}

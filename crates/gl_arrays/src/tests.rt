@@ -139,9 +139,14 @@ fn rows_and_columns(rt: HostRuntime) -> Result<(), Fail> {
     Ok(())
 }
 
+/// An element of 1 and 2 over 3 and 4.
+fn indexed(alloc: Global, r: Argument, c: Argument) -> Result<Scalar, NoMemory> {
+    let v = counted(alloc, 2, 2)?;
+    index(alloc, &v, &value(r), &value(c))
+}
+
 #[test]
 fn indexes(rt: HostRuntime) -> Result<(), Fail> {
-    let v = counted(rt.alloc(), 2, 2)?;
     for (r, c, n) in [
         (Number(1), Number(1), 1i64),
         (Number(1), Number(2), 2),
@@ -154,18 +159,23 @@ fn indexes(rt: HostRuntime) -> Result<(), Fail> {
         (Number(9), Na, -3),
         (True, Na, -2),
     ] {
-        let x = index(rt.alloc(), &v, &value(r), &value(c))?;
+        let x = indexed(rt.alloc(), r, c)?;
         assert_eq!(rt; code(&x), n, "at {r:?} {c:?}");
     }
-    let x = index(rt.alloc(), &value(Na), &value(Num), &v)?;
+    let x = index(rt.alloc(), &value(Na), &value(Num), &value(True))?;
     assert_eq!(rt; code(&x), -3);
     Ok(())
 }
 
+/// What stands beside the first of 5, blank and 5 that agrees, of 1, 2 and 3.
+fn found(alloc: Global, x: Argument) -> Result<Scalar, NoMemory> {
+    let keys = column(alloc, Number(5), Blank, Number(5))?;
+    let values = counted(alloc, 3, 1)?;
+    lookup(alloc, &value(x), &keys, &values)
+}
+
 #[test]
 fn lookups(rt: HostRuntime) -> Result<(), Fail> {
-    let keys = column(rt.alloc(), Number(5), Blank, Number(5))?;
-    let values = counted(rt.alloc(), 3, 1)?;
     for (x, n) in [
         (Number(5), 1i64),
         (Number(0), 2),
@@ -173,19 +183,22 @@ fn lookups(rt: HostRuntime) -> Result<(), Fail> {
         (Number(6), -3),
         (Num, -5),
     ] {
-        let y = lookup(rt.alloc(), &value(x), &keys, &values)?;
+        let y = found(rt.alloc(), x)?;
         assert_eq!(rt; code(&y), n, "of {x:?}");
     }
-    let y = lookup(rt.alloc(), &keys, &value(Na), &values)?;
-    assert_eq!(rt; code(&y), -2);
     let z = lookup(rt.alloc(), &value(Blank), &value(Na), &value(Num))?;
     assert_eq!(rt; code(&z), -3);
     Ok(())
 }
 
+/// A part of the numbers from 1 to 9 in three rows.
+fn taken(alloc: Global, m: Argument, n: Argument) -> Result<Value, NoMemory> {
+    let v = counted(alloc, 3, 3)?;
+    take(alloc, &v, &value(m), &value(n))
+}
+
 #[test]
 fn parts_taken(rt: HostRuntime) -> Result<(), Fail> {
-    let v = counted(rt.alloc(), 3, 3)?;
     for (m, n, extents, first) in [
         (Number(2), Number(-1), (2u16, 1u16), 3i64),
         (Number(-2), Number(9), (2, 3), 4),
@@ -194,15 +207,20 @@ fn parts_taken(rt: HostRuntime) -> Result<(), Fail> {
         (Number(1), Number(0), (0, 0), -2),
         (Number(0), Num, (0, 0), -5),
     ] {
-        let w = take(rt.alloc(), &v, &value(m), &value(n))?;
+        let w = taken(rt.alloc(), m, n)?;
         assert_eq!(rt; (size(&w), at(&w, 0, 0)), (extents, first), "{m:?} {n:?}");
     }
     Ok(())
 }
 
+/// What is left of the numbers from 1 to 9 in three rows.
+fn left(alloc: Global, m: Argument, n: Argument) -> Result<Value, NoMemory> {
+    let v = counted(alloc, 3, 3)?;
+    drop_part(alloc, &v, &value(m), &value(n))
+}
+
 #[test]
 fn parts_left(rt: HostRuntime) -> Result<(), Fail> {
-    let v = counted(rt.alloc(), 3, 3)?;
     for (m, n, extents, first) in [
         (Number(1), Number(-2), (2u16, 1u16), 4i64),
         (Blank, Number(0), (3, 3), 1),
@@ -212,7 +230,7 @@ fn parts_left(rt: HostRuntime) -> Result<(), Fail> {
         (Number(i64::MIN), Number(0), (0, 0), -2),
         (True, Num, (0, 0), -2),
     ] {
-        let w = drop_part(rt.alloc(), &v, &value(m), &value(n))?;
+        let w = left(rt.alloc(), m, n)?;
         assert_eq!(rt; (size(&w), at(&w, 0, 0)), (extents, first), "{m:?} {n:?}");
     }
     let one = drop_part(rt.alloc(), &value(True), &value(Blank), &value(Blank))?;
@@ -236,22 +254,32 @@ fn stacks(rt: HostRuntime) -> Result<(), Fail> {
     Ok(())
 }
 
+/// The rows of 1, 2 and 3 that TRUE and two others keep.
+fn kept(alloc: Global, second: Argument, third: Argument) -> Result<Value, NoMemory> {
+    let v = counted(alloc, 3, 1)?;
+    let keep = column(alloc, True, second, third)?;
+    filter(alloc, &v, &keep)
+}
+
 #[test]
 fn filters(rt: HostRuntime) -> Result<(), Fail> {
-    let v = counted(rt.alloc(), 3, 1)?;
     for (second, third, extents, first) in [
         (Blank, True, (2u16, 1u16), 1i64),
         (Num, Na, (0, 0), -5),
         (Number(1), Na, (0, 0), -2),
     ] {
-        let keep = column(rt.alloc(), True, second, third)?;
-        let w = filter(rt.alloc(), &v, &keep)?;
+        let w = kept(rt.alloc(), second, third)?;
         assert_eq!(rt;
             (size(&w), at(&w, 0, 0)),
             (extents, first),
             "{second:?} {third:?}"
         );
     }
+    Ok(())
+}
+
+#[test]
+fn filtered_scalars(rt: HostRuntime) -> Result<(), Fail> {
     for (x, keep, extents, first) in [
         (Number(7), True, (1u16, 1u16), 7i64),
         (Number(7), Blank, (0, 0), -3),
@@ -267,6 +295,12 @@ fn filters(rt: HostRuntime) -> Result<(), Fail> {
     Ok(())
 }
 
+/// The distinct ones of three scalars, one under the other.
+fn distinct(alloc: Global, a: Argument, b: Argument, c: Argument) -> Result<Value, NoMemory> {
+    let v = column(alloc, a, b, c)?;
+    unique(alloc, &v)
+}
+
 #[test]
 fn distinct_rows(rt: HostRuntime) -> Result<(), Fail> {
     for (a, b, c, extents, second) in [
@@ -275,7 +309,7 @@ fn distinct_rows(rt: HostRuntime) -> Result<(), Fail> {
         (Na, Na, Na, (1, 1), -20),
         (Number(3), Number(2), Number(1), (3, 1), 2),
     ] {
-        let w = unique(rt.alloc(), &column(rt.alloc(), a, b, c)?)?;
+        let w = distinct(rt.alloc(), a, b, c)?;
         assert_eq!(rt;
             (size(&w), at(&w, 1, 0)),
             (extents, second),

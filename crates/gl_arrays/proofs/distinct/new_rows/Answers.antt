@@ -1,4 +1,4 @@
-use Rattle.std.proofs.Common.{◌≡◌, ◌∙◌, Vec, Global, Bool, ◌≤◌, length, [], ◌∷◌, ◌++◌, List, map, sym, ap, arith}
+use Rattle.std.proofs.Common.{◌∙◌, Vec, Global, Bool, ◌≤◌, length, [], List, map, sym, ap, arith}
 use Rattle.std.specs.List.{list_any, range_with_len}
 use lib.Pointwise.{pointwise}
 use Rattle.gl_calculus.specs.Value as V

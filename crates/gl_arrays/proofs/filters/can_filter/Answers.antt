@@ -1,5 +1,4 @@
 use Rattle.std.proofs.Common.{◌≡◌, ◌∙◌, true, ap, sym}
-use Rattle.gl_calculus.specs.Lift.{shape}
 use Rattle.gl_calculus.specs.Functions.{no_fault, first_fault, truth_fault, is_column_beside}
 use Rattle.gl_value.specs.View.{value_tree}
 use Rattle.gl_arrays.proofs.OneColumn.{is_column, column_is, filter_tests}

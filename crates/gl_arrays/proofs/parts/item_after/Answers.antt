@@ -1,7 +1,7 @@
 use Rattle.std.proofs.Common.{◌+◌, ◌≤◌, sym, arith}
 use Rattle.gl_value.specs.Forms.{scalar_tree-Err}
 use Rattle.gl_value.specs.View.{value_tree}
-use Rattle.gl_arrays.proofs.Windows.{far_rows, far_cols}
+use Rattle.gl_arrays.proofs.Windows.{far_rows}
 use Rattle.gl_arrays.proofs.parts.item_after.Goals as goal
 
 pub returns-in-None-clause-value : goal.returns-in-None-clause-value

@@ -1,9 +1,8 @@
-use Rattle.std.proofs.Common.{◌≡◌, ap, arith, rules, to_z, of_z, w64}
-use Rattle.std.proofs.lemmas.Int.{ints, to_z-of_z}
+use Rattle.std.proofs.Common.{◌≡◌, ap, arith, to_z, of_z, w64}
+use Rattle.std.proofs.lemmas.Int.{to_z-of_z}
 use Rattle.gl_calculus.specs.ErrKind.{ErrKind}
 use Rattle.gl_calculus.specs.Functions.{some_rows}
 use Rattle.gl_value.specs.View.{value_tree}
-use Rattle.gl_arrays.specs.Parts.{left_start, left_count}
 use Rattle.gl_arrays.proofs.Windows.{left_window}
 use Rattle.gl_arrays.proofs.parts.left_spans.Goals as goal
 
