@@ -55,7 +55,7 @@ fn push_times(text: &mut String, piece: &str, count: u32) -> Result<(), Fail> {
 }
 
 #[test]
-fn canonical_texts_and_faults(rt: HostRuntime) -> Result<(), Fail> {
+fn constants_and_references(rt: HostRuntime) -> Result<(), Fail> {
     let alloc = rt.alloc();
     for (text, want) in [
         (" 1 + ( 2*3 )", "1+2*3"),
@@ -75,6 +75,16 @@ fn canonical_texts_and_faults(rt: HostRuntime) -> Result<(), Fail> {
         ("-(1+2)", "-(1+2)"),
         ("(-1)*2", "-1*2"),
         ("-(1*2)", "-(1*2)"),
+    ] {
+        expect(alloc, text, want)?;
+    }
+    Ok(())
+}
+
+#[test]
+fn operators(rt: HostRuntime) -> Result<(), Fail> {
+    let alloc = rt.alloc();
+    for (text, want) in [
         ("1-(-2)", "1--2"),
         ("1-2-3", "1-2-3"),
         ("1-(2-3)", "1-(2-3)"),
@@ -92,6 +102,16 @@ fn canonical_texts_and_faults(rt: HostRuntime) -> Result<(), Fail> {
         ("(1=2)=3", "(1=2)=3"),
         ("1&2=3&4", "1&2=3&4"),
         ("1--------(-2)*3", "1--------(-2)*3"),
+    ] {
+        expect(alloc, text, want)?;
+    }
+    Ok(())
+}
+
+#[test]
+fn functions_of_elements(rt: HostRuntime) -> Result<(), Fail> {
+    let alloc = rt.alloc();
+    for (text, want) in [
         ("SUM( 1 , 2 )", "SUM(1,2)"),
         ("COUNT(A1:B2,1,NA())", "COUNT(A1:B2,1,NA())"),
         ("MIN(1)", "MIN(1)"),
@@ -110,6 +130,16 @@ fn canonical_texts_and_faults(rt: HostRuntime) -> Result<(), Fail> {
         ("RIGHT(\"ab\",1)", "RIGHT(\"ab\",1)"),
         ("ROWS(A1:A3)", "ROWS(A1:A3)"),
         ("COLUMNS(A1:C1)", "COLUMNS(A1:C1)"),
+    ] {
+        expect(alloc, text, want)?;
+    }
+    Ok(())
+}
+
+#[test]
+fn functions_of_arrays_and_sheets(rt: HostRuntime) -> Result<(), Fail> {
+    let alloc = rt.alloc();
+    for (text, want) in [
         ("INDEX(A1:C3,1,2)", "INDEX(A1:C3,1,2)"),
         ("SEQUENCE(2,3)", "SEQUENCE(2,3)"),
         ("TRANSPOSE(A1:C1)", "TRANSPOSE(A1:C1)"),
@@ -131,6 +161,16 @@ fn canonical_texts_and_faults(rt: HostRuntime) -> Result<(), Fail> {
         ("LET(x,1,x+x)", "LET(x,1,x+x)"),
         ("LET((x),1,x)", "LET(x,1,x)"),
         ("LET(x,3,LET(x,x+1,x*x))", "LET(x,3,LET(x,x+1,x*x))"),
+    ] {
+        expect(alloc, text, want)?;
+    }
+    Ok(())
+}
+
+#[test]
+fn texts_that_are_no_formula(rt: HostRuntime) -> Result<(), Fail> {
+    let alloc = rt.alloc();
+    for (text, want) in [
         ("$A1", "error token"),
         ("A0", "error token"),
         ("TRUE1", "error token"),
@@ -153,6 +193,16 @@ fn canonical_texts_and_faults(rt: HostRuntime) -> Result<(), Fail> {
         ("A1B2", "error syntax"),
         ("SUM(1,)", "error syntax"),
         ("B1:A1+", "error syntax"),
+    ] {
+        expect(alloc, text, want)?;
+    }
+    Ok(())
+}
+
+#[test]
+fn formulas_that_are_refused(rt: HostRuntime) -> Result<(), Fail> {
+    let alloc = rt.alloc();
+    for (text, want) in [
         ("SUM(A1:ZZ9999)", "error range"),
         ("B1:A1", "error range"),
         ("A2:A1", "error range"),
@@ -175,16 +225,20 @@ fn canonical_texts_and_faults(rt: HostRuntime) -> Result<(), Fail> {
         ("G(A1:B1,A1)", "error arity"),
         ("G(A1:B1,1,A1)", "error arity"),
         ("HSTACK(1)", "error arity"),
-        (
-            ")((((((((((((((((((((((((((((((((((((((((((((((((((((((((((((((((",
-            "error syntax",
-        ),
-        (
-            ")(((((((((((((((((((((((((((((((((((((((((((((((((((((((((((((((((",
-            "error deep",
-        ),
     ] {
         expect(alloc, text, want)?;
+    }
+    Ok(())
+}
+
+#[test]
+fn open_parentheses_behind_a_closing_one(rt: HostRuntime) -> Result<(), Fail> {
+    let alloc = rt.alloc();
+    for (count, want) in [(64u32, "error syntax"), (65u32, "error deep")] {
+        let mut text = String::new(alloc);
+        text.push_str(")")?;
+        push_times(&mut text, "(", count)?;
+        expect(alloc, text.as_str(), want)?;
     }
     Ok(())
 }
