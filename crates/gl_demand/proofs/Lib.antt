@@ -1,1 +1,4 @@
 pub mod Hashes
+pub mod Walking
+pub mod Frames
+pub mod Keys

@@ -5,3 +5,6 @@ pub mod Blocks
 pub mod Same
 pub mod Equal
 pub mod Laws
+pub mod Walk
+pub mod Walks
+pub mod Held

@@ -2,12 +2,17 @@
 #![tactic(auto)]
 
 mod blocks;
+mod context;
+mod demand;
+mod held;
 mod key;
 mod known;
 mod laws;
+mod noting;
 mod outcome;
 mod stepping;
 mod steps;
+mod trail;
 
 pub use blocks::{CopyBlocks, TopBlocks};
 pub use key::Key;
