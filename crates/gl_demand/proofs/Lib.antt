@@ -1,4 +1,5 @@
 pub mod Hashes
 pub mod Walking
 pub mod Frames
+pub mod Showing
 pub mod Keys

@@ -21,7 +21,11 @@ use gl_value::{Env, Value};
 
 /// The known outcome of a key, which is noted as read.
 #[tactic(auto, using(gl_value::specs::Forms::trees))]
-pub fn demand<'a, K: Known>(ctx: &Context<'a, K>, key: Key, trail: &mut Trail) -> Result<&'a Outcome, Halt>
+pub fn demand<'a, K: Known>(
+    ctx: &Context<'a, K>,
+    key: Key,
+    trail: &mut Trail,
+) -> Result<&'a Outcome, Halt>
     requires { IsTrue (is_sound_key (key_tree key)) }
     ensures walk { Walks (world (sheet ctx.now.cells.now) ctx.now.w.now (K.outcomes ctx.now.known.now)) (Demand (key_tree key) give) (λ o. outcome_tree o.now) trail.old result trail.new }
     ensures sound { IfOk result (λ o. IsTrue (is_sound_outcome (outcome_tree o.now))) }
@@ -58,7 +62,12 @@ fn value_in(outcome: &Outcome, trail: &Trail) -> Result<Option<Value>, Halt>
 
 /// The value of a formula cell, which is demanded.
 #[tactic(auto, using(gl_value::specs::Forms::trees))]
-fn demanded<K: Known>(ctx: &Context<K>, env: &Env, a: Addr, trail: &mut Trail) -> Result<Option<Value>, Halt>
+fn demanded<K: Known>(
+    ctx: &Context<K>,
+    env: &Env,
+    a: Addr,
+    trail: &mut Trail,
+) -> Result<Option<Value>, Halt>
     requires frame { IsTrue (is_sound_frame (frame_tree env.now)) }
     ensures walk { Walks (world (sheet ctx.now.cells.now) ctx.now.w.now (K.outcomes ctx.now.known.now)) (Demand (Cell (frame_tree env.now) a) own_value) (option_map value_tree) trail.old result trail.new }
     ensures sound { IfOk result (λ v. IfSome v (λ x. IsTrue (is_sound_value (value_tree x)))) }
@@ -88,23 +97,34 @@ fn cell_key(env: &Env, a: Addr) -> Result<Key, Halt>
 
 /// The own value of an address: its override's, its constant's, or that of its formula.
 #[tactic(auto, using(gl_value::specs::Forms::trees))]
-pub fn own<K: Known>(ctx: &Context<K>, env: &Env, a: Addr, trail: &mut Trail) -> Result<Option<Value>, Halt>
+pub fn own<K: Known>(
+    ctx: &Context<K>,
+    env: &Env,
+    a: Addr,
+    trail: &mut Trail,
+) -> Result<Option<Value>, Halt>
     requires frame { IsTrue (is_sound_frame (frame_tree env.now)) }
     ensures walk { Walks (world (sheet ctx.now.cells.now) ctx.now.w.now (K.outcomes ctx.now.known.now)) (own (frame_tree env.now) (fact (sheet ctx.now.cells.now) ctx.now.w.now a)) (option_map value_tree) trail.old result trail.new }
     ensures sound { IfOk result (λ v. IfSome v (λ x. IsTrue (is_sound_value (value_tree x)))) }
 {
     match held_at(ctx.cells, env, a) {
         None => Ok(None),
-        Some(held) => value_of(ctx, env, a, held, trail),
+        Some(held) => value_of(ctx, env, a, &held, trail),
     }
 }
 
 /// The own value of an address that holds this.
 #[tactic(auto, using(gl_value::specs::Forms::trees))]
-fn value_of<K: Known>(ctx: &Context<K>, env: &Env, a: Addr, held: Held, trail: &mut Trail) -> Result<Option<Value>, Halt>
+fn value_of<K: Known>(
+    ctx: &Context<K>,
+    env: &Env,
+    a: Addr,
+    held: &Held,
+    trail: &mut Trail,
+) -> Result<Option<Value>, Halt>
     requires frame { IsTrue (is_sound_frame (frame_tree env.now)) }
-    requires held { IsSoundHeld (held_tree held) }
-    ensures walk { Walks (world (sheet ctx.now.cells.now) ctx.now.w.now (K.outcomes ctx.now.known.now)) (value_of (frame_tree env.now) a (Some (held_tree held))) (option_map value_tree) trail.old result trail.new }
+    requires held { IsSoundHeld (held_tree held.now) }
+    ensures walk { Walks (world (sheet ctx.now.cells.now) ctx.now.w.now (K.outcomes ctx.now.known.now)) (value_of (frame_tree env.now) a (Some (held_tree held.now))) (option_map value_tree) trail.old result trail.new }
     ensures sound { IfOk result (λ v. IfSome v (λ x. IsTrue (is_sound_value (value_tree x)))) }
 {
     match held {

@@ -19,6 +19,7 @@ use gl_plane::{Addr, Oracle, Permit};
 use gl_value::{Env, Scalar, Value};
 
 /// A value that is given, a constant, or a formula.
+#[derive(Clone, Copy)]
 pub enum Held<'a> {
     Value(&'a Value),
     Scalar(&'a Scalar),

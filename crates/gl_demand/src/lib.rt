@@ -4,6 +4,7 @@
 mod blocks;
 mod context;
 mod demand;
+mod elements;
 mod held;
 mod key;
 mod known;
