@@ -8,3 +8,8 @@ pub mod Laws
 pub mod Walk
 pub mod Walks
 pub mod Held
+pub mod Seen
+pub mod Scope
+pub mod Cells
+pub mod Prefixed
+pub mod Stopped

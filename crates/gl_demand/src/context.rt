@@ -13,6 +13,7 @@ use std::alloc::Global;
 
 /// The sheet, the oracle of the top, the known outcomes, the version, and the frame of the
 /// evaluation. Outcomes and frame are sound.
+#[derive(Drop)]
 pub struct Context<'a, K: Known> {
     pub alloc: Global,
     pub cells: &'a Cells,

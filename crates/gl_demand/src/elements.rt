@@ -1,5 +1,5 @@
 //! The elements that references show.
-ghost use Rattle.std.specs.Prelude.{◌≡◌, Some, IsTrue, IfOk, IfErr, option_map};
+ghost use Rattle.std.specs.Prelude.{◌≡◌, Some, IsTrue, IfOk, IfErr, IfSome, option_map};
 ghost use Rattle.gl_calculus.specs.Lift.{item_or};
 ghost use Rattle.gl_calculus.specs.Reference.{shown, spilled, spilling};
 ghost use Rattle.gl_calculus.specs.Sound.{is_sound_scalar, is_sound_value};
@@ -33,9 +33,18 @@ pub fn share_value(x: &Value) -> Result<Value, Halt>
     }
 }
 
+/// The same element, which is sound where the array is.
+fn element_or(a: &Array, i: u16, j: u16, beyond: Scalar) -> Result<Scalar, Halt>
+    ensures value { IfOk result (λ x. scalar_tree x ≡ item_or (scalar_tree beyond) (array_tree a.now) i j) }
+    ensures err { IfErr result (λ h. h ≡ Halt.NoMemory) }
+    ensures sound { IsTrue (is_sound_value (array_tree a.now)) → IsTrue (is_sound_scalar (scalar_tree beyond)) → IfOk result (λ x. IsTrue (is_sound_scalar (scalar_tree x))) }
+{
+    element_of(a, i, j, beyond)
+}
+
 /// The element of an array in a row and a column from 0, or the scalar that stands beyond it.
 #[tactic(auto, using(crate::proofs::Showing::item_some, crate::proofs::Showing::item_none))]
-fn element_or(a: &Array, i: u16, j: u16, beyond: Scalar) -> Result<Scalar, Halt>
+fn element_of(a: &Array, i: u16, j: u16, beyond: Scalar) -> Result<Scalar, Halt>
     ensures value { IfOk result (λ x. scalar_tree x ≡ item_or (scalar_tree beyond) (array_tree a.now) i j) }
     ensures err { IfErr result (λ h. h ≡ Halt.NoMemory) }
 {
@@ -64,15 +73,29 @@ pub fn shown(permit: Option<Permit>, v: &Value) -> Result<Scalar, Halt>
 }
 
 /// The element at an offset of a root's own value; a blank where there is none.
-#[tactic(auto, using(gl_value::specs::Forms::trees))]
 pub fn spilled(v: &Option<Value>, i: u16, j: u16) -> Result<Scalar, Halt>
+    requires { IfSome v.now (λ x. IsTrue (is_sound_value (value_tree x))) }
     ensures value { IfOk result (λ x. scalar_tree x ≡ spilled (option_map value_tree v.now) i j) }
     ensures err { IfErr result (λ h. h ≡ Halt.NoMemory) }
+    ensures sound { IfOk result (λ x. IsTrue (is_sound_scalar (scalar_tree x))) }
 {
     match v {
         None => Ok(Scalar::Blank),
-        Some(Value::One(_)) => Ok(Scalar::Blank),
-        Some(Value::Array(a)) => element_or(a, i, j, Scalar::Blank),
+        Some(v) => spilled_from(v, i, j),
+    }
+}
+
+/// The same of a value that is there.
+#[tactic(auto, using(gl_value::specs::Forms::trees))]
+fn spilled_from(v: &Value, i: u16, j: u16) -> Result<Scalar, Halt>
+    requires { IsTrue (is_sound_value (value_tree v.now)) }
+    ensures value { IfOk result (λ x. scalar_tree x ≡ spilled (Some (value_tree v.now)) i j) }
+    ensures err { IfErr result (λ h. h ≡ Halt.NoMemory) }
+    ensures sound { IfOk result (λ x. IsTrue (is_sound_scalar (scalar_tree x))) }
+{
+    match v {
+        Value::One(_) => Ok(Scalar::Blank),
+        Value::Array(a) => element_or(a, i, j, Scalar::Blank),
     }
 }
 

@@ -11,10 +11,13 @@ ghost use Rattle.gl_demand.specs.View.{key_tree, found_tree};
 ghost use Rattle.gl_demand.specs.Sound.{IsSoundTable, IsSoundFound, AreSoundKeys};
 ghost use Rattle.gl_demand.specs.Steps.{one_more};
 
-use crate::{Key, Known, Steps, Turn, Watch};
+use crate::evaluating::evaluate;
+use crate::trail::Trail;
+use crate::{Found, Key, Known, Steps, Turn, Watch};
 use gl_ast::Version;
 use gl_cells::Cells;
 use gl_plane::{NoMemory, Oracle};
+use indexmap::IndexSet;
 use std::alloc::Global;
 
 /// Evaluates a key for one level against the known outcomes, in the sheet and the oracle of the
@@ -47,5 +50,36 @@ pub fn step<K: Known, L: Watch>(
     ensures counted { steps.new ≡ one_more steps.old }
 {
     steps.count(key);
-    Err(NoMemory)
+    let mut trail = Trail::new(alloc);
+    match evaluate(alloc, cells, w, key, known, version, &mut trail) {
+        Ok(found) => turn(alloc, found, trail),
+        Err(NoMemory) => Err(NoMemory),
+    }
+}
+
+/// What was found, with the trail.
+fn turn(alloc: Global, found: Found, trail: Trail) -> Result<Turn, NoMemory>
+    ensures found { IfOk result (λ t. found_tree t.found ≡ found_tree found) }
+    ensures reads { IfOk result (λ t. map key_tree t.reads.items ≡ map key_tree trail.reads.keys) }
+    ensures looked { IfOk result (λ t. t.looked.items ≡ trail.looked.items) }
+{
+    let Trail { reads, looked } = trail;
+    match in_order(alloc, reads) {
+        Ok(reads) => Ok(Turn {
+            found,
+            reads,
+            looked,
+        }),
+        Err(NoMemory) => Err(NoMemory),
+    }
+}
+
+/// The keys of a set in their order.
+fn in_order(alloc: Global, keys: IndexSet<Key>) -> Result<Vec<Key>, NoMemory>
+    ensures { IfOk result (λ v. v.items ≡ keys.keys) }
+{
+    match keys.into_iter().collect(alloc) {
+        Ok(keys) => Ok(keys),
+        Err(_) => Err(NoMemory),
+    }
 }
