@@ -14,6 +14,7 @@ use crate::context::Context;
 use crate::operators::{compared, negated, text};
 use crate::reading::at_address;
 use crate::scope::Scope;
+use crate::spills::spill_of;
 use crate::trail::{Halt, Trail};
 use gl_ast::Formula;
 use gl_value::{Scalar, Value};
@@ -45,7 +46,7 @@ pub fn eval<K: Known>(
             },
             Err(halt) => Err(halt),
         },
-        Formula::Spill(_) => Err(Halt::NoMemory),
+        Formula::Spill(a) => spill_of(ctx, ctx.env, *a, trail),
         Formula::Area(_) => Err(Halt::NoMemory),
         Formula::Var(_) => Err(Halt::NoMemory),
         Formula::Chain(_, _, _) => Err(Halt::NoMemory),

@@ -13,7 +13,7 @@ use Rattle.gl_demand.specs.Walk.{world}
 use Rattle.gl_demand.specs.Walks.{Walks}
 use Rattle.gl_demand.proofs.References.{gives}
 use Rattle.gl_demand.proofs.Parts.{one_given, one_halts, two_given, two_halts}
-use Rattle.gl_demand.proofs.Trees.{text_is, at_is, neg_is, compare_is}
+use Rattle.gl_demand.proofs.Trees.{text_is, at_is, spill_is, neg_is, compare_is}
 use Rattle.gl_demand.proofs.formulas.+eval.Goals as goal
 
 pub returns-in-Text-clause-walk : goal.returns-in-Text-clause-walk
@@ -59,3 +59,8 @@ returns-in-Compare-clause-walk g t c =
     one_halts w (E.eval (version_tree c.args.ctx.now.version) (frame_tree c.args.ctx.now.env.now) (bindings_of c.args.scope.now.bindings.items) (formula_tree c.args.f.now)) (E.eval (version_tree c.args.ctx.now.version) (frame_tree c.args.ctx.now.env.now) (bindings_of c.args.scope.now.bindings.items) (formula_tree c.deref-in-Compare.result.now)) (λ u. (E.eval (version_tree c.args.ctx.now.version) (frame_tree c.args.ctx.now.env.now) (bindings_of c.args.scope.now.bindings.items) (formula_tree c.in-Compare.h.value)) >>= λ z. give (lift2 (compare (op_tree c.in-Compare.op)) u z)) value_tree value_tree c.args.trail.now c.eval-in-Compare.new.trail c.in-Err-eval.halt
     (compare_is (version_tree c.args.ctx.now.version) (frame_tree c.args.ctx.now.env.now) (bindings_of c.args.scope.now.bindings.items) c.args.f.now c.in-Compare.op c.in-Compare.g c.in-Compare.h c.deref-in-Compare.result.now c.in-Compare.h.value c.in-Compare.is c.deref-in-Compare.ensures refl)
     c.in-Err-eval.ensures.walk
+
+pub returns-in-Spill-clause-walk : goal.returns-in-Spill-clause-walk
+returns-in-Spill-clause-walk g t c =
+    let w = world (sheet c.args.ctx.now.cells.now) c.args.ctx.now.w.now (g.K.Known.outcomes c.args.ctx.now.known.now) in
+    subst (λ p. Walks w p value_tree c.args.trail.now c.spill_of.result c.spill_of.new.trail) (sym (spill_is (version_tree c.args.ctx.now.version) (frame_tree c.args.ctx.now.env.now) (bindings_of c.args.scope.now.bindings.items) c.args.f.now c.in-Spill.a c.in-Spill.is)) c.spill_of.ensures.walk
