@@ -1,0 +1,13 @@
+pub mod Hashes
+pub mod Walking
+pub mod Frames
+pub mod Showing
+pub mod Keys
+pub mod Seeing
+pub mod References
+pub mod Ending
+pub mod ReadingOn
+pub mod Parts
+pub mod Trees
+pub mod Spilling
+pub mod Rows
