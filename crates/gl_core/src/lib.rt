@@ -1,0 +1,4 @@
+//! Evaluation of demanded keys in any order.
+#![tactic(auto)]
+
+mod counts;
