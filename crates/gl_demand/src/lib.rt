@@ -1,0 +1,18 @@
+//! One evaluation of one key against the results that are known so far.
+#![tactic(auto)]
+
+mod blocks;
+mod key;
+mod known;
+mod laws;
+mod outcome;
+mod stepping;
+mod steps;
+
+pub use blocks::{CopyBlocks, TopBlocks};
+pub use key::Key;
+pub use known::{Found, Known, Turn};
+pub use laws::{keys_compare_by_tree, outcomes_compare_by_tree};
+pub use outcome::{Budget, Outcome};
+pub use stepping::step;
+pub use steps::{Silent, Steps, Watch};
