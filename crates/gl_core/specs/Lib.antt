@@ -1,2 +1,5 @@
 pub mod Counts
 pub mod Tree
+pub mod Held
+pub mod State
+pub mod Answers

