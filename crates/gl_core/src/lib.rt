@@ -2,14 +2,14 @@
 #![tactic(auto)]
 
 mod answers;
-mod core;
 mod counts;
 mod entries;
+mod machine;
 mod quiet;
 mod status;
 
 pub use answers::{CoreFault, Picked};
-pub use core::Core;
+pub use machine::Core;
 pub use quiet::{Quiet, Seen, copy_notes};
 
 /// The most keys that are known at a time.

