@@ -1,5 +1,6 @@
 pub mod Counts
 pub mod Tree
+pub mod Statuses
 pub mod Held
 pub mod State
 pub mod Answers

@@ -7,6 +7,7 @@ mod entries;
 mod machine;
 mod quiet;
 mod status;
+mod statuses;
 
 pub use answers::{CoreFault, Picked};
 pub use machine::Core;
