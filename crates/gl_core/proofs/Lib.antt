@@ -1,3 +1,6 @@
 pub mod Trees
 pub mod Levels
 pub mod Idle
+pub mod Wakes
+pub mod Places
+pub mod Tables

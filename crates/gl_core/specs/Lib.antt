@@ -3,4 +3,5 @@ pub mod Tree
 pub mod Statuses
 pub mod Held
 pub mod State
+pub mod Table
 pub mod Answers

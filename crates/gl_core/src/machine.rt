@@ -56,7 +56,7 @@ impl Model for Core {
 
     ghost coded = { Prim.hlevel (codes, env.the_row.coded, sheet_val.the_row.coded, value.the_row.coded) };
 
-    ghost view = { λ c. record { keys = c.entries.keys.keys; statuses = c.entries.statuses.items; seeds = c.seeds; notes = notes_of c.notes } };
+    ghost view = { λ c. record { keys = c.entries.keys.keys; statuses = c.entries.statuses.items.items; seeds = c.seeds; notes = notes_of c.notes } };
 
     ghost invariant = { λ c. ⊥ };
 }
