@@ -1,7 +1,10 @@
 -- The state by numbers: look-ups, changes, and the idle keys.
-use Rattle.std.proofs.Common.{◌≡◌, ℕ, zero, suc, ◌+◌, ◌<◌, ◌≤◌, ◌≢◌, nat_eq, nat_lt, Bool, true, false, cond, not, List, [], ◌∷◌, ◌++◌, length, map, set, slice_get, Option, Some, None, refl, sym, ap, ◌∙◌, subst, arith, inl, inr, eqb-true, eq-eqb}
+use Rattle.std.proofs.Common.{◌≡◌, ℕ, zero, suc, ◌+◌, ◌<◌, ◌≤◌, ◌≢◌, nat_eq, nat_lt, Bool, true, false, cond, not, List, [], ◌∷◌, ◌++◌, length, map, set, slice_get, Option, Some, None, refl, sym, ap, ◌∙◌, subst, arith, inl, inr, eqb-true, eq-eqb, Bor, is_some, IfSome, get_or, Result, Ok, Err, OnOk, IfOk, le-ltb, lt-ltb}
+use Rattle.std.proofs.lemmas.Option.{slice_get_past, slice_get-get_or}
+use Rattle.std.specs.Option.{option_copied}
+use borrow.Author.Tests.{ltb-true, ltb-false}
 use Rattle.std.specs.Prelude.{option_map}
-use Rattle.std.specs.List.{position_or_len}
+use Rattle.std.specs.List.{position_or_len, position}
 use Rattle.gl_query.specs.Lists.{Member, AreDistinct}
 use Rattle.gl_query.specs.Machine as Machine
 use Rattle.gl_query.specs.Machine.{Entry, at, change, idle_keys, idle_then, nth, keys}
@@ -9,6 +12,8 @@ use Rattle.gl_calculus.specs.Key as K
 use Rattle.gl_calculus.specs.Key.{same_key}
 use Rattle.gl_calculus.proofs.Tests.{key_equality}
 use Rattle.gl_demand.specs.View.{key_tree, outcome_tree}
+use Rattle.gl_demand.specs.Equal.{eq_is_key}
+use Rattle.gl_demand.specs.contracts.key.KeyPartialEq.TheImpl.{ghosts as key}
 use Rattle.gl_demand.specs.declared.key.Key.{Key}
 use Rattle.gl_core.specs.Counts.{sum_below}
 use Rattle.gl_core.specs.Statuses.{idle_at, count_idle, is_idle}
@@ -132,3 +137,69 @@ nth_idle known (x ∷ ks) (s ∷ ss) l h (suc q) k e f =
     by : (t : Bool) → nth (idle_keys (entries known ks ss)) (sum_below (idle_at ss) q) ≡ Some (key_tree k) → nth (cond t (key_tree x ∷ idle_keys (entries known ks ss)) (idle_keys (entries known ks ss))) (cond t 1 0 + sum_below (idle_at ss) q) ≡ Some (key_tree k)
     by true d = ap (nth (key_tree x ∷ idle_keys (entries known ks ss))) (let n : 1 + sum_below (idle_at ss) q ≡ suc (sum_below (idle_at ss) q) = omega arith in n) ∙ d
     by false d = ap (nth (idle_keys (entries known ks ss))) (let n : 0 + sum_below (idle_at ss) q ≡ sum_below (idle_at ss) q = omega arith in n) ∙ d
+
+-- ---- look-ups
+
+pub got : {X : Type 0} (r : Option (Bor X)) (xs : List X) (i : ℕ) → is_some r ≡ nat_lt i (length xs) → IfSome r (λ x. x.now ≡ get_or xs i x.now) → option_copied r ≡ slice_get xs i
+got None xs i s e = sym (slice_get_past xs i (ltb-false _ _ (sym s)))
+got (Some x) xs i s e = ap Some e ∙ sym (slice_get-get_or xs i x.now (ltb-true _ _ (sym s)))
+
+pub found_number : {X : Type 0} (test : X → Bool) (xs : List X) (i : ℕ) → Some i ≡ position test xs → i ≡ position_or_len test xs
+found_number test xs i e = by (nat_lt (position_or_len test xs) (length xs)) e
+  where
+    by : (b : Bool) → Some i ≡ cond b (Some (position_or_len test xs)) None → i ≡ position_or_len test xs
+    by true d = cc d
+    by false d = absurd (cc d)
+
+pub no_number : {X : Type 0} (test : X → Bool) (xs : List X) → None ≡ position test xs → length xs ≤ position_or_len test xs
+no_number test xs e = by (nat_lt (position_or_len test xs) (length xs)) refl e
+  where
+    by : (b : Bool) → nat_lt (position_or_len test xs) (length xs) ≡ b → None ≡ cond b (Some (position_or_len test xs)) None → length xs ≤ position_or_len test xs
+    by true d f = absurd (cc f)
+    by false d f = ltb-false _ _ d
+
+pub found_key : {X : Type 0} (test : X → Bool) (xs : List X) → position_or_len test xs < length xs → (x : X) × (slice_get xs (position_or_len test xs) ≡ Some x) × (test x ≡ true)
+found_key test [] h = absurd (omega arith)
+found_key {X} test (y ∷ ys) h = by (test y) refl h (found_key test ys)
+  where
+    by : (b : Bool) → test y ≡ b → cond (not b) (1 + position_or_len test ys) 0 < suc (length ys) → (position_or_len test ys < length ys → (x : X) × (slice_get ys (position_or_len test ys) ≡ Some x) × (test x ≡ true)) → (x : X) × (slice_get (y ∷ ys) (cond (not b) (1 + position_or_len test ys) 0) ≡ Some x) × (test x ≡ true)
+    by true e h r = (y, refl, e)
+    by false e h r = let (x, f, t) = r (omega arith) in (x, ap (slice_get (y ∷ ys)) (let n : 1 + position_or_len test ys ≡ suc (position_or_len test ys) = omega arith in n) ∙ f, t)
+
+pub number_within : {X : Type 0} (test : X → Bool) (xs : List X) (i : ℕ) → Some i ≡ position test xs → position_or_len test xs < length xs
+number_within test xs i e = by (nat_lt (position_or_len test xs) (length xs)) refl e
+  where
+    by : (b : Bool) → nat_lt (position_or_len test xs) (length xs) ≡ b → Some i ≡ cond b (Some (position_or_len test xs)) None → position_or_len test xs < length xs
+    by true d f = ltb-true _ _ d
+    by false d f = absurd (cc f)
+
+pub length-entries : (known ks : List Key) (ss : List Status) → length ss ≡ length ks → length (entries known ks ss) ≡ length ks
+length-entries known [] ss l = refl
+length-entries known (k ∷ ks) [] l = absurd (omega arith)
+length-entries known (k ∷ ks) (s ∷ ss) l = ap suc (length-entries known ks ss (omega arith))
+
+-- ---- what a key needs
+
+module _ (st : State) (k j : K.Key) (limit : ℕ) where
+  pub need_full : limit ≤ length st → (st ≡ Machine.need same_key limit st k j None) × (Machine.Picked.Full ≡ Machine.need_answer limit st None)
+  need_full h = let e : nat_lt (length st) limit ≡ false = le-ltb _ _ h in (sym (ap (λ b. cond b (Machine.wait same_key k j (Machine.add_idle j st)) st) e), sym (ap (λ b. cond b Machine.Picked.Waits Machine.Picked.Full) e))
+
+  pub need_room : length st < limit → (Machine.wait same_key k j (Machine.add_idle j st) ≡ Machine.need same_key limit st k j None) × (Machine.Picked.Waits ≡ Machine.need_answer limit st None)
+  need_room h = let e : nat_lt (length st) limit ≡ true = lt-ltb _ _ h in (sym (ap (λ b. cond b (Machine.wait same_key k j (Machine.add_idle j st)) st) e), sym (ap (λ b. cond b Machine.Picked.Waits Machine.Picked.Full) e))
+
+  pub need_known : (v : Option (Machine.Status K.Key K.Outcome)) (s : Machine.Status K.Key K.Outcome) → v ≡ Some s → (Machine.wait same_key k j st ≡ Machine.need same_key limit st k j v) × (Machine.Picked.Waits ≡ Machine.need_answer limit st v)
+  need_known v s e = (ap (Machine.need same_key limit st k j) (sym e), ap (Machine.need_answer limit st) (sym e))
+
+-- what holds after an Ok, from what holds then
+pub on_ok : {X E P Q : Type 0} (r : Result X E) → OnOk r P → (P → Q) → OnOk r Q
+on_ok (Ok x) p f = f p
+on_ok (Err e) p f = tt
+
+pub if_ok : {X E : Type 0} {P Q : X → Type 0} (r : Result X E) → IfOk r P → ((x : X) → P x → Q x) → IfOk r Q
+if_ok (Ok x) p f = f x p
+if_ok (Err e) p f = tt
+
+pub unknown : (ks : List Key) (ss : List Status) (on : Key) → length ss ≡ length ks → None ≡ position (key.eq on) ks → at same_key (state_by ks ss) (key_tree on) ≡ None
+unknown ks ss on l e =
+    let b = no_number (key.eq on) ks e in
+    at_place ks ks ss (key_tree on) (key.eq on) (eq_is_key on) l ∙ ap (option_map (status_tree ks)) (slice_get_past ss (position_or_len (key.eq on) ks) (omega arith))

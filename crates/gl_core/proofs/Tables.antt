@@ -1,5 +1,5 @@
 -- What picks do to the state by numbers, and what the representation keeps.
-use Rattle.std.proofs.Common.{◌≡◌, ℕ, zero, suc, ◌+◌, ◌<◌, ◌≤◌, ◌≢◌, ◌&&◌, ◌||◌, nat_eq, Bool, true, false, cond, List, [], ◌∷◌, ◌++◌, length, map, set, get_or, slice_get, Option, Some, None, Vec, refl, sym, ap, ◌∙◌, subst, arith, inl, inr, eqb-true, eq-eqb, length-append}
+use Rattle.std.proofs.Common.{◌≡◌, ℕ, zero, suc, ◌+◌, ◌<◌, ◌≤◌, ◌≢◌, ◌&&◌, ◌||◌, nat_eq, Bool, true, false, cond, List, [], ◌∷◌, ◌++◌, length, map, set, get_or, slice_get, Option, Some, None, Vec, refl, sym, ap, ◌∙◌, subst, arith, inl, inr, eqb-true, eq-eqb, length-append, IsTrue}
 use Rattle.std.proofs.lemmas.List.{length-set}
 use Rattle.std.specs.List.{list_any}
 use Rattle.std.specs.declared.alloc.Global.{Global}
@@ -12,9 +12,13 @@ use Rattle.gl_calculus.proofs.Tests.{key_equality}
 use Rattle.gl_demand.specs.View.{key_tree, outcome_tree}
 use Rattle.gl_demand.specs.declared.key.Key.{Key}
 use Rattle.gl_demand.specs.declared.outcome.Outcome.{Outcome}
-use Rattle.gl_core.specs.Statuses.{is_waiting_for, wake_at, wake_each, has, row_of}
+use Rattle.gl_core.specs.Statuses.{AreCounted, is_waiting_for, wake_at, wake_each, has, row_of}
 use Rattle.gl_core.specs.State.{State, entries, state_by, status_tree, waits_for}
-use Rattle.gl_core.specs.Table.{PointBelow}
+use Rattle.gl_query.specs.Query.{Ready}
+use Rattle.gl_calculus.specs.Sound.{is_sound_key}
+use Rattle.gl_demand.specs.Sound.{AreSoundKeys, IsSoundFound}
+use Rattle.gl_core.specs.Table.{PointBelow, AreSoundOutcomes, IsTable}
+use Rattle.gl_core.specs.declared.entries.Entries.{Entries}
 use Rattle.gl_core.specs.declared.status.Status.{Status}
 use Rattle.gl_core.specs.declared.status.Status.TheVariants.{Idle, Waiting, Resolved}
 use Rattle.gl_core.proofs.Trees.{same_or_other}
@@ -239,3 +243,65 @@ apart_push (x ∷ ks) k test t d e = by (test x) refl e (apart_push ks k test t 
        let b : same_key (key_tree k) (key_tree x) ≡ true = ap (same_key (key_tree k)) a ∙ key_equality.1 (key_tree k) in
        let no : false ≡ true = sym f ∙ t x ∙ b in
        absurd (cc no)), r g)
+
+-- ---- sound outcomes
+
+stays_resolved : (b : Bool) (on : ℕ) (v : Option Status) (o : Outcome) → woken_by b on v ≡ Some (Resolved o) → v ≡ Some (Resolved o)
+stays_resolved b on v o e = by (b && is_waiting_for on v) e
+  where
+    by : (t : Bool) → cond t (Some Idle) v ≡ Some (Resolved o) → v ≡ Some (Resolved o)
+    by true d = absurd (cc d)
+    by false d = d
+
+pub resolved_sound : (ks : List Key) (ss : List Status) (p : ℕ) (o : Outcome) (row : List ℕ) → p < length ss → AreSoundOutcomes ks ss → ((k : Key) → slice_get ks p ≡ Some k → IsSoundFound (key_tree k) (Ready (outcome_tree o))) → AreSoundOutcomes ks (wake_each p row (set ss p (Resolved o)))
+resolved_sound ks ss p o row h before new q k x ek e =
+    let a = stays_resolved (has row q) p (slice_get (set ss p (Resolved o)) q) x (sym (woken_each p row (set ss p (Resolved o)) q) ∙ e) in
+    elim (same_or_other q p) [
+      | inl s ↦
+        let b : Some (Resolved o) ≡ Some (Resolved x) = sym (get_set_same ss p (Resolved o) h) ∙ ap (slice_get (set ss p (Resolved o))) (sym s) ∙ a in
+        let d : o ≡ x = cc in
+        subst (λ t. IsSoundFound (key_tree k) (Ready (outcome_tree t))) d (new k (ap (slice_get ks) (sym s) ∙ ek))
+      | inr n ↦ before q k x ek (sym (get_set_other ss p q (Resolved o) n) ∙ a)
+    ]
+
+pub waiting_sound : (ks : List Key) (ss : List Status) (p on : ℕ) → p < length ss → AreSoundOutcomes ks ss → AreSoundOutcomes ks (set ss p (Waiting on))
+waiting_sound ks ss p on h before q k x ek e = elim (same_or_other q p) [
+  | inl s ↦ let b : Some (Waiting on) ≡ Some (Resolved x) = sym (get_set_same ss p (Waiting on) h) ∙ ap (slice_get (set ss p (Waiting on))) (sym s) ∙ e in absurd (cc b)
+  | inr n ↦ before q k x ek (sym (get_set_other ss p q (Waiting on) n) ∙ e)
+]
+
+resolved_there : (ss : List Status) (q : ℕ) (x : Outcome) → slice_get (ss ++ Idle ∷ []) q ≡ Some (Resolved x) → slice_get ss q ≡ Some (Resolved x)
+resolved_there [] zero x e = absurd (cc e)
+resolved_there [] (suc q) x e = absurd (cc e)
+resolved_there (s ∷ ss) zero x e = e
+resolved_there (s ∷ ss) (suc q) x e = resolved_there ss q x e
+
+pub pushed_sound : (ks : List Key) (ss : List Status) (j : Key) → length ss ≡ length ks → AreSoundOutcomes ks ss → AreSoundOutcomes (ks ++ j ∷ []) (ss ++ Idle ∷ [])
+pushed_sound ks ss j l before q k x ek e =
+    let a = resolved_there ss q x e in
+    let b = get_within ss q (Resolved x) a in
+    before q k x (sym (get_front ks (j ∷ []) q (omega (arith, b, l))) ∙ ek) a
+
+pub pushed_keys : (ks : List Key) (j : Key) → AreSoundKeys (map key_tree ks) → IsTrue (is_sound_key (key_tree j)) → AreSoundKeys (map key_tree (ks ++ j ∷ []))
+pushed_keys [] j h s k (inl e) = subst (λ t. IsTrue (is_sound_key t)) (sym e) s
+pushed_keys [] j h s k (inr m) = absurd m
+pushed_keys (x ∷ ks) j h s k (inl e) = h k (inl e)
+pushed_keys (x ∷ ks) j h s k (inr m) = pushed_keys ks j (λ i n. h i (inr n)) s k m
+
+-- what is kept where keys, statuses and lists are the same
+pub table_kept : (e : Entries) (e' : Entries) → e'.keys.keys ≡ e.keys.keys → e'.statuses.items.items ≡ e.statuses.items.items → e'.waiting.items ≡ e.waiting.items → AreCounted e'.statuses → IsTable e → IsTable e'
+table_kept e e' k s w counted t =
+    let n : length e'.keys.keys ≡ length e.keys.keys = ap length k in
+    let m : length e'.statuses.items.items ≡ length e.statuses.items.items = ap length s in
+    let l : length e'.waiting.items ≡ length e.waiting.items = ap length w in
+    record {
+      apart = subst (λ (xs : List Key). AreDistinct (map key_tree xs)) (sym k) t.apart;
+      statuses = omega (arith, m, n, t.statuses);
+      rows = omega (arith, l, n, t.rows);
+      few = omega (arith, n, t.few);
+      counted = counted;
+      known = subst (λ x. PointBelow x e'.statuses.items.items) (sym n) (subst (PointBelow (length e.keys.keys)) (sym s) t.known);
+      listed = λ q r d. ap (λ (xs : List (Vec ℕ Global)). has (row_of xs r) q) w ∙ t.listed q r (ap (λ (xs : List Status). slice_get xs q) (sym s) ∙ d);
+      sound_keys = subst (λ (xs : List Key). AreSoundKeys (map key_tree xs)) (sym k) t.sound_keys;
+      sound_outcomes = subst (λ (xs : List Key). AreSoundOutcomes xs e'.statuses.items.items) (sym k) (subst (AreSoundOutcomes e.keys.keys) (sym s) t.sound_outcomes);
+    }

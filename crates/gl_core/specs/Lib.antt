@@ -4,4 +4,5 @@ pub mod Statuses
 pub mod Held
 pub mod State
 pub mod Table
+pub mod Noting
 pub mod Answers

@@ -5,6 +5,8 @@ mod answers;
 mod counts;
 mod entries;
 mod machine;
+mod outcomes;
+mod picking;
 mod quiet;
 mod status;
 mod statuses;

@@ -1,17 +1,18 @@
-use Rattle.std.proofs.Common.{◌≡◌, ℕ, List, [], ◌∷◌, ◌++◌, ◌+◌, ◌<◌, ◌≤◌, length, map, slice_get, Some, ap, sym, subst, arith, ◌∙◌, true, false, Bool, Vec, if◌then◌else◌, length-append}
+use Rattle.std.proofs.Common.{◌≡◌, ℕ, List, [], ◌∷◌, ◌++◌, ◌+◌, ◌<◌, ◌≤◌, refl, length, map, slice_get, Some, ap, sym, subst, arith, ◌∙◌, true, false, Bool, Vec, if◌then◌else◌, length-append}
 use Rattle.std.specs.List.{list_any}
 use Rattle.std.specs.declared.alloc.Global.{Global}
 use Rattle.gl_query.specs.Lists.{AreDistinct}
 use Rattle.gl_demand.specs.View.{key_tree}
+use Rattle.gl_demand.specs.Sound.{AreSoundKeys}
 use Rattle.gl_demand.specs.Equal.{eq_is_key}
 use Rattle.gl_demand.specs.declared.key.Key.{Key}
 use Rattle.gl_demand.specs.contracts.key.KeyPartialEq.TheImpl.{ghosts as key}
 use Rattle.gl_core.specs.Statuses.{has, row_of}
 use Rattle.gl_core.specs.State.{state_by}
-use Rattle.gl_core.specs.Table.{PointBelow}
+use Rattle.gl_core.specs.Table.{PointBelow, AreSoundOutcomes}
 use Rattle.gl_core.specs.declared.status.Status.{Status}
 use Rattle.gl_core.specs.declared.status.Status.TheVariants.{Idle}
-use Rattle.gl_core.proofs.Tables.{absent, apart_push, pushed_state, pushed_below, pushed_listed, row_push_last}
+use Rattle.gl_core.proofs.Tables.{absent, apart_push, pushed_state, pushed_below, pushed_listed, row_push_last, pushed_keys, pushed_sound, table_kept}
 use Rattle.gl_core.proofs.entries.Entries.add_idle.Goals as goal
 
 pub returns-clause-keys : goal.returns-clause-keys
@@ -53,6 +54,17 @@ returns-clause-table c =
       rows = omega (arith, l, n, t.rows);
       few = omega (arith, n, c.requires.few);
       counted = c.push_idle.ensures.counted;
+      sound_keys = subst (λ (xs : List Key). AreSoundKeys (map key_tree xs)) (sym keys) (pushed_keys ks k t.sound_keys c.requires.sound);
+      sound_outcomes = subst (λ (xs : List Key). AreSoundOutcomes xs c.push_idle.new.self.items.items) (sym keys) (subst (AreSoundOutcomes (ks ++ k ∷ [])) (sym new) (pushed_sound ks ss k t.statuses t.sound_outcomes));
       known = subst (PointBelow (length c.insert.new.self.keys)) (sym new) (pushed_below ss (length ks) (length c.insert.new.self.keys) (omega (arith, n)) t.known);
       listed = λ q r e. ap (λ (xs : List (Vec ℕ Global)). has (row_of xs r) q) rows ∙ pushed_listed ss s.waiting.items c.args.row (subst (λ x. PointBelow x ss) (sym t.rows) t.known) t.listed q r (ap (λ (xs : List Status). slice_get xs q) (sym new) ∙ e);
     }
+
+pub returns-in_err-make_room-clause-table : goal.returns-in_err-make_room-clause-table
+returns-in_err-make_room-clause-table c = table_kept c.args.self.now _ refl c.make_room.ensures.items refl c.make_room.ensures.counted c.requires.table
+
+pub returns-in_err-reserve-clause-table : goal.returns-in_err-reserve-clause-table
+returns-in_err-reserve-clause-table c = table_kept c.args.self.now _ refl c.make_room.ensures.items c.reserve.ensures.items c.make_room.ensures.counted c.requires.table
+
+pub returns-in_err-insert-clause-table : goal.returns-in_err-insert-clause-table
+returns-in_err-insert-clause-table c = table_kept c.args.self.now _ c.in_err-insert.ensures.err c.make_room.ensures.items c.reserve.ensures.items c.make_room.ensures.counted c.requires.table

@@ -2,10 +2,10 @@ use Rattle.std.proofs.Common.{◌≡◌, ℕ, List, [], ◌∷◌, ◌++◌, ◌
 use Rattle.std.proofs.lemmas.List.{length-set}
 use Rattle.gl_core.specs.Statuses.{has, row_of}
 use Rattle.gl_core.specs.State.{state_by}
-use Rattle.gl_core.specs.Table.{PointBelow}
+use Rattle.gl_core.specs.Table.{PointBelow, AreSoundOutcomes}
 use Rattle.gl_core.specs.declared.status.Status.{Status}
 use Rattle.gl_core.specs.declared.status.Status.TheVariants.{Waiting}
-use Rattle.gl_core.proofs.Tables.{wait_state, still_listed, newly_listed, waits_below, waits_listed}
+use Rattle.gl_core.proofs.Tables.{wait_state, still_listed, newly_listed, waits_below, waits_listed, waiting_sound}
 use Rattle.gl_core.proofs.entries.Entries.wait.Goals as goal
 
 pub returns-in_err-push-clause-table : goal.returns-in_err-push-clause-table
@@ -19,6 +19,8 @@ returns-in_err-push-clause-table c =
       rows = length-set s.waiting.items c.args.on c.push.new.self ∙ t.rows;
       few = t.few;
       counted = t.counted;
+      sound_keys = t.sound_keys;
+      sound_outcomes = t.sound_outcomes;
       known = t.known;
       listed = λ q r e. still_listed s.waiting.items c.args.on c.index_mut.result.now c.push.new.self [] on_there c.index_mut.ensures.value (c.in_err-push.ensures.items ∙ sym (append-nil _)) r q (t.listed q r e);
     }
@@ -46,6 +48,8 @@ returns-clause-table c =
       rows = length-set s.waiting.items on c.push.new.self ∙ t.rows;
       few = t.few;
       counted = c.set.ensures.counted;
+      sound_keys = t.sound_keys;
+      sound_outcomes = subst (AreSoundOutcomes s.keys.keys) (sym new) (waiting_sound s.keys.keys ss p on there t.sound_outcomes);
       known = subst (PointBelow (length s.keys.keys)) (sym new) (waits_below ss p on (length s.keys.keys) there c.requires.on_there t.known);
       listed = λ q r e. waits_listed ss p on (length s.keys.keys) there s.waiting.items (set s.waiting.items on c.push.new.self)
         (newly_listed s.waiting.items on p c.index_mut.result.now c.push.new.self on_there c.index_mut.ensures.value items)

@@ -1,0 +1,102 @@
+//! A pick of a key by its number.
+ghost use Rattle.std.specs.Prelude.{◌≡◌, ◌<◌, ℕ, Option, Some, IsTrue, length, map, slice_get, option_map, OnOk, OnErr, IfOk, IfSome};
+ghost use Rattle.std.specs.Option.{option_copied};
+ghost use Rattle.gl_query.specs.Query.{Ready, found, asked, looked, IsTrueTable};
+ghost use Rattle.gl_query.specs.Lists.{distinct};
+ghost use Rattle.gl_query.specs.Reads.{first_without, end_by_note};
+ghost use Rattle.gl_query.specs.Remembered.{AreTrue};
+ghost use Rattle.gl_query.specs.Machine as Machine;
+ghost use Rattle.gl_query.specs.Machine.{table};
+ghost use Rattle.gl_calculus.specs.Limits.{max_demanded};
+ghost use Rattle.gl_calculus.specs.Key.{same_key};
+ghost use Rattle.gl_calculus.specs.Evaluation.{program};
+ghost use Rattle.gl_calculus.specs.Sound.{is_sound_key, IsProperKey};
+ghost use Rattle.gl_ast.specs.View.{version_tree};
+ghost use Rattle.gl_cells.specs.Sheet.{sheet};
+ghost use Rattle.gl_memo.specs.Notes.{notes_of};
+ghost use Rattle.gl_demand.specs.View.{key_tree, outcome_tree, found_tree};
+ghost use Rattle.gl_demand.specs.Sound.{AreSoundKeys, IsSoundFound, IsSoundTable};
+ghost use Rattle.gl_demand.specs.Steps.{one_more};
+ghost use Rattle.gl_demand.specs.declared.key.Key.{Key};
+ghost use Rattle.gl_core.specs.State.{note_trees, is_noted, AreSoundNotes};
+ghost use Rattle.gl_core.specs.Table.{table_of, IsTable};
+ghost use Rattle.gl_core.specs.Noting.{Noting};
+ghost use Rattle.gl_core.specs.Answers.{picked_tree, counted};
+
+use crate::answers::Picked;
+use crate::entries::Entries;
+use crate::outcomes::Outcomes;
+use gl_ast::Version;
+use gl_cells::Cells;
+use gl_demand::{Found, Key, Outcome, Steps, Turn, Watch, step};
+use gl_memo::{Memo, Noted};
+use gl_plane::{NoMemory, Oracle, Range, Share};
+use std::alloc::Global;
+
+/// The first of these keys that is not resolved.
+fn first_unresolved<'a>(entries: &Entries, reads: &'a [Key]) -> Option<&'a Key>
+    requires { length entries.now.statuses.items.items ≡ length entries.now.keys.keys }
+    ensures { option_map key_tree (option_copied result) ≡ first_without (table same_key (table_of entries.now)) (map key_tree reads.now) }
+{
+    for key in reads {
+        if entries.outcome(key).is_none() {
+            return Some(key);
+        }
+    }
+    None
+}
+
+/// Evaluates the key with a number for one level, against the outcomes of the resolved keys.
+fn evaluate<L: Watch>(
+    alloc: Global,
+    entries: &Entries,
+    key: &Key,
+    cells: &Cells,
+    w: &Oracle,
+    version: Version,
+    steps: &mut Steps<L>,
+) -> Result<Turn, NoMemory>
+    requires table { IsTable entries.now }
+    requires sound { IsTrue (is_sound_key (key_tree key.now)) }
+    requires proper { IsProperKey (sheet cells.now) (key_tree key.now) }
+    ensures found { IfOk result (λ t. found_tree t.found ≡ found (table same_key (table_of entries.now)) (program (version_tree version) (sheet cells.now) w.now (key_tree key.now))) }
+    ensures reads { IfOk result (λ t. map key_tree t.reads.items ≡ distinct same_key (asked (table same_key (table_of entries.now)) (program (version_tree version) (sheet cells.now) w.now (key_tree key.now)))) }
+    ensures looked { IfOk result (λ t. t.looked.items ≡ looked (table same_key (table_of entries.now)) (program (version_tree version) (sheet cells.now) w.now (key_tree key.now))) }
+    ensures sound_found { IfOk result (λ t. IsSoundFound (key_tree key.now) (found_tree t.found)) }
+    ensures sound_reads { IfOk result (λ t. AreSoundKeys (map key_tree t.reads.items)) }
+    ensures counted { steps.new ≡ one_more steps.old }
+{
+    let known = Outcomes { entries };
+    step(alloc, cells, w, key, &known, version, steps)
+}
+
+/// What a key needs, or its outcome, by its note.
+fn go_by_note(
+    alloc: Global,
+    entries: &mut Entries,
+    p: usize,
+    outcome: &Outcome,
+    reads: &[Key],
+) -> Result<Picked, NoMemory>
+    requires there { p < length entries.old.keys.keys }
+    requires table { IsTable entries.old }
+    requires sound { (k : Key) → slice_get entries.old.keys.keys p ≡ Some k → IsSoundFound (key_tree k) (Ready (outcome_tree outcome.now)) }
+    requires sound_reads { AreSoundKeys (map key_tree reads.now) }
+    ensures state { OnOk result ((k : Key) → slice_get entries.old.keys.keys p ≡ Some k → table_of entries.new ≡ Machine.turn same_key max_demanded (table_of entries.old) (key_tree k) (end_by_note (outcome_tree outcome.now) (first_without (table same_key (table_of entries.old)) (map key_tree reads.now)))) }
+    ensures answer { IfOk result (λ picked. picked_tree picked ≡ Machine.turn_answer same_key max_demanded (table_of entries.old) (end_by_note (outcome_tree outcome.now) (first_without (table same_key (table_of entries.old)) (map key_tree reads.now)))) }
+    ensures keys_err { OnErr result (entries.new.keys.keys ≡ entries.old.keys.keys) }
+    ensures statuses_err { OnErr result (entries.new.statuses.items.items ≡ entries.old.statuses.items.items) }
+    ensures table { IsTable entries.new }
+{
+    match first_unresolved(entries, reads) {
+        Some(on) => {
+            let on = on.share()?;
+            entries.need(alloc, p, on)
+        }
+        None => {
+            let outcome = outcome.share()?;
+            entries.resolve(p, outcome);
+            Ok(Picked::Resolved)
+        }
+    }
+}
