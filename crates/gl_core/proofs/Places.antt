@@ -1,5 +1,5 @@
 -- The state by numbers: look-ups, changes, and the idle keys.
-use Rattle.std.proofs.Common.{◌≡◌, ℕ, zero, suc, ◌+◌, ◌<◌, ◌≤◌, ◌≢◌, nat_eq, nat_lt, Bool, true, false, cond, not, List, [], ◌∷◌, ◌++◌, length, map, set, slice_get, Option, Some, None, refl, sym, ap, ◌∙◌, subst, arith, inl, inr, eqb-true, eq-eqb, Bor, is_some, IfSome, get_or, Result, Ok, Err, OnOk, IfOk, le-ltb, lt-ltb}
+use Rattle.std.proofs.Common.{◌≡◌, ℕ, zero, suc, ◌+◌, ◌<◌, ◌≤◌, ◌≢◌, nat_eq, nat_lt, Bool, true, false, cond, not, List, [], ◌∷◌, ◌++◌, length, map, set, slice_get, Option, Some, None, refl, sym, ap, ◌∙◌, subst, arith, inl, inr, eqb-true, eq-eqb, Bor, is_some, IfSome, get_or, Result, Ok, Err, OnOk, IfOk, le-ltb, lt-ltb, IsTrue}
 use Rattle.std.proofs.lemmas.Option.{slice_get_past, slice_get-get_or}
 use Rattle.std.specs.Option.{option_copied}
 use borrow.Author.Tests.{ltb-true, ltb-false}
@@ -18,7 +18,11 @@ use Rattle.gl_demand.specs.declared.key.Key.{Key}
 use Rattle.gl_core.specs.Counts.{sum_below}
 use Rattle.gl_core.specs.Statuses.{idle_at, count_idle, is_idle}
 use Rattle.gl_core.specs.State.{State, entries, state_by, status_tree, waits_for}
-use Rattle.gl_core.specs.Table.{PointBelow}
+use Rattle.gl_query.specs.Query.{next}
+use Rattle.gl_query.specs.Reads.{first_without}
+use Rattle.gl_calculus.specs.Sound.{is_sound_outcome, is_outcome_of}
+use Rattle.gl_demand.specs.Sound.{IsSoundTable}
+use Rattle.gl_core.specs.Table.{PointBelow, AreSoundOutcomes}
 use Rattle.gl_core.specs.declared.status.Status.{Status}
 use Rattle.gl_core.specs.declared.status.Status.TheVariants.{Idle, Waiting, Resolved}
 use Rattle.gl_core.proofs.Trees.{same_or_other}
@@ -203,3 +207,33 @@ pub unknown : (ks : List Key) (ss : List Status) (on : Key) → length ss ≡ le
 unknown ks ss on l e =
     let b = no_number (key.eq on) ks e in
     at_place ks ks ss (key_tree on) (key.eq on) (eq_is_key on) l ∙ ap (option_map (status_tree ks)) (slice_get_past ss (position_or_len (key.eq on) ks) (omega arith))
+
+-- the outcomes of the resolved keys are sound
+pub sound_table : (ks : List Key) (ss : List Status) → length ss ≡ length ks → AreSoundOutcomes ks ss → IsSoundTable (Machine.table same_key (state_by ks ss))
+sound_table ks ss l sound k o e = by (slice_get ss (position_or_len test ks)) refl (sym (ap Machine.outcome_of (at_place ks ks ss k test (λ x. refl) l)) ∙ e)
+  where
+    test : Key → Bool
+    test x = same_key k (key_tree x)
+
+    waits : (v : Option Key) → Machine.outcome_of (Some (waits_for v)) ≡ None
+    waits None = refl
+    waits (Some j) = refl
+
+    by : (v : Option Status) → slice_get ss (position_or_len test ks) ≡ v → Machine.outcome_of (option_map (status_tree ks) v) ≡ Some o → IsTrue (is_sound_outcome o) × IsTrue (is_outcome_of k o)
+    by None d f = absurd (cc f)
+    by (Some Idle) d f = absurd (cc f)
+    by (Some (Waiting p)) d f = let no : None ≡ Some o = sym (waits (slice_get ks p)) ∙ f in absurd (cc no)
+    by (Some (Resolved x)) d f =
+        let w = get_within ss (position_or_len test ks) (Resolved x) d in
+        let (y, ey, ty) = found_key test ks (omega arith) in
+        let same : key_tree y ≡ k = sym (key_equality.0 _ _ ty) in
+        let is : outcome_tree x ≡ o = cc in
+        subst (λ j. IsTrue (is_sound_outcome o) × IsTrue (is_outcome_of j o)) same (subst (λ u. IsTrue (is_sound_outcome u) × IsTrue (is_outcome_of (key_tree y) u)) is (sound (position_or_len test ks) y x ey d))
+
+pub first_member : {O : Type 0} (f : K.Key → Option O) (ks : List K.Key) (k : K.Key) → first_without f ks ≡ Some k → Member k ks
+first_member f [] k e = absurd (cc e)
+first_member {O} f (x ∷ ks) k e = by (f x) e (first_member f ks k)
+  where
+    by : (v : Option O) → next (Some x) v (λ o. first_without f ks) ≡ Some k → (first_without f ks ≡ Some k → Member k ks) → Member k (x ∷ ks)
+    by None d r = let s : x ≡ k = cc in inl (sym s)
+    by (Some o) d r = inr (r d)
