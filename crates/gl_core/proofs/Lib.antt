@@ -4,3 +4,4 @@ pub mod Idle
 pub mod Wakes
 pub mod Places
 pub mod Tables
+pub mod Notes

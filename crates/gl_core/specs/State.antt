@@ -73,6 +73,7 @@ is_noted ns k = list_any (λ n. same_key k n.key) ns
 pub record IsSoundNote (n : Note K.Key K.Outcome Range) : Type 0 where
   pub key : IsTrue (is_sound_key n.key)
   pub outcome : IsTrue (is_sound_outcome n.outcome)
+  pub kind : IsTrue (is_outcome_of n.key n.outcome)
   pub reads : AreSoundKeys n.reads
 
 abbrev pub AreSoundNotes : Notes → Type 0

@@ -1,5 +1,5 @@
 //! A pick of a key by its number.
-ghost use Rattle.std.specs.Prelude.{◌≡◌, ◌<◌, ℕ, Option, Some, IsTrue, length, map, slice_get, option_map, OnOk, OnErr, IfOk, IfSome};
+ghost use Rattle.std.specs.Prelude.{◌≡◌, ◌<◌, ◌++◌, ◌∷◌, [], false, ℕ, Option, Some, IsTrue, length, map, slice_get, option_map, OnOk, OnErr, IfOk, IfSome};
 ghost use Rattle.std.specs.Option.{option_copied};
 ghost use Rattle.gl_query.specs.Query.{Ready, found, asked, looked, IsTrueTable};
 ghost use Rattle.gl_query.specs.Lists.{distinct};
@@ -20,7 +20,7 @@ ghost use Rattle.gl_demand.specs.Steps.{one_more};
 ghost use Rattle.gl_demand.specs.declared.key.Key.{Key};
 ghost use Rattle.gl_core.specs.State.{note_trees, is_noted, AreSoundNotes};
 ghost use Rattle.gl_core.specs.Table.{table_of, IsTable};
-ghost use Rattle.gl_core.specs.Noting.{Noting};
+ghost use Rattle.gl_core.specs.Noting.{Noting, NotesBy, IsTurn};
 ghost use Rattle.gl_core.specs.Answers.{picked_tree, counted};
 
 use crate::answers::Picked;
@@ -98,5 +98,162 @@ fn go_by_note(
             entries.resolve(p, outcome);
             Ok(Picked::Resolved)
         }
+    }
+}
+
+/// The key with a number, once more.
+fn key_at(entries: &Entries, p: usize) -> Result<Key, NoMemory>
+    ensures { IfOk result (λ x. (k : Key) → slice_get entries.now.keys.keys p ≡ Some k → key_tree x ≡ key_tree k) }
+{
+    match entries.keys.get_index(p) {
+        Some(key) => key.share(),
+        None => Err(NoMemory),
+    }
+}
+
+/// The key with a number has a note.
+fn has_note(entries: &Entries, notes: &Memo<Key, Outcome, Range>, p: usize) -> bool
+    requires { p < length entries.now.keys.keys }
+    ensures { (k : Key) → slice_get entries.now.keys.keys p ≡ Some k → result ≡ is_noted (note_trees (notes_of notes.now)) (key_tree k) }
+{
+    match entries.keys.get_index(p) {
+        Some(key) => notes.get(key).is_some(),
+        None => false,
+    }
+}
+
+/// The key with a number, which has no note, gets its outcome, and a note.
+fn settle(
+    entries: &mut Entries,
+    notes: &mut Memo<Key, Outcome, Range>,
+    p: usize,
+    outcome: Outcome,
+    reads: Vec<Key>,
+    looked: Vec<Range>,
+) -> Result<Picked, NoMemory>
+    requires there { p < length entries.old.keys.keys }
+    requires table { IsTable entries.old }
+    requires sound { (k : Key) → slice_get entries.old.keys.keys p ≡ Some k → IsSoundFound (key_tree k) (Ready (outcome_tree outcome)) }
+    ensures state { OnOk result ((k : Key) → slice_get entries.old.keys.keys p ≡ Some k → table_of entries.new ≡ Machine.resolve same_key (key_tree k) (outcome_tree outcome) (table_of entries.old)) }
+    ensures notes { OnOk result ((k : Key) → slice_get entries.old.keys.keys p ≡ Some k → is_noted (note_trees (notes_of notes.old)) (key_tree k) ≡ false → note_trees (notes_of notes.new) ≡ note_trees (notes_of notes.old) ++ record { key = key_tree k; outcome = outcome_tree outcome; reads = map key_tree reads.items; looked = looked.items } ∷ []) }
+    ensures answer { IfOk result (λ picked. picked ≡ Picked.Resolved) }
+    ensures keys_err { OnErr result (entries.new.keys.keys ≡ entries.old.keys.keys) }
+    ensures statuses_err { OnErr result (entries.new.statuses.items.items ≡ entries.old.statuses.items.items) }
+    ensures notes_err { OnErr result (notes_of notes.new ≡ notes_of notes.old) }
+    ensures table { IsTable entries.new }
+{
+    let key = key_at(entries, p)?;
+    let noted = Noted {
+        outcome: outcome.share()?,
+        reads,
+        looked,
+    };
+    notes.insert(key, noted)?;
+    entries.resolve(p, outcome);
+    Ok(Picked::Resolved)
+}
+
+/// What an evaluation leaves of the key with a number, which has no note.
+fn go_by_turn(
+    alloc: Global,
+    entries: &mut Entries,
+    notes: &mut Memo<Key, Outcome, Range>,
+    p: usize,
+    turn: Turn,
+) -> Result<Picked, NoMemory>
+    requires there { p < length entries.old.keys.keys }
+    requires table { IsTable entries.old }
+    requires sound { (k : Key) → slice_get entries.old.keys.keys p ≡ Some k → IsSoundFound (key_tree k) (found_tree turn.found) }
+    ensures state { OnOk result ((k : Key) → slice_get entries.old.keys.keys p ≡ Some k → table_of entries.new ≡ Machine.turn same_key max_demanded (table_of entries.old) (key_tree k) (found_tree turn.found)) }
+    ensures answer { IfOk result (λ picked. picked_tree picked ≡ Machine.turn_answer same_key max_demanded (table_of entries.old) (found_tree turn.found)) }
+    ensures notes { OnOk result ((k : Key) → slice_get entries.old.keys.keys p ≡ Some k → is_noted (note_trees (notes_of notes.old)) (key_tree k) ≡ false → NotesBy (key_tree k) (found_tree turn.found) (map key_tree turn.reads.items) turn.looked.items (note_trees (notes_of notes.old)) (note_trees (notes_of notes.new))) }
+    ensures keys_err { OnErr result (entries.new.keys.keys ≡ entries.old.keys.keys) }
+    ensures statuses_err { OnErr result (entries.new.statuses.items.items ≡ entries.old.statuses.items.items) }
+    ensures notes_err { OnErr result (notes_of notes.new ≡ notes_of notes.old) }
+    ensures table { IsTable entries.new }
+{
+    let Turn {
+        found,
+        reads,
+        looked,
+    } = turn;
+    match found {
+        Found::Ready(outcome) => settle(entries, notes, p, outcome, reads, looked),
+        Found::Need(on) => entries.need(alloc, p, on),
+    }
+}
+
+/// Evaluates the key with a number.
+fn evaluate_at<L: Watch>(
+    alloc: Global,
+    entries: &Entries,
+    p: usize,
+    cells: &Cells,
+    w: &Oracle,
+    version: Version,
+    steps: &mut Steps<L>,
+) -> Result<Turn, NoMemory>
+    requires there { p < length entries.now.keys.keys }
+    requires table { IsTable entries.now }
+    requires proper { (k : Key) → slice_get entries.now.keys.keys p ≡ Some k → IsProperKey (sheet cells.now) (key_tree k) }
+    ensures turn { IfOk result (λ t. (k : Key) → slice_get entries.now.keys.keys p ≡ Some k → IsTurn (program (version_tree version) (sheet cells.now) w.now) (table same_key (table_of entries.now)) (key_tree k) (found_tree t.found) (map key_tree t.reads.items) t.looked.items) }
+    ensures counted { steps.new ≡ one_more steps.old }
+{
+    match entries.keys.get_index(p) {
+        Some(key) => evaluate(alloc, entries, key, cells, w, version, steps),
+        None => Err(NoMemory),
+    }
+}
+
+/// A pick of a key without a note: it is evaluated.
+fn go_by_step<L: Watch>(
+    alloc: Global,
+    entries: &mut Entries,
+    notes: &mut Memo<Key, Outcome, Range>,
+    p: usize,
+    cells: &Cells,
+    w: &Oracle,
+    version: Version,
+    steps: &mut Steps<L>,
+) -> Result<Picked, NoMemory>
+    requires there { p < length entries.old.keys.keys }
+    requires table { IsTable entries.old }
+    requires proper { (k : Key) → slice_get entries.old.keys.keys p ≡ Some k → IsProperKey (sheet cells.now) (key_tree k) }
+    requires no_note { (k : Key) → slice_get entries.old.keys.keys p ≡ Some k → is_noted (note_trees (notes_of notes.old)) (key_tree k) ≡ false }
+    requires outcomes { IsTrueTable (program (version_tree version) (sheet cells.now) w.now) (table same_key (table_of entries.old)) }
+    ensures state { OnOk result ((k : Key) → slice_get entries.old.keys.keys p ≡ Some k → table_of entries.new ≡ Machine.turn same_key max_demanded (table_of entries.old) (key_tree k) (found (table same_key (table_of entries.old)) (program (version_tree version) (sheet cells.now) w.now (key_tree k)))) }
+    ensures answer { IfOk result (λ picked. (k : Key) → slice_get entries.old.keys.keys p ≡ Some k → (picked_tree picked ≡ Machine.turn_answer same_key max_demanded (table_of entries.old) (found (table same_key (table_of entries.old)) (program (version_tree version) (sheet cells.now) w.now (key_tree k)))) × Noting (program (version_tree version) (sheet cells.now) w.now) (key_tree k) (note_trees (notes_of notes.old)) (picked_tree picked) (note_trees (notes_of notes.new))) }
+    ensures keys_err { OnErr result (entries.new.keys.keys ≡ entries.old.keys.keys) }
+    ensures statuses_err { OnErr result (entries.new.statuses.items.items ≡ entries.old.statuses.items.items) }
+    ensures notes_err { OnErr result (notes_of notes.new ≡ notes_of notes.old) }
+    ensures table { IsTable entries.new }
+    ensures counted { steps.new ≡ one_more steps.old }
+{
+    match evaluate_at(alloc, entries, p, cells, w, version, steps) {
+        Ok(turn) => go_by_turn(alloc, entries, notes, p, turn),
+        Err(e) => Err(e),
+    }
+}
+
+/// A pick of a key with a note, which takes no step.
+fn pick_noted(
+    alloc: Global,
+    entries: &mut Entries,
+    notes: &Memo<Key, Outcome, Range>,
+    p: usize,
+) -> Result<Picked, NoMemory>
+    requires there { p < length entries.old.keys.keys }
+    requires table { IsTable entries.old }
+    requires sound_notes { AreSoundNotes (note_trees (notes_of notes.now)) }
+    ensures state { OnOk result ((program : _) → AreTrue same_key program (note_trees (notes_of notes.now)) → IsTrueTable program (table same_key (table_of entries.old)) → (k : Key) → slice_get entries.old.keys.keys p ≡ Some k → table_of entries.new ≡ Machine.turn same_key max_demanded (table_of entries.old) (key_tree k) (found (table same_key (table_of entries.old)) (program (key_tree k)))) }
+    ensures answer { IfOk result (λ picked. (program : _) → AreTrue same_key program (note_trees (notes_of notes.now)) → IsTrueTable program (table same_key (table_of entries.old)) → (k : Key) → slice_get entries.old.keys.keys p ≡ Some k → picked_tree picked ≡ Machine.turn_answer same_key max_demanded (table_of entries.old) (found (table same_key (table_of entries.old)) (program (key_tree k)))) }
+    ensures keys_err { OnErr result (entries.new.keys.keys ≡ entries.old.keys.keys) }
+    ensures statuses_err { OnErr result (entries.new.statuses.items.items ≡ entries.old.statuses.items.items) }
+    ensures table { IsTable entries.new }
+{
+    let key = key_at(entries, p)?;
+    match notes.get(&key) {
+        Some(note) => go_by_note(alloc, entries, p, &note.outcome, &note.reads),
+        None => Err(NoMemory),
     }
 }
