@@ -5,13 +5,14 @@ use Rattle.std.specs.Map.{lookup}
 use Rattle.std.specs.Option.{option_copied}
 use Rattle.gl_query.specs.Lists.{distinct}
 use Rattle.gl_query.specs.Query.{Found, Ready, Need, found, asked, looked, IsTrueTable}
-use Rattle.gl_query.proofs.Proved.{level_notes}
-use Rattle.gl_calculus.specs.Sound.{is_sound_key}
+use Rattle.gl_query.proofs.Proved.{pick_by_note}
+use Rattle.gl_query.proofs.Walks.{level_notes}
+use Rattle.gl_calculus.specs.Sound.{is_sound_key, is_sound_outcome, is_outcome_of}
 use Rattle.gl_demand.specs.Sound.{AreSoundKeys, IsSoundFound}
 use Rattle.indexmap.specs.IndexMap.{insert_entry}
 use Rattle.gl_query.specs.Lists.{Member}
 use Rattle.gl_query.specs.Query.{Query}
-use Rattle.gl_query.specs.Reads.{IsNote}
+use Rattle.gl_query.specs.Reads.{IsNote, first_without, end_by_note}
 use Rattle.gl_query.specs.Remembered.{Note, AreTrue}
 use Rattle.gl_query.specs.Machine as Machine
 use Rattle.gl_calculus.specs.Grid.{Range}
@@ -51,7 +52,7 @@ found_note (x ∷ es) k v e = by (key.eq k x.0) refl e (found_note es k v)
         let same : key_tree k ≡ key_tree x.0 = key_equality.0 _ _ (sym (eq_is_key k x.0) ∙ t) in
         let is : x.1 ≡ v = cc in
         (note_tree x, inl refl, sym same, ap (λ (u : Noted Key Outcome Range). outcome_tree u.outcome) is, ap (λ (u : Noted Key Outcome Range). map key_tree u.reads.items) is, ap (λ (u : Noted Key Outcome Range). u.looked.items) is)
-    by false t d r = let (n, m, rest) = r d in (n, inr m, rest.0, rest.1, rest.2, rest.3)
+    by false t d r = let (n, m, a, b, f, g) = r d in (n, inr m, a, b, f, g)
 
 -- the note of a new key goes last
 pub inserted_last : (es : List (Key × Noted Key Outcome Range)) (k : Key) (v : Noted Key Outcome Range) → is_noted (note_trees es) (key_tree k) ≡ false → note_trees (insert_entry key.eq es k v) ≡ note_trees es ++ note_tree (k, v) ∷ []
@@ -162,3 +163,19 @@ noting_turn program f t k old new limit st rs ls none sk sr re le (Ready o) e s 
     let is' : IsNote same_key program k o rs ls = subst (λ x. IsNote same_key program k o x ls) (sym re) (subst (λ x. IsNote same_key program k o (distinct same_key (asked f (program k))) x) (sym le) is) in
     subst (Noting program k old Machine.Picked.Resolved) (sym n) (noted (record { key = k; outcome = o; reads = rs; looked = ls }) refl none is' (record { key = sk; outcome = s.0; kind = s.1; reads = sr }))
 noting_turn program f t k old new limit st rs ls none sk sr re le (Need j) e s n = subst (Noting program k old (Machine.need_answer limit st (Machine.at same_key st j))) (sym n) (waits_or_full limit st (Machine.at same_key st j))
+
+-- a note that is found, where all notes are true
+pub noted_found : (es : List (Key × Noted Key Outcome Range)) (k : Key) (v : Noted Key Outcome Range) → lookup (key.eq k) es ≡ Some v → (program : K.Key → Query K.Key K.Outcome Range K.Outcome) (f : K.Key → Option K.Outcome) → AreTrue same_key program (note_trees es) → IsTrueTable program f →
+    found f (program (key_tree k)) ≡ end_by_note (outcome_tree v.outcome) (first_without f (map key_tree v.reads.items))
+noted_found es k v e program f true_notes table =
+    let (n, m, ek, eo, er, el) = found_note es k v e in
+    let is : IsNote same_key program n.key n.outcome n.reads n.looked = true_notes n m in
+    let a = pick_by_note K.Key K.Outcome Range same_key program f n.key n.outcome n.reads n.looked key_equality table is in
+    ap (λ t. found f (program t)) (sym ek) ∙ a ∙ ap (λ o. end_by_note o (first_without f n.reads)) eo ∙ ap (λ rs. end_by_note (outcome_tree v.outcome) (first_without f rs)) er
+
+-- and where all are sound
+pub noted_sound : (es : List (Key × Noted Key Outcome Range)) (k : Key) (v : Noted Key Outcome Range) → lookup (key.eq k) es ≡ Some v → AreSoundNotes (note_trees es) → IsSoundFound (key_tree k) (Ready (outcome_tree v.outcome)) × AreSoundKeys (map key_tree v.reads.items)
+noted_sound es k v e sound =
+    let (n, m, ek, eo, er, el) = found_note es k v e in
+    let s = sound n m in
+    ((subst (λ o. IsTrue (is_sound_outcome o)) eo s.outcome, subst (λ o. IsTrue (is_outcome_of (key_tree k) o)) eo (subst (λ j. IsTrue (is_outcome_of j n.outcome)) ek s.kind)), subst AreSoundKeys er s.reads)

@@ -53,7 +53,7 @@ change_entries g known (k ∷ ks) (s ∷ ss) (s' ∷ ss') l l' h =
 
 -- ---- distinct keys
 
-member_map : (ks : List Key) (q : ℕ) (k : Key) → slice_get ks q ≡ Some k → Member (key_tree k) (map key_tree ks)
+pub member_map : (ks : List Key) (q : ℕ) (k : Key) → slice_get ks q ≡ Some k → Member (key_tree k) (map key_tree ks)
 member_map [] q k e = absurd (cc e)
 member_map (x ∷ ks) zero k e = let d : x ≡ k = cc in inl (ap key_tree (sym d))
 member_map (x ∷ ks) (suc q) k e = inr (member_map ks q k e)
@@ -237,3 +237,11 @@ first_member {O} f (x ∷ ks) k e = by (f x) e (first_member f ks k)
     by : (v : Option O) → next (Some x) v (λ o. first_without f ks) ≡ Some k → (first_without f ks ≡ Some k → Member k ks) → Member k (x ∷ ks)
     by None d r = let s : x ≡ k = cc in inl (sym s)
     by (Some o) d r = inr (r d)
+
+pub both : {X E : Type 0} (P Q : X → Type 0) (r : Result X E) → IfOk r P → IfOk r Q → IfOk r (λ x. P x × Q x)
+both P Q (Ok x) p q = (p, q)
+both P Q (Err e) p q = tt
+
+pub if_and_on : {X E : Type 0} (P : X → Type 0) (Q : Type 0) (r : Result X E) → IfOk r P → OnOk r Q → IfOk r (λ x. P x × Q)
+if_and_on P Q (Ok x) p q = (p, q)
+if_and_on P Q (Err e) p q = tt

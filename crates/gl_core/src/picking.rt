@@ -257,3 +257,36 @@ fn pick_noted(
         None => Err(NoMemory),
     }
 }
+
+/// A pick of the key with a number: by its note, or else by an evaluation, which is noted where it
+/// ends with the outcome.
+pub fn pick_at<L: Watch>(
+    alloc: Global,
+    entries: &mut Entries,
+    notes: &mut Memo<Key, Outcome, Range>,
+    p: usize,
+    cells: &Cells,
+    w: &Oracle,
+    version: Version,
+    steps: &mut Steps<L>,
+) -> Result<Picked, NoMemory>
+    requires there { p < length entries.old.keys.keys }
+    requires table { IsTable entries.old }
+    requires proper { (k : Key) → slice_get entries.old.keys.keys p ≡ Some k → IsProperKey (sheet cells.now) (key_tree k) }
+    requires sound_notes { AreSoundNotes (note_trees (notes_of notes.old)) }
+    requires true_notes { AreTrue same_key (program (version_tree version) (sheet cells.now) w.now) (note_trees (notes_of notes.old)) }
+    requires outcomes { IsTrueTable (program (version_tree version) (sheet cells.now) w.now) (table same_key (table_of entries.old)) }
+    ensures state { OnOk result ((k : Key) → slice_get entries.old.keys.keys p ≡ Some k → table_of entries.new ≡ Machine.turn same_key max_demanded (table_of entries.old) (key_tree k) (found (table same_key (table_of entries.old)) (program (version_tree version) (sheet cells.now) w.now (key_tree k)))) }
+    ensures answer { IfOk result (λ picked. (k : Key) → slice_get entries.old.keys.keys p ≡ Some k → (picked_tree picked ≡ Machine.turn_answer same_key max_demanded (table_of entries.old) (found (table same_key (table_of entries.old)) (program (version_tree version) (sheet cells.now) w.now (key_tree k)))) × Noting (program (version_tree version) (sheet cells.now) w.now) (key_tree k) (note_trees (notes_of notes.old)) (picked_tree picked) (note_trees (notes_of notes.new))) }
+    ensures keys_err { OnErr result (entries.new.keys.keys ≡ entries.old.keys.keys) }
+    ensures statuses_err { OnErr result (entries.new.statuses.items.items ≡ entries.old.statuses.items.items) }
+    ensures notes_err { OnErr result (notes_of notes.new ≡ notes_of notes.old) }
+    ensures table { IsTable entries.new }
+    ensures counted { (k : Key) → slice_get entries.old.keys.keys p ≡ Some k → steps.new ≡ counted (is_noted (note_trees (notes_of notes.old))) (Some (key_tree k)) steps.old }
+{
+    if has_note(entries, notes, p) {
+        pick_noted(alloc, entries, notes, p)
+    } else {
+        go_by_step(alloc, entries, notes, p, cells, w, version, steps)
+    }
+}
