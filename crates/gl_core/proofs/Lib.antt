@@ -5,3 +5,4 @@ pub mod Wakes
 pub mod Places
 pub mod Tables
 pub mod Notes
+pub mod Runs

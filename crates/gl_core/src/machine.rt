@@ -18,10 +18,12 @@ ghost use Rattle.gl_memo.specs.Notes.{notes_of};
 ghost use Rattle.gl_demand.specs.View.{key_tree};
 ghost use Rattle.gl_demand.specs.Sound.{AreSoundKeys};
 ghost use Rattle.gl_core.specs.State.{state_of, seeds_of, notes_in, note_trees, is_noted, keys_noted, noted_after, AreSoundNotes, IsFor};
+ghost use Rattle.gl_core.specs.Table.{table_of, IsTable};
 ghost use Rattle.gl_core.specs.Answers.{picked_tree, counted, AllowsDemanded, AllowsKnown};
 
 use crate::answers::{CoreFault, Picked};
 use crate::entries::Entries;
+use crate::picking::pick_at;
 use crate::quiet::Quiet;
 use gl_ast::Version;
 use gl_cells::Cells;
@@ -58,7 +60,25 @@ impl Model for Core {
 
     ghost view = { λ c. record { keys = c.entries.keys.keys; statuses = c.entries.statuses.items.items; seeds = c.seeds; notes = notes_of c.notes } };
 
-    ghost invariant = { λ c. ⊥ };
+    ghost use Rattle.gl_core.specs.Table.{IsCore};
+
+    ghost invariant = { λ c. IsCore c.entries (notes_of c.notes) };
+}
+
+/// The seeds, all idle.
+fn seeded(alloc: Global, seeds: Vec<Key>) -> Result<Entries, NoMemory>
+    requires few { vec_len seeds ≤ max_demanded }
+    requires apart { AreDistinct (map key_tree seeds.items) }
+    requires sound { AreSoundKeys (map key_tree seeds.items) }
+    ensures keys { IfOk result (λ e. e.keys.keys ≡ seeds.items) }
+    ensures state { IfOk result (λ e. table_of e ≡ Machine.start (map key_tree seeds.items)) }
+    ensures table { IfOk result IsTable }
+{
+    let mut entries = Entries::new(alloc);
+    for seed in seeds {
+        entries.add_idle(alloc, seed, Vec::new(alloc))?;
+    }
+    Ok(entries)
 }
 
 impl Core {
@@ -82,14 +102,20 @@ impl Core {
         ensures notes { IfOk result (λ core. notes_in core ≡ note_trees (notes_of kept)) }
         ensures for_it { IfOk result (λ core. IsFor (version_tree version) (sheet cells.now) w.now core) }
     {
-        Err(NoMemory)
+        let count = seeds.len();
+        let entries = seeded(alloc, seeds)?;
+        Ok(Core {
+            entries,
+            seeds: count,
+            notes: kept,
+        })
     }
 
     /// How many keys can be picked.
     pub fn idle(&self) -> u64
         ensures { result ≡ length (idle_keys (state_of self.now)) }
     {
-        self.seeds as u64
+        u64::from(self.entries.statuses.idle_total())
     }
 
     /// Picks the i-th of the idle keys, in the order in which keys became known.
@@ -116,8 +142,17 @@ impl Core {
         ensures stays { IsFor (version_tree version) (sheet cells.now) w.now self.new }
         ensures counted { steps.new ≡ counted (is_noted (notes_in self.old)) (nth (idle_keys (state_of self.old)) i) steps.old }
     {
-        let _ = &self.seeds;
-        Err(NoMemory)
+        let p = self.entries.statuses.idle_place(i as u32);
+        pick_at(
+            alloc,
+            &mut self.entries,
+            &mut self.notes,
+            p,
+            cells,
+            w,
+            version,
+            steps,
+        )
     }
 
     /// Picks by the rule until nothing is idle, whatever the rule answers. `Work` comes exactly
