@@ -6,3 +6,4 @@ pub mod Places
 pub mod Tables
 pub mod Notes
 pub mod Runs
+pub mod Picks

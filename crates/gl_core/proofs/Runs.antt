@@ -1,5 +1,5 @@
 -- A core stays for its sheet, oracle and version under picks.
-use Rattle.std.proofs.Common.{◌≡◌, ℕ, zero, suc, ◌+◌, ◌<◌, ◌≤◌, List, [], ◌∷◌, ◌++◌, ◌⊎◌, ◌||◌, Bool, true, false, cond, Option, Some, None, length, map, take, nat_lt, refl, sym, ap, ◌∙◌, subst, arith, append-nil, length-append, inl, inr}
+use Rattle.std.proofs.Common.{◌≡◌, ℕ, zero, suc, ◌+◌, ◌<◌, ◌≤◌, List, [], ◌∷◌, ◌++◌, ◌⊎◌, ◌||◌, Bool, true, false, cond, Option, Some, None, length, map, take, nat_lt, refl, sym, ap, ◌∙◌, subst, arith, append-nil, length-append, inl, inr, IsTrue}
 use Rattle.std.proofs.lemmas.List.{take-append-le}
 use Rattle.gl_query.specs.Lists.{Member, AreDistinct}
 use Rattle.gl_query.specs.Query.{Query, Found, Ready, Need, found}
@@ -19,7 +19,8 @@ use Rattle.gl_calculus.specs.Key as K
 use Rattle.gl_calculus.specs.Key.{same_key}
 use Rattle.gl_calculus.specs.Evaluation.{program}
 use Rattle.gl_calculus.specs.Memory.{Notes}
-use Rattle.gl_calculus.specs.Sound.{IsProperKey}
+use Rattle.gl_calculus.specs.Sound.{IsProperKey, is_sound_key}
+use Rattle.gl_demand.specs.Sound.{AreSoundKeys}
 use Rattle.gl_calculus.proofs.Tests.{key_equality}
 use Rattle.gl_demand.specs.View.{key_tree}
 use Rattle.gl_demand.specs.declared.key.Key.{Key}
@@ -78,7 +79,7 @@ module _ (st : State) (k : K.Key) (o : K.Outcome) where
 added_in : (st : State) (i j : K.Key) (o : K.Outcome) → at same_key (add_idle i st) j ≡ Some (Resolved o) → at same_key st j ≡ Some (Resolved o)
 added_in [] i j o e = absurd (no (same_key j i) e)
   where
-    no : (b : Bool) → cond b (Some Idle) None ≡ Some (Resolved o) → ⊥
+    no : (b : Bool) → ◌≡◌ {A = Option (Status K.Key K.Outcome)} (cond b (Some Idle) None) (Some (Resolved o)) → ⊥
     no true d = cc d
     no false d = cc d
 added_in (x ∷ st) i j o e = by (same_key j x.key) e (added_in st i j o)
@@ -152,7 +153,7 @@ start_none (x ∷ ks) rest k d = by (same_key (key_tree k) (key_tree x)) refl (s
     later [] zs = inl refl
     later (y ∷ ys) zs = inr (later ys zs)
 
-    by : (b : Bool) → same_key (key_tree k) (key_tree x) ≡ b → at same_key (start {O = K.Outcome} (map key_tree ks)) (key_tree k) ≡ None → cond b (Some Idle) (at same_key (start (map key_tree ks)) (key_tree k)) ≡ None
+    by : (b : Bool) → same_key (key_tree k) (key_tree x) ≡ b → at same_key (start {O = K.Outcome} (map key_tree ks)) (key_tree k) ≡ None → cond b (Some Idle) (at same_key (start {O = K.Outcome} (map key_tree ks)) (key_tree k)) ≡ None
     by true t r = absurd (d.0 (subst (λ y. Member y (map key_tree (ks ++ k ∷ rest))) (key_equality.0 _ _ t) (later ks rest)))
     by false t r = r
 
@@ -188,3 +189,12 @@ for_started version S w c ks e n d l proper true_notes =
       true_notes = true_notes;
       noted = λ k o g. absurd (none_resolved ks k o (ap (λ t. at same_key t k) (sym e) ∙ g));
     }
+
+pub length-trees : (ks : List Key) → length (map key_tree ks) ≡ length ks
+length-trees [] = refl
+length-trees (k ∷ ks) = ap suc (length-trees ks)
+
+-- one more of the seeds
+pub next_sound : (ks rest : List Key) (k : Key) → AreSoundKeys (map key_tree (ks ++ k ∷ rest)) → IsTrue (is_sound_key (key_tree k))
+next_sound [] rest k h = h (key_tree k) (inl refl)
+next_sound (x ∷ ks) rest k h = next_sound ks rest k (λ j m. h j (inr m))

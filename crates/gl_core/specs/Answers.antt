@@ -1,5 +1,5 @@
 -- What picks and runs answer, and the steps that they take.
-use Rattle.std.specs.Prelude.{◌≡◌, ◌≢◌, ℕ, ◌+◌, ◌≤◌, List, length, Option, Some, None, Bool, false, cond, true, IsTrue}
+use Rattle.std.specs.Prelude.{◌≡◌, ◌≢◌, ℕ, ◌+◌, ◌≤◌, List, length, Option, Some, None, Bool, false, cond, true, IsTrue, IfSome, IsSome}
 use Rattle.gl_query.specs.Lists.{Member, AreDistinct}
 use Rattle.gl_query.specs.Query.{Query}
 use Rattle.gl_query.specs.Machine as Machine
@@ -16,6 +16,9 @@ use Rattle.gl_core.specs.declared.answers.Picked.{Picked}
 use Rattle.gl_core.specs.declared.answers.Picked.TheVariants.{Resolved, Waits, Full}
 use Rattle.gl_core.specs.declared.quiet.Seen.{Seen}
 use Rattle.gl_core.specs.declared.quiet.Seen.TheVariants.{Known, Loops}
+use Rattle.gl_demand.specs.declared.outcome.Outcome.{Outcome}
+use Rattle.gl_core.specs.declared.status.Status.{Status}
+use Rattle.gl_core.specs.declared.status.Status.TheVariants as Status
 use Rattle.gl_core.specs.State.{State, keys_noted}
 
 abbrev pub picked_tree : Picked → Machine.Picked
@@ -59,3 +62,14 @@ pub record AreTheNotes (st : State) (notes kept : Notes) : Type 0 where
   pub among : (n : _) → Member n kept → Member n notes
   pub resolved : (k : K.Key) → Member k (keys_noted kept) → (o : K.Outcome) × (Machine.at same_key st k ≡ Some (Machine.Resolved o))
   pub all : (k : K.Key) (o : K.Outcome) → Machine.at same_key st k ≡ Some (Machine.Resolved o) → Member k (keys_noted kept)
+
+abbrev pub IsKnown : Outcome → Seen → Type 0
+IsKnown o (Known x) = x.now ≡ o
+IsKnown o Loops = ⊥
+
+-- what is seen by a status: nothing where there is none, or it is idle
+abbrev pub IsSeenStatus : Option Seen → Option Status → Type 0
+IsSeenStatus r None = r ≡ None
+IsSeenStatus r (Some Status.Idle) = r ≡ None
+IsSeenStatus r (Some (Status.Waiting p)) = r ≡ Some Loops
+IsSeenStatus r (Some (Status.Resolved o)) = IfSome r (IsKnown o) × IsSome r

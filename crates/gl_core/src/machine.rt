@@ -179,6 +179,29 @@ impl Core {
         ensures most_work { IfErr result (λ e. e ≡ CoreFault.Work → AllowsDemanded (Demanded (program (version_tree version) (sheet cells.now) w.now) (seeds_of self)) (program (version_tree version) (sheet cells.now) w.now) (is_noted (notes_in self)) steps.old steps.new) }
         ensures least { IfOk result (λ q. steps.new < 2 ^ 64 - 1 → steps.old + settled (is_noted (notes_in self)) (state_of q) ≤ steps.new + settled (is_noted (notes_in self)) (state_of self)) }
     {
-        Err(CoreFault::NoMemory)
+        let mut core = self;
+        let mut turn = 0u64;
+        'picks: loop {
+            let n = core.idle();
+            if n == 0 {
+                return Ok(core.into_quiet());
+            }
+            let i = order.next(kind, turn, n);
+            match core.pick(alloc, i, cells, w, version, steps) {
+                Ok(Picked::Full) => return Err(CoreFault::Work),
+                Ok(Picked::Resolved) => {}
+                Ok(Picked::Waits) => {}
+                Err(_) => return Err(CoreFault::NoMemory),
+            }
+            turn = turn.wrapping_add(1);
+        }
+    }
+
+    /// The core, in which nothing is idle.
+    fn into_quiet(self) -> Quiet
+        requires { length (idle_keys (state_of self)) ≡ 0 }
+        ensures { result ≡ self }
+    {
+        Quiet::new(self.entries, self.seeds, self.notes)
     }
 }
