@@ -7,3 +7,4 @@ pub mod Tables
 pub mod Notes
 pub mod Runs
 pub mod Picks
+pub mod Seeing
