@@ -23,16 +23,16 @@ at_set_other (x ∷ xs) (suc p) (suc q) s n = at_set_other xs p q s (λ e. n (ap
 pub counts_set : (ss : List Status) (p : ℕ) (s : Status) (c c' : ℕ → ℕ) → p < length ss → ((q : ℕ) → c q ≡ idle_at ss q) → ((q : ℕ) → c' q + idle_at ss p * one_if (nat_eq q p) ≡ c q + one_idle s * one_if (nat_eq q p)) → (q : ℕ) → c' q ≡ idle_at (set ss p s) q
 counts_set ss p s c c' h e f q = elim (same_or_other q p) [
   | inl d ↦
-    let a = one_same q p d in
-    let b : idle_at (set ss p s) q ≡ one_idle s = ap (idle_at (set ss p s)) d ∙ at_set_same ss p s h in
-    let g : idle_at ss q ≡ idle_at ss p = ap (idle_at ss) d in
-    let k : c' q + idle_at ss p * 1 ≡ c q + one_idle s * 1 = subst (λ n. c' q + idle_at ss p * n ≡ c q + one_idle s * n) a (f q) in
-    omega (arith, e q)
+      let a = one_same q p d in
+      let b : idle_at (set ss p s) q ≡ one_idle s = ap (idle_at (set ss p s)) d ∙ at_set_same ss p s h in
+      let g : idle_at ss q ≡ idle_at ss p = ap (idle_at ss) d in
+      let k : c' q + idle_at ss p * 1 ≡ c q + one_idle s * 1 = subst (λ n. c' q + idle_at ss p * n ≡ c q + one_idle s * n) a (f q) in
+      omega (arith, e q)
   | inr n ↦
-    let a = one_other q p n in
-    let b = at_set_other ss p q s n in
-    let k : c' q + idle_at ss p * 0 ≡ c q + one_idle s * 0 = subst (λ m. c' q + idle_at ss p * m ≡ c q + one_idle s * m) a (f q) in
-    omega (arith, e q)
+      let a = one_other q p n in
+      let b = at_set_other ss p q s n in
+      let k : c' q + idle_at ss p * 0 ≡ c q + one_idle s * 0 = subst (λ m. c' q + idle_at ss p * m ≡ c q + one_idle s * m) a (f q) in
+      omega (arith, e q)
 ]
 
 pub count_set : (ss : List Status) (p : ℕ) (s : Status) → p < length ss → count_idle (set ss p s) + idle_at ss p ≡ count_idle ss + one_idle s

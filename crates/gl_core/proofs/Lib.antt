@@ -8,3 +8,4 @@ pub mod Notes
 pub mod Runs
 pub mod Picks
 pub mod Seeing
+pub mod Ending

@@ -130,13 +130,13 @@ module _ (version : Version) (S : Cells) (w : Oracle) (c c' : Held) (h : IsFor v
         proper = λ j g. h.proper j (subst (Member j) seeds g);
         true_notes = notes_true p k (notes_in c) a (notes_in c') n h.true_notes;
         noted = λ j o g.
-          let r : at same_key (turn same_key max_demanded st k (found (table same_key st) (p k))) j ≡ Some (Resolved o) = ap (λ t. at same_key t j) (sym (e ∙ ap (picked same_key max_demanded p st) d)) ∙ g in
-          elim (resolved_after st max_demanded k j o (found (table same_key st) (p k)) r) [
-            | inl x ↦ notes_stay p k (notes_in c) a (notes_in c') n j (h.noted j o x)
-            | inr (s, t) ↦
-              let u : a ≡ Picked.Resolved = b ∙ ap (answer_at same_key max_demanded p st) d ∙ t in
-              subst (λ x. is_noted (notes_in c') x ≡ true) (sym s) (notes_new p k (notes_in c) (notes_in c') (subst (λ x. Noting p k (notes_in c) x (notes_in c')) u n))
-          ];
+            let r : at same_key (turn same_key max_demanded st k (found (table same_key st) (p k))) j ≡ Some (Resolved o) = ap (λ t. at same_key t j) (sym (e ∙ ap (picked same_key max_demanded p st) d)) ∙ g in
+            elim (resolved_after st max_demanded k j o (found (table same_key st) (p k)) r) [
+              | inl x ↦ notes_stay p k (notes_in c) a (notes_in c') n j (h.noted j o x)
+              | inr (s, t) ↦
+                  let u : a ≡ Picked.Resolved = b ∙ ap (answer_at same_key max_demanded p st) d ∙ t in
+                  subst (λ x. is_noted (notes_in c') x ≡ true) (sym s) (notes_new p k (notes_in c) (notes_in c') (subst (λ x. Noting p k (notes_in c) x (notes_in c')) u n))
+            ];
       }
 
 -- ---- the start

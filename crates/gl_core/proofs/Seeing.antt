@@ -18,7 +18,7 @@ use Rattle.gl_core.specs.declared.status.Status.TheVariants.{Idle, Waiting, Reso
 use Rattle.gl_core.specs.declared.quiet.Seen.{Seen}
 use Rattle.gl_core.specs.declared.quiet.Seen.TheVariants.{Known, Loops}
 
-none_of : {X : Type 0} (xs : List X) → length xs ≡ 0 → xs ≡ []
+pub none_of : {X : Type 0} (xs : List X) → length xs ≡ 0 → xs ≡ []
 none_of [] e = refl
 none_of (x ∷ xs) e = absurd (cc e)
 

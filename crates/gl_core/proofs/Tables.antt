@@ -91,16 +91,16 @@ module _ (ks : List Key) (ss : List Status) (apart : AreDistinct (map key_tree k
           let same = same_numbers ks apart q p j k ej ek in
           elim (same_or_other q p) [
             | inl e ↦
-              let b : slice_get (set ss p (Resolved o)) q ≡ Some (Resolved o) = ap (slice_get (set ss p (Resolved o))) e ∙ get_set_same ss p (Resolved o) there in
-              let d : Some s' ≡ Some (Resolved o) = sym es' ∙ a ∙ ap (woken_by (has row q) p) b ∙ resolved_stays (has row q) in
-              let f : s' ≡ Resolved o = cc in
-              let t : same_key (key_tree j) (key_tree k) ≡ true = same ∙ eq-eqb q p e in
-              ap (status_tree ks) f ∙ ap (λ b. cond b (Machine.Resolved (outcome_tree o)) (woken same_key (key_tree k) (status_tree ks s))) (sym t)
+                let b : slice_get (set ss p (Resolved o)) q ≡ Some (Resolved o) = ap (slice_get (set ss p (Resolved o))) e ∙ get_set_same ss p (Resolved o) there in
+                let d : Some s' ≡ Some (Resolved o) = sym es' ∙ a ∙ ap (woken_by (has row q) p) b ∙ resolved_stays (has row q) in
+                let f : s' ≡ Resolved o = cc in
+                let t : same_key (key_tree j) (key_tree k) ≡ true = same ∙ eq-eqb q p e in
+                ap (status_tree ks) f ∙ ap (λ b. cond b (Machine.Resolved (outcome_tree o)) (woken same_key (key_tree k) (status_tree ks s))) (sym t)
             | inr n ↦
-              let b : slice_get (set ss p (Resolved o)) q ≡ Some s = get_set_other ss p q (Resolved o) n ∙ es in
-              let d : Some s' ≡ woken_by (has row q) p (Some s) = sym es' ∙ a ∙ ap (woken_by (has row q) p) b in
-              let t : same_key (key_tree j) (key_tree k) ≡ false = same ∙ not_same q p n in
-              wakes p k ek s s' (has row q) (λ w. listed q (es ∙ ap Some w)) (λ r w. below q r (es ∙ ap Some w)) d ∙ ap (λ b. cond b (Machine.Resolved (outcome_tree o)) (woken same_key (key_tree k) (status_tree ks s))) (sym t)
+                let b : slice_get (set ss p (Resolved o)) q ≡ Some s = get_set_other ss p q (Resolved o) n ∙ es in
+                let d : Some s' ≡ woken_by (has row q) p (Some s) = sym es' ∙ a ∙ ap (woken_by (has row q) p) b in
+                let t : same_key (key_tree j) (key_tree k) ≡ false = same ∙ not_same q p n in
+                wakes p k ek s s' (has row q) (λ w. listed q (es ∙ ap Some w)) (λ r w. below q r (es ∙ ap Some w)) d ∙ ap (λ b. cond b (Machine.Resolved (outcome_tree o)) (woken same_key (key_tree k) (status_tree ks s))) (sym t)
           ]
 
   pub wait_state : (p on : ℕ) (k j : Key) → slice_get ks p ≡ Some k → slice_get ks on ≡ Some j → state_by ks (set ss p (Waiting on)) ≡ Machine.wait same_key (key_tree k) (key_tree j) (state_by ks ss)
@@ -115,15 +115,15 @@ module _ (ks : List Key) (ss : List Status) (apart : AreDistinct (map key_tree k
           let same = same_numbers ks apart q p i k ei ek in
           elim (same_or_other q p) [
             | inl e ↦
-              let d : Some s' ≡ Some (Waiting on) = sym es' ∙ ap (slice_get (set ss p (Waiting on))) e ∙ get_set_same ss p (Waiting on) there in
-              let f : s' ≡ Waiting on = cc in
-              let t : same_key (key_tree i) (key_tree k) ≡ true = same ∙ eq-eqb q p e in
-              ap (status_tree ks) f ∙ ap waits_for ej ∙ ap (λ b. cond b (Machine.Waiting (key_tree j)) (status_tree ks s)) (sym t)
+                let d : Some s' ≡ Some (Waiting on) = sym es' ∙ ap (slice_get (set ss p (Waiting on))) e ∙ get_set_same ss p (Waiting on) there in
+                let f : s' ≡ Waiting on = cc in
+                let t : same_key (key_tree i) (key_tree k) ≡ true = same ∙ eq-eqb q p e in
+                ap (status_tree ks) f ∙ ap waits_for ej ∙ ap (λ b. cond b (Machine.Waiting (key_tree j)) (status_tree ks s)) (sym t)
             | inr n ↦
-              let d : Some s' ≡ Some s = sym es' ∙ get_set_other ss p q (Waiting on) n ∙ es in
-              let f : s' ≡ s = cc in
-              let t : same_key (key_tree i) (key_tree k) ≡ false = same ∙ not_same q p n in
-              ap (status_tree ks) f ∙ ap (λ b. cond b (Machine.Waiting (key_tree j)) (status_tree ks s)) (sym t)
+                let d : Some s' ≡ Some s = sym es' ∙ get_set_other ss p q (Waiting on) n ∙ es in
+                let f : s' ≡ s = cc in
+                let t : same_key (key_tree i) (key_tree k) ≡ false = same ∙ not_same q p n in
+                ap (status_tree ks) f ∙ ap (λ b. cond b (Machine.Waiting (key_tree j)) (status_tree ks s)) (sym t)
           ]
 
 -- ---- those that came to wait
@@ -238,11 +238,14 @@ apart_push (x ∷ ks) k test t d e = by (test x) refl e (apart_push ks k test t 
   where
     by : (b : Bool) → test x ≡ b → (b || list_any test ks) ≡ false → (list_any test ks ≡ false → AreDistinct (map key_tree (ks ++ k ∷ []))) → AreDistinct (map key_tree (x ∷ (ks ++ k ∷ [])))
     by true f g r = absurd (cc g)
-    by false f g r = ((λ m.
-       let a : key_tree x ≡ key_tree k = member_push ks k (key_tree x) m d.0 in
-       let b : same_key (key_tree k) (key_tree x) ≡ true = ap (same_key (key_tree k)) a ∙ key_equality.1 (key_tree k) in
-       let no : false ≡ true = sym f ∙ t x ∙ b in
-       absurd (cc no)), r g)
+    by false f g r = (
+      (λ m.
+          let a : key_tree x ≡ key_tree k = member_push ks k (key_tree x) m d.0 in
+          let b : same_key (key_tree k) (key_tree x) ≡ true = ap (same_key (key_tree k)) a ∙ key_equality.1 (key_tree k) in
+          let no : false ≡ true = sym f ∙ t x ∙ b in
+          absurd (cc no)),
+      r g,
+    )
 
 -- ---- sound outcomes
 
@@ -258,9 +261,9 @@ resolved_sound ks ss p o row h before new q k x ek e =
     let a = stays_resolved (has row q) p (slice_get (set ss p (Resolved o)) q) x (sym (woken_each p row (set ss p (Resolved o)) q) ∙ e) in
     elim (same_or_other q p) [
       | inl s ↦
-        let b : Some (Resolved o) ≡ Some (Resolved x) = sym (get_set_same ss p (Resolved o) h) ∙ ap (slice_get (set ss p (Resolved o))) (sym s) ∙ a in
-        let d : o ≡ x = cc in
-        subst (λ t. IsSoundFound (key_tree k) (Ready (outcome_tree t))) d (new k (ap (slice_get ks) (sym s) ∙ ek))
+          let b : Some (Resolved o) ≡ Some (Resolved x) = sym (get_set_same ss p (Resolved o) h) ∙ ap (slice_get (set ss p (Resolved o))) (sym s) ∙ a in
+          let d : o ≡ x = cc in
+          subst (λ t. IsSoundFound (key_tree k) (Ready (outcome_tree t))) d (new k (ap (slice_get ks) (sym s) ∙ ek))
       | inr n ↦ before q k x ek (sym (get_set_other ss p q (Resolved o) n) ∙ a)
     ]
 

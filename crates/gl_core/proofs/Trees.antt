@@ -52,9 +52,10 @@ module _ (minus plus : ℕ) where
   shift_tree [] [] p t u s r e h = tt
   shift_tree [] (m ∷ ms) p t u s r e h = absurd s
   shift_tree (l ∷ ls) [] p t u s r e h = absurd s
-  shift_tree (l ∷ ls) (m ∷ ms) p t u s r e h =
-      (λ i. sums minus plus _ _ _ _ _ _ _ _ _ (one_above i p) (h.0 i) (shift_count ls ms (p / 2) t u s.2 r.1 e i) (s.0 (2 * i)) (s.0 (2 * i + 1)),
-       shift_tree ls ms (p / 2) t u s.2 r.1 e h.1)
+  shift_tree (l ∷ ls) (m ∷ ms) p t u s r e h = (
+    λ i. sums minus plus _ _ _ _ _ _ _ _ _ (one_above i p) (h.0 i) (shift_count ls ms (p / 2) t u s.2 r.1 e i) (s.0 (2 * i)) (s.0 (2 * i + 1)),
+    shift_tree ls ms (p / 2) t u s.2 r.1 e h.1,
+  )
 
   -- and no place is lost
   pub shift_room : (ls ms : List (List ℕ)) (p : ℕ) → Shift minus plus ls ms p → (q : ℕ) → HasRoom ls q → HasRoom ms q
@@ -148,10 +149,10 @@ pub reaches_child : (l : List ℕ) (ls : List (List ℕ)) (t at left place to re
 reaches_child l ls t at left place to rest h r first second = elim (cases (get_or l (2 * at) 0) left) [
   | inl k ↦ let (e, d) = first k in subst (λ n. Reaches (count_at (l ∷ ls) t) place n rest) (sym e) (subst (λ m. Reaches (count_at (l ∷ ls) t) place (2 * at) m) (sym d) (record { so_far = child_left l ls t at left place h r.so_far k; here = k }))
   | inr k ↦
-    let (e, d) = second k in
-    let (s, m) = child_right l ls t at left place h r.so_far r.here k in
-    let f : rest ≡ left - get_or l (2 * at) 0 = omega arith in
-    subst (λ n. Reaches (count_at (l ∷ ls) t) place n rest) (sym e) (subst (λ m. Reaches (count_at (l ∷ ls) t) place (2 * at + 1) m) (sym f) (record { so_far = s; here = m }))
+      let (e, d) = second k in
+      let (s, m) = child_right l ls t at left place h r.so_far r.here k in
+      let f : rest ≡ left - get_or l (2 * at) 0 = omega arith in
+      subst (λ n. Reaches (count_at (l ∷ ls) t) place n rest) (sym e) (subst (λ m. Reaches (count_at (l ∷ ls) t) place (2 * at + 1) m) (sym f) (record { so_far = s; here = m }))
 ]
   where
     cases : (x y : ℕ) → (y < x) ⊎ (x ≤ y)
@@ -172,11 +173,12 @@ pub grown_tree : (ls ms : List (List ℕ)) (p t : ℕ) → Shift 0 0 ls ms p →
 grown_tree [] [] p t s h = tt
 grown_tree [] (m ∷ ms) p t s h = absurd s
 grown_tree (l ∷ ls) [] p t s h = absurd s
-grown_tree (l ∷ ls) (m ∷ ms) p t s h =
-    (λ i.
-       let a = grown_count ls ms (p / 2) t s.2 i in
-       let b = h.0 i in
-       let x : get_or m (2 * i) 0 + 0 * one_if (nat_eq (2 * i) p) ≡ get_or l (2 * i) 0 + 0 * one_if (nat_eq (2 * i) p) = s.0 (2 * i) in
-       let y : get_or m (2 * i + 1) 0 + 0 * one_if (nat_eq (2 * i + 1) p) ≡ get_or l (2 * i + 1) 0 + 0 * one_if (nat_eq (2 * i + 1) p) = s.0 (2 * i + 1) in
-       omega arith,
-     grown_tree ls ms (p / 2) t s.2 h.1)
+grown_tree (l ∷ ls) (m ∷ ms) p t s h = (
+  λ i.
+      let a = grown_count ls ms (p / 2) t s.2 i in
+      let b = h.0 i in
+      let x : get_or m (2 * i) 0 + 0 * one_if (nat_eq (2 * i) p) ≡ get_or l (2 * i) 0 + 0 * one_if (nat_eq (2 * i) p) = s.0 (2 * i) in
+      let y : get_or m (2 * i + 1) 0 + 0 * one_if (nat_eq (2 * i + 1) p) ≡ get_or l (2 * i + 1) 0 + 0 * one_if (nat_eq (2 * i + 1) p) = s.0 (2 * i + 1) in
+      omega arith,
+  grown_tree ls ms (p / 2) t s.2 h.1,
+)

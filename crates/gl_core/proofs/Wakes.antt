@@ -78,13 +78,13 @@ pub woken_each : (on : ℕ) (row : List ℕ) (ss : List Status) (q : ℕ) → sl
 woken_each on [] ss q = refl
 woken_each on (x ∷ row) ss q = woken_each on row (wake_at on x ss) q ∙ elim (same_or_other q x) [
   | inl e ↦
-    let a : slice_get (wake_at on x ss) q ≡ woken_by true on (slice_get ss q) = subst (λ n. slice_get (wake_at on x ss) n ≡ woken_by true on (slice_get ss n)) (sym e) (at_woken on x ss) in
-    let b : nat_eq q x ≡ true = eq-eqb q x e in
-    ap (woken_by (has row q) on) a ∙ twice (has row q) on (slice_get ss q) ∙ ap (λ t. woken_by (t || has row q) on (slice_get ss q)) (sym b)
+      let a : slice_get (wake_at on x ss) q ≡ woken_by true on (slice_get ss q) = subst (λ n. slice_get (wake_at on x ss) n ≡ woken_by true on (slice_get ss n)) (sym e) (at_woken on x ss) in
+      let b : nat_eq q x ≡ true = eq-eqb q x e in
+      ap (woken_by (has row q) on) a ∙ twice (has row q) on (slice_get ss q) ∙ ap (λ t. woken_by (t || has row q) on (slice_get ss q)) (sym b)
   | inr n ↦
-    let a = at_others on x q ss n in
-    let b : nat_eq q x ≡ false = other q x n in
-    ap (woken_by (has row q) on) a ∙ ap (λ t. woken_by (t || has row q) on (slice_get ss q)) (sym b)
+      let a = at_others on x q ss n in
+      let b : nat_eq q x ≡ false = other q x n in
+      ap (woken_by (has row q) on) a ∙ ap (λ t. woken_by (t || has row q) on (slice_get ss q)) (sym b)
 ]
   where
     other : (q x : ℕ) → q ≢ x → nat_eq q x ≡ false

@@ -1,5 +1,5 @@
 //! The core: known keys, each idle, waiting for another or resolved, and what a pick does.
-ghost use Rattle.std.specs.Prelude.{◌≡◌, ◌≤◌, ◌<◌, ◌+◌, ◌-◌, ◌^◌, ℕ, length, map, OnOk, OnErr, IfOk, IfErr, vec_len};
+ghost use Rattle.std.specs.Prelude.{true, false, ◌≡◌, ◌≤◌, ◌<◌, ◌+◌, ◌-◌, ◌^◌, ℕ, length, map, OnOk, OnErr, IfOk, IfErr, vec_len};
 ghost use Rattle.gl_query.specs.Lists.{Member, AreDistinct, MoreThan};
 ghost use Rattle.gl_query.specs.Laws.{IsQuiet};
 ghost use Rattle.gl_query.specs.Machine as Machine;
@@ -63,6 +63,17 @@ impl Model for Core {
     ghost use Rattle.gl_core.specs.Table.{IsCore};
 
     ghost invariant = { λ c. IsCore c.entries (notes_of c.notes) };
+}
+
+fn is_full(picked: Picked) -> bool
+    ensures full { result ≡ true → Machine.Picked.Full ≡ picked_tree picked }
+    ensures other { result ≡ false → picked_tree picked ≡ Machine.Picked.Full → ⊥ }
+{
+    match picked {
+        Picked::Full => true,
+        Picked::Resolved => false,
+        Picked::Waits => false,
+    }
 }
 
 /// The seeds, all idle.
@@ -187,11 +198,11 @@ impl Core {
                 return Ok(core.into_quiet());
             }
             let i = order.next(kind, turn, n);
-            match core.pick(alloc, i, cells, w, version, steps) {
-                Ok(Picked::Full) => return Err(CoreFault::Work),
-                Ok(Picked::Resolved) => {}
-                Ok(Picked::Waits) => {}
-                Err(_) => return Err(CoreFault::NoMemory),
+            let Ok(picked) = core.pick(alloc, i, cells, w, version, steps) else {
+                return Err(CoreFault::NoMemory);
+            };
+            if is_full(picked) {
+                return Err(CoreFault::Work);
             }
             turn = turn.wrapping_add(1);
         }

@@ -28,7 +28,7 @@ loop-level-preserved c =
       room = room.1;
       count = (l.invariant.count.0, tree.1, l.invariant.count.2);
       goes_on = goes_more l.levels c.args.levels.now l.level-index c.level-item.result c.loop-level-test.true l.auto.levels l.invariant.behind 0 1 l.at c.args.p c.add_at.new.level
-        (λ q. ap (λ xs. get_or xs q 0 + 0 * one_if (nat_eq q l.at)) c.add_at.ensures ∙ added x.items l.at room.0 q) (let e : length c.add_at.new.level.items ≡ length x.items = ap length c.add_at.ensures ∙ length-set x.items l.at _ in omega arith) l.invariant.goes_on;
+          (λ q. ap (λ xs. get_or xs q 0 + 0 * one_if (nat_eq q l.at)) c.add_at.ensures ∙ added x.items l.at room.0 q) (let e : length c.add_at.new.level.items ≡ length x.items = ap length c.add_at.ensures ∙ length-set x.items l.at _ in omega arith) l.invariant.goes_on;
     }
 
 pub returns : goal.returns

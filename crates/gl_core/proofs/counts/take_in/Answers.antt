@@ -27,7 +27,7 @@ loop-level-preserved c =
       room = room.1;
       count = (l.invariant.count.0, tree.1, omega (arith, some, counted_above x.items _ _ l.at tree));
       goes_on = goes_more l.levels c.args.levels.now l.level-index c.level-item.result c.loop-level-test.true l.auto.levels l.invariant.behind 1 0 l.at c.args.p c.take_at.new.level
-        (λ q. ap (λ xs. get_or xs q 0 + 1 * one_if (nat_eq q l.at)) c.take_at.ensures ∙ taken x.items l.at room.0 some q) (let e : length c.take_at.new.level.items ≡ length x.items = ap length c.take_at.ensures ∙ length-set x.items l.at _ in omega arith) l.invariant.goes_on;
+          (λ q. ap (λ xs. get_or xs q 0 + 1 * one_if (nat_eq q l.at)) c.take_at.ensures ∙ taken x.items l.at room.0 some q) (let e : length c.take_at.new.level.items ≡ length x.items = ap length c.take_at.ensures ∙ length-set x.items l.at _ in omega arith) l.invariant.goes_on;
     }
 
 pub returns : goal.returns

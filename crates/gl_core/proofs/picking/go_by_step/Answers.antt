@@ -23,7 +23,7 @@ returns-in-Ok-clause-answer g c =
     let old = note_trees (notes_of c.args.notes.now) in
     let new = note_trees (notes_of c.go_by_turn.new.notes) in
     if_ok r (if_and_on _ _ r c.go_by_turn.ensures.answer c.go_by_turn.ensures.notes) (λ picked all k ek.
-        let t = c.in-Ok.ensures.turn k ek in
-        let none = c.requires.no_note k ek in
-        let n = noting_turn p (table same_key st) c.requires.outcomes (key_tree k) old new max_demanded st (map key_tree c.in-Ok.turn.reads.items) c.in-Ok.turn.looked.items none t.sound_key t.sound_reads t.reads t.looks (found_tree c.in-Ok.turn.found) t.finds t.sound_found (all.1 k ek none) in
-        (all.0 ∙ ap (Machine.turn_answer same_key max_demanded st) t.finds, subst (λ a. Noting p (key_tree k) old a new) (sym all.0) n))
+    let t = c.in-Ok.ensures.turn k ek in
+    let none = c.requires.no_note k ek in
+    let n = noting_turn p (table same_key st) c.requires.outcomes (key_tree k) old new max_demanded st (map key_tree c.in-Ok.turn.reads.items) c.in-Ok.turn.looked.items none t.sound_key t.sound_reads t.reads t.looks (found_tree c.in-Ok.turn.found) t.finds t.sound_found (all.1 k ek none) in
+    (all.0 ∙ ap (Machine.turn_answer same_key max_demanded st) t.finds, subst (λ a. Noting p (key_tree k) old a new) (sym all.0) n))

@@ -52,7 +52,7 @@ returns-clause-table c =
       sound_outcomes = subst (AreSoundOutcomes s.keys.keys) (sym new) (waiting_sound s.keys.keys ss p on there t.sound_outcomes);
       known = subst (PointBelow (length s.keys.keys)) (sym new) (waits_below ss p on (length s.keys.keys) there c.requires.on_there t.known);
       listed = λ q r e. waits_listed ss p on (length s.keys.keys) there s.waiting.items (set s.waiting.items on c.push.new.self)
-        (newly_listed s.waiting.items on p c.index_mut.result.now c.push.new.self on_there c.index_mut.ensures.value items)
-        (still_listed s.waiting.items on c.index_mut.result.now c.push.new.self (p ∷ []) on_there c.index_mut.ensures.value items)
-        t.listed q r (ap (λ (xs : List Status). slice_get xs q) (sym new) ∙ e);
+          (newly_listed s.waiting.items on p c.index_mut.result.now c.push.new.self on_there c.index_mut.ensures.value items)
+          (still_listed s.waiting.items on c.index_mut.result.now c.push.new.self (p ∷ []) on_there c.index_mut.ensures.value items)
+          t.listed q r (ap (λ (xs : List Status). slice_get xs q) (sym new) ∙ e);
     }

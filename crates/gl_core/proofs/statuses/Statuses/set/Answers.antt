@@ -30,7 +30,7 @@ returns-clause-counted c =
     record {
       sums = c.recount.ensures.sums;
       counts = counts_set ss p c.args.status (count_of s.idle) (count_of c.recount.new.idle) c.requires.there c.requires.counted.counts
-        (λ q. subst (λ n. count_of c.recount.new.idle q + n * one_if (nat_eq q p) ≡ count_of s.idle q + one_idle c.args.status * one_if (nat_eq q p)) was (subst (λ n. count_of c.recount.new.idle q + cond c.is_idle-was.result 1 0 * one_if (nat_eq q p) ≡ count_of s.idle q + n * one_if (nat_eq q p)) is (c.recount.ensures.count q)));
+          (λ q. subst (λ n. count_of c.recount.new.idle q + n * one_if (nat_eq q p) ≡ count_of s.idle q + one_idle c.args.status * one_if (nat_eq q p)) was (subst (λ n. count_of c.recount.new.idle q + cond c.is_idle-was.result 1 0 * one_if (nat_eq q p) ≡ count_of s.idle q + n * one_if (nat_eq q p)) is (c.recount.ensures.count q)));
       places = λ q h. c.recount.ensures.places q (c.requires.counted.places q (let e = length-set ss p c.args.status in omega (arith, e, h)));
       total = omega (arith, total, all, c.requires.counted.total);
     }
