@@ -3,3 +3,10 @@ pub mod Walking
 pub mod Frames
 pub mod Showing
 pub mod Keys
+pub mod Ordered
+pub mod Counting
+pub mod Firsts
+pub mod Granting
+pub mod Visiting
+pub mod Rounds
+pub mod Copying

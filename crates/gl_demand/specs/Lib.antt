@@ -8,3 +8,5 @@ pub mod Laws
 pub mod Walk
 pub mod Walks
 pub mod Held
+pub mod Places
+pub mod Settling

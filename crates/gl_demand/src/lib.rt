@@ -11,7 +11,9 @@ mod known;
 mod laws;
 mod noting;
 mod outcome;
+mod places;
 mod stepping;
+mod settle;
 mod steps;
 mod trail;
 
