@@ -11,3 +11,10 @@ pub mod Parts
 pub mod Trees
 pub mod Spilling
 pub mod Rows
+pub mod Ordered
+pub mod Counting
+pub mod Firsts
+pub mod Granting
+pub mod Visiting
+pub mod Rounds
+pub mod Copying

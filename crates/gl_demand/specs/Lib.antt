@@ -13,3 +13,5 @@ pub mod Scope
 pub mod Cells
 pub mod Prefixed
 pub mod Stopped
+pub mod Places
+pub mod Settling

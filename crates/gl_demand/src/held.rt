@@ -85,7 +85,7 @@ fn held_top(content: &Content) -> Held<'_>
 
 /// What the nearest override outward holds, else what the sheet has there.
 #[tactic(auto, using(crate::proofs::Frames::content_nearest))]
-fn content_in<'a>(cells: &'a Cells, env: &'a Env, a: Addr) -> Option<Held<'a>>
+pub fn content_in<'a>(cells: &'a Cells, env: &'a Env, a: Addr) -> Option<Held<'a>>
     requires { IsTrue (is_sound_frame (frame_tree env.now)) }
     ensures value { option_map held_tree result ≡ content_in (content (sheet cells.now) a) (frame_tree env.now) a }
     ensures sound { IfSome result (λ h. IsSoundHeld (held_tree h)) }

@@ -17,7 +17,9 @@ mod outcome;
 mod reading;
 mod scope;
 mod spills;
+mod places;
 mod stepping;
+mod settle;
 mod steps;
 mod trail;
 
