@@ -6,6 +6,7 @@ pub mod Keys
 pub mod Seeing
 pub mod References
 pub mod Ending
+pub mod CopyEnding
 pub mod ReadingOn
 pub mod Parts
 pub mod Trees

@@ -2,12 +2,13 @@
 ghost use Rattle.std.specs.Prelude.{◌≡◌, Some, IsTrue, IfOk};
 ghost use Rattle.gl_ast.specs.View.{version_tree};
 ghost use Rattle.gl_calculus.specs.Formula.{content};
-ghost use Rattle.gl_calculus.specs.Key.{Cell};
+ghost use Rattle.gl_query.specs.Query.{Ready};
+ghost use Rattle.gl_calculus.specs.Key.{Cell, Settle, Settled};
 ghost use Rattle.gl_calculus.specs.Evaluation as E;
 ghost use Rattle.gl_calculus.specs.Reference.{own_content};
-ghost use Rattle.gl_calculus.specs.Sound.{is_sound_key, is_sound_value};
+ghost use Rattle.gl_calculus.specs.Sound.{is_sound_key, is_sound_sheet, is_sound_value};
 ghost use Rattle.gl_cells.specs.Sheet.{sheet};
-ghost use Rattle.gl_value.specs.View.{value_tree, frame_tree};
+ghost use Rattle.gl_value.specs.View.{value_tree, frame_tree, sheet_tree};
 ghost use Rattle.gl_demand.specs.Held.{held_tree, IsSoundHeld};
 ghost use Rattle.gl_demand.specs.Sound.{IsSoundTable, IsSoundFound};
 ghost use Rattle.gl_demand.specs.View.{key_tree, found_tree};
@@ -22,13 +23,15 @@ use crate::formulas::eval;
 use crate::held::{Held, held_at};
 use crate::reading::look_at;
 use crate::scope::Scope;
+use crate::settle::settle;
 use crate::trail::{Halt, Trail};
 use crate::{Found, Key, Known, Outcome};
 use gl_ast::Version;
 use gl_cells::Cells;
 use gl_plane::{Addr, NoMemory, Oracle};
-use gl_value::{Scalar, Value};
+use gl_value::{Env, Scalar, SheetVal, Value};
 use std::alloc::Global;
+use std::rc::Rc;
 
 /// The value of an address that holds this.
 #[tactic(auto, using(gl_value::specs::Forms::trees), unfolding(gl_calculus::specs::Evaluation::cell_value))]
@@ -89,6 +92,29 @@ fn evaluate_cell<K: Known>(ctx: &Context<K>, a: Addr, trail: &mut Trail) -> Resu
     }
 }
 
+/// What is found where a settling ends.
+fn settled(alloc: Global, oracle: Oracle) -> Result<Found, NoMemory>
+    ensures { IfOk result (λ x. found_tree x ≡ Ready (Settled oracle)) }
+{
+    Ok(Found::Ready(Outcome::Settled(Rc::new(alloc, oracle)?)))
+}
+
+/// How the settling of a sheet value ends.
+fn evaluate_copy<K: Known>(
+    ctx: &Context<K>,
+    s: &Rc<SheetVal>,
+    trail: &mut Trail,
+) -> Result<Found, NoMemory>
+    requires { IsTrue (is_sound_sheet (sheet_tree s.now.value)) }
+    ensures walk { IfOk result (λ x. walk (world (sheet ctx.now.cells.now) ctx.now.w.now (K.outcomes ctx.now.known.now)) (E.evaluation (version_tree ctx.now.version) (Settle (sheet_tree s.now.value))) (trail_tree trail.old) ≡ (found_tree x, trail_tree trail.new)) }
+    ensures sound { IfOk result (λ x. IsSoundFound (Settle (sheet_tree s.now.value)) (found_tree x)) }
+{
+    match settle(ctx, s, trail) {
+        Ok(oracle) => settled(ctx.alloc, oracle),
+        Err(halt) => stopped(halt),
+    }
+}
+
 /// How the evaluation of a key ends.
 pub fn evaluate<K: Known>(
     alloc: Global,
@@ -116,6 +142,17 @@ pub fn evaluate<K: Known>(
             };
             evaluate_cell(&ctx, *a, trail)
         }
-        Key::Settle(_) => Err(NoMemory),
+        Key::Settle(s) => {
+            let top = Env::Top;
+            let ctx = Context {
+                alloc,
+                cells,
+                w,
+                known,
+                version,
+                env: &top,
+            };
+            evaluate_copy(&ctx, s, trail)
+        }
     }
 }

@@ -14,12 +14,12 @@ mod laws;
 mod noting;
 mod operators;
 mod outcome;
+mod places;
 mod reading;
 mod scope;
-mod spills;
-mod places;
-mod stepping;
 mod settle;
+mod spills;
+mod stepping;
 mod steps;
 mod trail;
 
