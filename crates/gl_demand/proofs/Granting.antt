@@ -49,10 +49,13 @@ module _ (S : Cells) (w : Oracle) where
   found_by true a b bs e h = inl (ap (λ x. Some (fact S w x)) (addr_exact b a e))
   found_by false a b bs e (inl h) = inl h
   found_by false a b bs e (inr (h, n)) =
-      inr (h, elim [
-        | inl q ↦ (let t : true ≡ false = sym (subst (λ x. same_addr x a ≡ true) q (addr_same a)) ∙ e in absurd (cc t))
-        | inr m ↦ n m
-      ])
+      inr (
+        h,
+        elim [
+          | inl q ↦ (let t : true ≡ false = sym (subst (λ x. same_addr x a ≡ true) q (addr_same a)) ∙ e in absurd (cc t))
+          | inr m ↦ n m
+        ],
+      )
 
   fact_found : (bs : List Addr) (a : Addr) → (find_fact (map (fact S w) bs) a ≡ Some (fact S w a)) ⊎ ((find_fact (map (fact S w) bs) a ≡ None) × (Member a bs → ⊥))
   fact_found [] a = inr (refl, λ m. absurd m)

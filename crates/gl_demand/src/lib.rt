@@ -12,8 +12,8 @@ mod laws;
 mod noting;
 mod outcome;
 mod places;
-mod stepping;
 mod settle;
+mod stepping;
 mod steps;
 mod trail;
 

@@ -13,6 +13,6 @@ use Rattle.gl_demand.proofs.settle.arrays_at.Given as goal
 abbrev pub invariant-loop-a : goal.invariant-loop-a
 invariant-loop-a g l = record {
   walked : walk (world (sheet l.ctx.cells.now) l.ctx.w.now (g.K.Known.outcomes l.ctx.known.now)) (arrays (frame_tree l.env) (map (fact (sheet l.ctx.cells.now) l.ctx.w.now) l.places)) (trail_tree l.fn.trail)
-    ≡ behind l.sizes (walk (world (sheet l.ctx.cells.now) l.ctx.w.now (g.K.Known.outcomes l.ctx.known.now)) (arrays (frame_tree l.env) (map (fact (sheet l.ctx.cells.now) l.ctx.w.now) (drop l.a-index l.places))) (trail_tree l.trail));
+      ≡ behind l.sizes (walk (world (sheet l.ctx.cells.now) l.ctx.w.now (g.K.Known.outcomes l.ctx.known.now)) (arrays (frame_tree l.env) (map (fact (sheet l.ctx.cells.now) l.ctx.w.now) (drop l.a-index l.places))) (trail_tree l.trail));
   ordered : AreInOrder (map (λ x. x.0) l.sizes ++ drop l.a-index l.places);
 }
