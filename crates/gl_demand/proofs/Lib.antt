@@ -11,3 +11,4 @@ pub mod Parts
 pub mod Trees
 pub mod Spilling
 pub mod Rows
+pub mod Chains
