@@ -19,3 +19,4 @@ pub mod Granting
 pub mod Visiting
 pub mod Rounds
 pub mod Copying
+pub mod Chains

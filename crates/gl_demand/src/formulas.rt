@@ -11,7 +11,7 @@ ghost use Rattle.gl_demand.specs.Walks.{Walks};
 
 use crate::Known;
 use crate::context::Context;
-use crate::operators::{compared, negated, text};
+use crate::operators::{compared, negated, operated, text};
 use crate::reading::at_address;
 use crate::scope::Scope;
 use crate::spills::spill_of;
@@ -49,7 +49,22 @@ pub fn eval<K: Known>(
         Formula::Spill(a) => spill_of(ctx, ctx.env, *a, trail),
         Formula::Area(_) => Err(Halt::NoMemory),
         Formula::Var(_) => Err(Halt::NoMemory),
-        Formula::Chain(_, _, _) => Err(Halt::NoMemory),
+        Formula::Chain(_, g, rest) => match eval(ctx, scope, g, trail) {
+            Ok(first) => {
+                let mut u = first;
+                for (op, h) in rest {
+                    match eval(ctx, scope, h, trail) {
+                        Ok(v) => match operated(ctx.alloc, *op, &u, &v) {
+                            Ok(x) => u = x,
+                            Err(halt) => return Err(halt),
+                        },
+                        Err(halt) => return Err(halt),
+                    }
+                }
+                Ok(u)
+            }
+            Err(halt) => Err(halt),
+        },
         Formula::Call(_, _) => Err(Halt::NoMemory),
         Formula::Let(_, _, _) => Err(Halt::NoMemory),
     }
