@@ -1,5 +1,5 @@
 -- What picks and runs answer, and the steps that they take.
-use Rattle.std.specs.Prelude.{◌≡◌, ◌≢◌, ℕ, ◌+◌, ◌≤◌, List, length, Option, Some, None, Bool, false, cond, true, IsTrue, IfSome, IsSome}
+use Rattle.std.specs.Prelude.{◌≡◌, ℕ, ◌+◌, ◌≤◌, List, length, Option, Some, None, Bool, false, cond, IsTrue, IfSome, IsSome}
 use Rattle.gl_query.specs.Lists.{Member, AreDistinct}
 use Rattle.gl_query.specs.Query.{Query}
 use Rattle.gl_query.specs.Machine as Machine
@@ -18,7 +18,6 @@ use Rattle.gl_core.specs.declared.quiet.Seen.{Seen}
 use Rattle.gl_core.specs.declared.quiet.Seen.TheVariants.{Known, Loops}
 use Rattle.gl_demand.specs.declared.outcome.Outcome.{Outcome}
 use Rattle.gl_core.specs.declared.status.Status.{Status}
-use Rattle.gl_core.specs.declared.status.Status.TheVariants as Status
 use Rattle.gl_core.specs.State.{State, keys_noted}
 
 abbrev pub picked_tree : Picked → Machine.Picked
