@@ -1,16 +1,16 @@
 -- A run of picks: what each of them keeps, and what the end says.
 use Rattle.std.proofs.Common.{◌≡◌, ℕ, zero, suc, ◌+◌, ◌-◌, ◌<◌, ◌≤◌, ◌^◌, List, [], ◌∷◌, ◌++◌, ◌⊎◌, ◌||◌, Bool, true, false, cond, if◌then◌else◌, Option, Some, None, length, nat_lt, refl, sym, ap, ◌∙◌, subst, arith, inl, inr}
 use Rattle.std.specs.List.{list_any}
-use borrow.Author.Tests.{ltb-true, ltb-false}
+use borrow.Author.Tests.{ltb-false}
 use Rattle.gl_query.specs.Lists.{Member, AreDistinct, MoreThan}
 use Rattle.gl_query.specs.Query.{Query, Found, Ready, Need, found}
 use Rattle.gl_query.specs.Laws.{IsQuiet}
-use Rattle.gl_query.specs.Machine.{Status, Idle, Waiting, Resolved, Entry, Demanded, at, table, change, need_answer, woken, wait, resolve, add_idle, need, turn, idle_keys, keys, nth, picked, pick, IsSound, Picked, turn_answer, answer, left}
-use Rattle.gl_query.specs.Costs.{answer_at, step_at, step_of, total, settled, Counted, counted_keys, unnoted, AreReads, sum_reads, allowed}
+use Rattle.gl_query.specs.Machine.{Status, Idle, Waiting, Resolved, Demanded, at, table, change, need_answer, woken, wait, add_idle, need, turn, idle_keys, keys, nth, picked, pick, Picked, turn_answer, answer, left}
+use Rattle.gl_query.specs.Costs.{answer_at, step_at, total, settled, Counted, counted_keys, unnoted, AreReads, sum_reads, allowed}
 use Rattle.gl_query.proofs.Lookups.{mapped, at-change, nth_member, at-idle}
 use Rattle.gl_query.proofs.Steps.{true_table}
 use Rattle.gl_query.proofs.Quiet.{quiet}
-use Rattle.gl_query.proofs.Counts.{full_demands, full_kept, pick_less}
+use Rattle.gl_query.proofs.Counts.{full_demands, pick_less}
 use Rattle.gl_query.proofs.Credit.{picked_credit, credit_allowed, full_allowed}
 use Rattle.gl_query.proofs.Least.{picked_settled}
 use Rattle.gl_query.proofs.Bound.{allowed_within}

@@ -1,6 +1,6 @@
 -- A pick of a core.
-use Rattle.std.proofs.Common.{◌≡◌, ℕ, ◌<◌, ◌≤◌, List, ◌++◌, Option, Some, None, Result, Ok, Err, OnOk, OnErr, IfOk, length, map, slice_get, refl, sym, ap, ◌∙◌, subst, arith}
-use Rattle.gl_query.specs.Query.{Query, found, IsTrueTable}
+use Rattle.std.proofs.Common.{◌≡◌, ℕ, ◌<◌, List, Some, Result, Ok, Err, OnOk, OnErr, IfOk, length, slice_get, refl, sym, ap, ◌∙◌, subst, arith}
+use Rattle.gl_query.specs.Query.{found, IsTrueTable}
 use Rattle.gl_query.specs.Machine as Machine
 use Rattle.gl_query.specs.Machine.{at, table, idle_keys, nth, picked, pick}
 use Rattle.gl_query.specs.Costs.{answer_at}
@@ -10,7 +10,6 @@ use Rattle.gl_calculus.specs.Limits.{max_demanded}
 use Rattle.gl_calculus.specs.Grid.{Range}
 use Rattle.gl_calculus.specs.Formula.{Version, Cells}
 use Rattle.gl_calculus.specs.Value.{Oracle}
-use Rattle.gl_calculus.specs.Key as K
 use Rattle.gl_calculus.specs.Key.{same_key}
 use Rattle.gl_calculus.specs.Evaluation.{program}
 use Rattle.gl_calculus.specs.Sound.{IsProperKey}
@@ -24,10 +23,10 @@ use Rattle.gl_memo.specs.declared.memo.Noted.{Noted}
 use Rattle.gl_core.specs.Counts.{sum_below}
 use Rattle.gl_core.specs.Statuses.{idle_at}
 use Rattle.gl_core.specs.Held.{Held}
-use Rattle.gl_core.specs.State.{State, state_of, seeds_of, notes_in, note_trees, is_noted, keys_noted, noted_after, AreSoundNotes, IsFor}
+use Rattle.gl_core.specs.State.{seeds_of, note_trees, keys_noted, noted_after, AreSoundNotes, IsFor}
 use Rattle.gl_core.specs.Table.{table_of, IsTable, IsCore}
 use Rattle.gl_core.specs.Noting.{Noting}
-use Rattle.gl_core.specs.Answers.{picked_tree, counted}
+use Rattle.gl_core.specs.Answers.{picked_tree}
 use Rattle.gl_core.specs.declared.answers.Picked.{Picked}
 use Rattle.gl_core.specs.declared.entries.Entries.{Entries}
 use Rattle.gl_core.specs.declared.status.Status.TheVariants.{Idle}

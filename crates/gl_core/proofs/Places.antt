@@ -1,5 +1,5 @@
 -- The state by numbers: look-ups, changes, and the idle keys.
-use Rattle.std.proofs.Common.{◌≡◌, ℕ, zero, suc, ◌+◌, ◌<◌, ◌≤◌, ◌≢◌, nat_eq, nat_lt, Bool, true, false, cond, not, List, [], ◌∷◌, ◌++◌, length, map, set, slice_get, Option, Some, None, refl, sym, ap, ◌∙◌, subst, arith, inl, inr, eqb-true, eq-eqb, Bor, is_some, IfSome, get_or, Result, Ok, Err, OnOk, IfOk, le-ltb, lt-ltb, IsTrue}
+use Rattle.std.proofs.Common.{◌≡◌, ℕ, zero, suc, ◌+◌, ◌<◌, ◌≤◌, ◌≢◌, nat_eq, nat_lt, Bool, true, false, cond, not, List, [], ◌∷◌, ◌++◌, length, map, slice_get, Option, Some, None, refl, sym, ap, ◌∙◌, subst, arith, inl, inr, eqb-true, eq-eqb, Bor, is_some, IfSome, get_or, Result, Ok, Err, OnOk, IfOk, le-ltb, lt-ltb, IsTrue}
 use Rattle.std.proofs.lemmas.Option.{slice_get_past, slice_get-get_or}
 use Rattle.std.specs.Option.{option_copied}
 use borrow.Author.Tests.{ltb-true, ltb-false}

@@ -1,5 +1,5 @@
 -- What picks do to the state by numbers, and what the representation keeps.
-use Rattle.std.proofs.Common.{◌≡◌, ℕ, zero, suc, ◌+◌, ◌<◌, ◌≤◌, ◌≢◌, ◌&&◌, ◌||◌, nat_eq, Bool, true, false, cond, List, [], ◌∷◌, ◌++◌, length, map, set, get_or, slice_get, Option, Some, None, Vec, refl, sym, ap, ◌∙◌, subst, arith, inl, inr, eqb-true, eq-eqb, length-append, IsTrue}
+use Rattle.std.proofs.Common.{◌≡◌, ℕ, zero, suc, ◌<◌, ◌≤◌, ◌≢◌, ◌&&◌, ◌||◌, nat_eq, Bool, true, false, cond, List, [], ◌∷◌, ◌++◌, length, map, set, get_or, slice_get, Option, Some, None, Vec, refl, sym, ap, ◌∙◌, subst, arith, inl, inr, eqb-true, eq-eqb, IsTrue}
 use Rattle.std.proofs.lemmas.List.{length-set}
 use Rattle.std.specs.List.{list_any}
 use Rattle.std.specs.declared.alloc.Global.{Global}
@@ -12,8 +12,8 @@ use Rattle.gl_calculus.proofs.Tests.{key_equality}
 use Rattle.gl_demand.specs.View.{key_tree, outcome_tree}
 use Rattle.gl_demand.specs.declared.key.Key.{Key}
 use Rattle.gl_demand.specs.declared.outcome.Outcome.{Outcome}
-use Rattle.gl_core.specs.Statuses.{AreCounted, is_waiting_for, wake_at, wake_each, has, row_of}
-use Rattle.gl_core.specs.State.{State, entries, state_by, status_tree, waits_for}
+use Rattle.gl_core.specs.Statuses.{AreCounted, is_waiting_for, wake_each, has, row_of}
+use Rattle.gl_core.specs.State.{entries, state_by, status_tree, waits_for}
 use Rattle.gl_query.specs.Query.{Ready}
 use Rattle.gl_calculus.specs.Sound.{is_sound_key}
 use Rattle.gl_demand.specs.Sound.{AreSoundKeys, IsSoundFound}
@@ -22,7 +22,7 @@ use Rattle.gl_core.specs.declared.entries.Entries.{Entries}
 use Rattle.gl_core.specs.declared.status.Status.{Status}
 use Rattle.gl_core.specs.declared.status.Status.TheVariants.{Idle, Waiting, Resolved}
 use Rattle.gl_core.proofs.Trees.{same_or_other}
-use Rattle.gl_core.proofs.Wakes.{get_set_same, get_set_other, get_there, get_within, get_front, get_last, woken_by, woken_each, length-wake_each}
+use Rattle.gl_core.proofs.Wakes.{get_set_same, get_set_other, get_there, get_within, get_front, woken_by, woken_each, length-wake_each}
 use Rattle.gl_core.proofs.Places.{change_entries, same_numbers, entries_more, entries_push}
 
 not_same : (q p : ℕ) → q ≢ p → nat_eq q p ≡ false

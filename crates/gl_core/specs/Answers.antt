@@ -1,5 +1,5 @@
 -- What picks and runs answer, and the steps that they take.
-use Rattle.std.specs.Prelude.{◌≡◌, ◌≢◌, ℕ, ◌+◌, ◌≤◌, List, length, Option, Some, None, Bool, false, cond, true, IsTrue, IfSome, IsSome}
+use Rattle.std.specs.Prelude.{◌≡◌, ℕ, ◌+◌, ◌≤◌, List, length, Option, Some, None, Bool, false, cond, IsTrue, IfSome, IsSome}
 use Rattle.gl_query.specs.Lists.{Member, AreDistinct}
 use Rattle.gl_query.specs.Query.{Query}
 use Rattle.gl_query.specs.Machine as Machine
@@ -8,7 +8,6 @@ use Rattle.gl_calculus.specs.Grid.{Range}
 use Rattle.gl_calculus.specs.Limits.{max_demanded}
 use Rattle.gl_calculus.specs.Key as K
 use Rattle.gl_calculus.specs.Key.{same_key}
-use Rattle.gl_calculus.specs.Memory.{Notes}
 use Rattle.gl_calculus.specs.Sound.{is_sound_outcome, is_outcome_of}
 use Rattle.gl_demand.specs.View.{outcome_tree}
 use Rattle.gl_demand.specs.Steps.{one_more}
@@ -18,8 +17,7 @@ use Rattle.gl_core.specs.declared.quiet.Seen.{Seen}
 use Rattle.gl_core.specs.declared.quiet.Seen.TheVariants.{Known, Loops}
 use Rattle.gl_demand.specs.declared.outcome.Outcome.{Outcome}
 use Rattle.gl_core.specs.declared.status.Status.{Status}
-use Rattle.gl_core.specs.declared.status.Status.TheVariants as Status
-use Rattle.gl_core.specs.State.{State, keys_noted}
+use Rattle.gl_core.specs.State.{State}
 
 abbrev pub picked_tree : Picked → Machine.Picked
 picked_tree Resolved = Machine.Picked.Resolved
@@ -55,13 +53,6 @@ IsSeen Loops s = (j : K.Key) × (s ≡ Some (Machine.Waiting j))
 abbrev pub IsSoundSeen : K.Key → Seen → Type 0
 IsSoundSeen k (Known o) = IsTrue (is_sound_outcome (outcome_tree o.now)) × IsTrue (is_outcome_of k (outcome_tree o.now))
 IsSoundSeen k Loops = Unit {0}
-
--- exactly the notes of the keys that the state has outcomes of, each once
-pub record AreTheNotes (st : State) (notes kept : Notes) : Type 0 where
-  pub distinct : AreDistinct (keys_noted kept)
-  pub among : (n : _) → Member n kept → Member n notes
-  pub resolved : (k : K.Key) → Member k (keys_noted kept) → (o : K.Outcome) × (Machine.at same_key st k ≡ Some (Machine.Resolved o))
-  pub all : (k : K.Key) (o : K.Outcome) → Machine.at same_key st k ≡ Some (Machine.Resolved o) → Member k (keys_noted kept)
 
 abbrev pub IsKnown : Outcome → Seen → Type 0
 IsKnown o (Known x) = x.now ≡ o

@@ -1,7 +1,7 @@
 -- The state of the machine, and the notes, that the values of the code stand for.
-use Rattle.std.specs.Prelude.{◌≡◌, ℕ, ◌≤◌, List, [], ◌∷◌, ◌++◌, map, take, length, slice_get, Option, Some, None, Bool, true, false, cond, IsTrue}
+use Rattle.std.specs.Prelude.{◌≡◌, ℕ, ◌≤◌, List, [], ◌∷◌, ◌++◌, map, take, length, slice_get, Option, Some, None, Bool, true, cond, IsTrue}
 use Rattle.std.specs.List.{list_any}
-use Rattle.gl_query.specs.Lists.{Member, AreDistinct}
+use Rattle.gl_query.specs.Lists.{Member}
 use Rattle.gl_query.specs.Machine as Machine
 use Rattle.gl_query.specs.Remembered.{Note, AreTrue}
 use Rattle.gl_calculus.specs.Grid.{Range}
@@ -14,7 +14,7 @@ use Rattle.gl_calculus.specs.Evaluation.{program}
 use Rattle.gl_calculus.specs.Memory.{Notes}
 use Rattle.gl_calculus.specs.Sound.{is_sound_key, is_sound_outcome, is_outcome_of, IsProperKey}
 use Rattle.gl_demand.specs.View.{key_tree, outcome_tree}
-use Rattle.gl_demand.specs.Sound.{IsSoundTable, AreSoundKeys}
+use Rattle.gl_demand.specs.Sound.{AreSoundKeys}
 use Rattle.gl_demand.specs.declared.key.Key.{Key}
 use Rattle.gl_demand.specs.declared.outcome.Outcome.{Outcome}
 use Rattle.gl_memo.specs.declared.memo.Noted.{Noted}

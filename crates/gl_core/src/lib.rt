@@ -13,7 +13,7 @@ mod statuses;
 
 pub use answers::{CoreFault, Picked};
 pub use machine::Core;
-pub use quiet::{Quiet, Seen, copy_notes};
+pub use quiet::{Quiet, Seen};
 
 /// The most keys that are known at a time.
 pub const MAX_DEMANDED: usize = 500_000;

@@ -1,21 +1,20 @@
 //! The core after a run: nothing is idle.
-ghost use Rattle.std.specs.Prelude.{◌≡◌, length, None, MatchOption, IfOk, IfSome};
+ghost use Rattle.std.specs.Prelude.{◌≡◌, length, None, MatchOption, IfSome};
 ghost use Rattle.std.specs.Option.{option_copied};
 ghost use Rattle.gl_query.specs.Machine.{at};
 ghost use Rattle.gl_calculus.specs.Key.{same_key};
 ghost use Rattle.gl_memo.specs.Notes.{notes_of};
 ghost use Rattle.gl_demand.specs.View.{key_tree};
-ghost use Rattle.gl_core.specs.State.{state_of, notes_in, note_trees, AreSoundNotes};
+ghost use Rattle.gl_core.specs.State.{state_of};
 ghost use Rattle.gl_core.specs.Statuses.{count_idle};
 ghost use Rattle.gl_core.specs.Table.{IsCore};
-ghost use Rattle.gl_core.specs.Answers.{IsSeenStatus, IsSeen, IsSoundSeen, AreTheNotes};
+ghost use Rattle.gl_core.specs.Answers.{IsSeenStatus, IsSeen, IsSoundSeen};
 
 use crate::entries::Entries;
 use crate::status::Status;
 use gl_demand::{Key, Outcome};
 use gl_memo::Memo;
-use gl_plane::{NoMemory, Range};
-use std::alloc::Global;
+use gl_plane::Range;
 use std::marker::Model;
 
 /// What is seen of a demanded key: its outcome, or that it loops.
@@ -94,22 +93,4 @@ impl Quiet {
     {
         self.entries.keys.len() as u64
     }
-
-    /// The notes of the demanded keys that have an outcome, each once, and no others.
-    pub fn into_notes(self, alloc: Global) -> Result<Memo<Key, Outcome, Range>, NoMemory>
-        ensures notes { IfOk result (λ m. AreTheNotes (state_of self) (notes_in self) (note_trees (notes_of m))) }
-        ensures sound { IfOk result (λ m. AreSoundNotes (note_trees (notes_of m))) }
-    {
-        Err(NoMemory)
-    }
-}
-
-/// An equal table of notes.
-pub fn copy_notes(
-    alloc: Global,
-    notes: &Memo<Key, Outcome, Range>,
-) -> Result<Memo<Key, Outcome, Range>, NoMemory>
-    ensures { IfOk result (λ m. note_trees (notes_of m) ≡ note_trees (notes_of notes.now)) }
-{
-    Err(NoMemory)
 }

@@ -1,4 +1,4 @@
-use Rattle.std.proofs.Common.{◌≡◌, Some, map, slice_get, ap, sym, subst, ◌∙◌, IfOk}
+use Rattle.std.proofs.Common.{◌≡◌, Some, map, sym, subst, ◌∙◌}
 use Rattle.gl_query.specs.Machine.{table}
 use Rattle.gl_calculus.specs.Key.{same_key}
 use Rattle.gl_calculus.specs.Evaluation.{program}

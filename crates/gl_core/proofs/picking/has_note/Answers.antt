@@ -1,4 +1,4 @@
-use Rattle.std.proofs.Common.{◌≡◌, Some, ap, sym, ◌∙◌, is_some, slice_get}
+use Rattle.std.proofs.Common.{◌≡◌, Some, ap, ◌∙◌, is_some}
 use Rattle.gl_demand.specs.View.{key_tree}
 use Rattle.gl_demand.specs.declared.key.Key.{Key}
 use Rattle.gl_memo.specs.Notes.{notes_of}

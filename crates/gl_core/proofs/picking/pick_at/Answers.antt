@@ -1,9 +1,7 @@
-use Rattle.std.proofs.Common.{◌≡◌, sym, ◌∙◌, true}
+use Rattle.std.proofs.Common.{sym, ◌∙◌}
 use Rattle.gl_calculus.specs.Evaluation.{program}
 use Rattle.gl_ast.specs.View.{version_tree}
 use Rattle.gl_cells.specs.Sheet.{sheet}
-use Rattle.gl_memo.specs.Notes.{notes_of}
-use Rattle.gl_core.specs.State.{note_trees}
 use Rattle.gl_core.specs.Noting.{by_note}
 use Rattle.gl_core.proofs.Places.{on_ok, if_ok}
 use Rattle.gl_core.proofs.picking.pick_at.Goals as goal

@@ -1,4 +1,4 @@
-use Rattle.std.proofs.Common.{◌≡◌, List, Some, map, ap, sym, subst, ◌∙◌}
+use Rattle.std.proofs.Common.{List, map, ap, sym, subst, ◌∙◌}
 use Rattle.gl_query.specs.Query.{Ready, found}
 use Rattle.gl_query.specs.Reads.{first_without, end_by_note}
 use Rattle.gl_query.specs.Machine as Machine

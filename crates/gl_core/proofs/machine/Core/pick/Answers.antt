@@ -1,4 +1,4 @@
-use Rattle.std.proofs.Common.{rules, ◌≡◌, ◌<◌, ◌≤◌, ◌^◌, length, Some, slice_get, ap, sym, subst, arith, ◌∙◌, OnOk, IfOk}
+use Rattle.std.proofs.Common.{rules, ◌≡◌, ◌<◌, ◌^◌, length, ap, sym, subst, arith, ◌∙◌}
 use Rattle.gl_query.specs.Machine.{idle_keys, nth, pick}
 use Rattle.gl_query.specs.Costs.{answer_at}
 use Rattle.gl_calculus.specs.Limits.{max_demanded}
@@ -8,7 +8,7 @@ use Rattle.gl_ast.specs.View.{version_tree}
 use Rattle.gl_cells.specs.Sheet.{sheet}
 use Rattle.gl_memo.specs.Notes.{notes_of}
 use Rattle.gl_core.specs.Held.{Held}
-use Rattle.gl_core.specs.State.{state_of, seeds_of, notes_in, is_noted, keys_noted, noted_after, IsFor}
+use Rattle.gl_core.specs.State.{state_of, seeds_of, notes_in, is_noted, noted_after, IsFor}
 use Rattle.gl_core.specs.Statuses.{count_idle}
 use Rattle.gl_core.specs.Answers.{picked_tree, counted}
 use Rattle.gl_core.proofs.Wakes.{get_there}

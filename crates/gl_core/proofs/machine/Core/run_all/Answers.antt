@@ -1,8 +1,5 @@
-use Rattle.std.proofs.Common.{◌≡◌, ◌<◌, length, ap, sym, subst, ◌∙◌}
-use Rattle.gl_query.specs.Machine.{idle_keys, nth, left}
+use Rattle.std.proofs.Common.{◌<◌, sym, subst, ◌∙◌}
 use Rattle.gl_query.specs.Laws.{IsQuiet}
-use Rattle.gl_query.specs.Costs.{answer_at}
-use Rattle.gl_calculus.specs.Limits.{max_demanded}
 use Rattle.gl_calculus.specs.Key.{same_key}
 use Rattle.gl_calculus.specs.Evaluation.{program}
 use Rattle.gl_ast.specs.View.{version_tree}

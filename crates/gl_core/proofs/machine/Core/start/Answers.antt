@@ -1,8 +1,6 @@
-use Rattle.std.proofs.Common.{◌≡◌, ◌≤◌, length, map, ap, sym, ◌∙◌, arith}
-use Rattle.gl_query.specs.Machine as Machine
+use Rattle.std.proofs.Common.{◌≡◌, length, map, ap, sym, ◌∙◌, arith}
 use Rattle.gl_ast.specs.View.{version_tree}
 use Rattle.gl_cells.specs.Sheet.{sheet}
-use Rattle.gl_calculus.specs.Limits.{max_demanded}
 use Rattle.gl_memo.specs.Notes.{notes_of}
 use Rattle.gl_demand.specs.View.{key_tree}
 use Rattle.gl_core.specs.State.{state_of, first_keys}
