@@ -12,3 +12,4 @@ pub mod Trees
 pub mod Spilling
 pub mod Rows
 pub mod Chains
+pub mod Bindings

@@ -16,6 +16,7 @@ mod operators;
 mod outcome;
 mod reading;
 mod scope;
+mod scoping;
 mod spills;
 mod stepping;
 mod steps;
