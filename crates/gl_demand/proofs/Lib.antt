@@ -20,3 +20,4 @@ pub mod Visiting
 pub mod Rounds
 pub mod Copying
 pub mod Chains
+pub mod Bindings

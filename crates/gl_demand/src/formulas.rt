@@ -14,6 +14,7 @@ use crate::context::Context;
 use crate::operators::{compared, negated, operated, text};
 use crate::reading::at_address;
 use crate::scope::Scope;
+use crate::scoping::{bind, bound};
 use crate::spills::spill_of;
 use crate::trail::{Halt, Trail};
 use gl_ast::Formula;
@@ -48,7 +49,7 @@ pub fn eval<K: Known>(
         },
         Formula::Spill(a) => spill_of(ctx, ctx.env, *a, trail),
         Formula::Area(_) => Err(Halt::NoMemory),
-        Formula::Var(_) => Err(Halt::NoMemory),
+        Formula::Var(name) => bound(scope, name),
         Formula::Chain(_, g, rest) => match eval(ctx, scope, g, trail) {
             Ok(first) => {
                 let mut u = first;
@@ -66,6 +67,12 @@ pub fn eval<K: Known>(
             Err(halt) => Err(halt),
         },
         Formula::Call(_, _) => Err(Halt::NoMemory),
-        Formula::Let(_, _, _) => Err(Halt::NoMemory),
+        Formula::Let(name, g, body) => match eval(ctx, scope, g, trail) {
+            Ok(v) => match bind(ctx.alloc, scope, name, v) {
+                Ok(inner) => eval(ctx, &inner, body, trail),
+                Err(halt) => Err(halt),
+            },
+            Err(halt) => Err(halt),
+        },
     }
 }

@@ -17,6 +17,7 @@ mod outcome;
 mod places;
 mod reading;
 mod scope;
+mod scoping;
 mod settle;
 mod spills;
 mod stepping;

@@ -12,9 +12,10 @@ use Rattle.gl_demand.specs.Scope.{bindings_of}
 use Rattle.gl_demand.specs.Walk.{world, walk}
 use Rattle.gl_demand.specs.Walks.{Walks, trail_tree}
 use Rattle.gl_demand.proofs.References.{gives}
-use Rattle.gl_demand.proofs.Parts.{one_given, one_halts, two_given, two_halts}
+use Rattle.gl_demand.proofs.Parts.{one_then, one_given, one_halts, two_given, two_halts}
 use Rattle.gl_demand.proofs.Trees.{text_is, at_is, spill_is, neg_is, compare_is}
 use Rattle.std.proofs.lemmas.List.{drop_more}
+use Rattle.gl_demand.proofs.Bindings.{var_is, let_is}
 use Rattle.gl_demand.proofs.Chains.{chain_is, chain_start, chain_next, chain_halts, chain_end}
 use Rattle.gl_demand.proofs.formulas.+eval.Goals as goal
 
@@ -97,3 +98,22 @@ returns-in-Chain-clause-walk g t c =
     let w = world (sheet c.args.ctx.now.cells.now) c.args.ctx.now.w.now (g.K.Known.outcomes c.args.ctx.now.known.now) in
     one_halts w (E.eval (version_tree c.args.ctx.now.version) (frame_tree c.args.ctx.now.env.now) (bindings_of c.args.scope.now.bindings.items) (formula_tree c.args.f.now)) (E.eval (version_tree c.args.ctx.now.version) (frame_tree c.args.ctx.now.env.now) (bindings_of c.args.scope.now.bindings.items) (formula_tree c.deref-in-Chain.result.now)) (λ u. E.eval_rest (version_tree c.args.ctx.now.version) (frame_tree c.args.ctx.now.env.now) (bindings_of c.args.scope.now.bindings.items) u (operand_trees c.in-Chain.rest.items)) value_tree value_tree c.args.trail.now c.eval-in-Chain.new.trail c.in-Err-eval-3.halt
     (chain_is w (version_tree c.args.ctx.now.version) (frame_tree c.args.ctx.now.env.now) (bindings_of c.args.scope.now.bindings.items) c.args.f.now c.in-Chain.field-0 c.in-Chain.g c.in-Chain.rest c.deref-in-Chain.result.now c.in-Chain.is c.deref-in-Chain.ensures) c.in-Err-eval-3.ensures.walk
+
+pub returns-in-Var-clause-walk : goal.returns-in-Var-clause-walk
+returns-in-Var-clause-walk g t c =
+    let w = world (sheet c.args.ctx.now.cells.now) c.args.ctx.now.w.now (g.K.Known.outcomes c.args.ctx.now.known.now) in
+    subst (λ p. Walks w p value_tree c.args.trail.now c.bound.result c.args.trail.now) (sym (var_is (version_tree c.args.ctx.now.version) (frame_tree c.args.ctx.now.env.now) (bindings_of c.args.scope.now.bindings.items) c.args.f.now c.in-Var.name c.in-Var.is))
+    (gives w (E.bound (bindings_of c.args.scope.now.bindings.items) (rc_str_bytes c.in-Var.name)) value_tree c.args.trail.now c.bound.result c.bound.ensures.value c.bound.ensures.err)
+
+pub returns-in-Ok-bind-clause-walk : goal.returns-in-Ok-bind-clause-walk
+returns-in-Ok-bind-clause-walk g t c =
+    let w = world (sheet c.args.ctx.now.cells.now) c.args.ctx.now.w.now (g.K.Known.outcomes c.args.ctx.now.known.now) in
+    one_then w (E.eval (version_tree c.args.ctx.now.version) (frame_tree c.args.ctx.now.env.now) (bindings_of c.args.scope.now.bindings.items) (formula_tree c.args.f.now)) (E.eval (version_tree c.args.ctx.now.version) (frame_tree c.args.ctx.now.env.now) (bindings_of c.args.scope.now.bindings.items) (formula_tree c.deref-in-Let.result.now)) (λ u. E.eval (version_tree c.args.ctx.now.version) (frame_tree c.args.ctx.now.env.now) ((rc_str_bytes c.in-Let.name, u) ∷ bindings_of c.args.scope.now.bindings.items) (formula_tree c.deref-in-Ok-bind.result.now)) value_tree value_tree c.args.trail.now c.eval-in-Let.new.trail c.eval-in-Ok-bind.new.trail c.in-Ok-eval-5.v c.eval-in-Ok-bind.result
+    (let_is (version_tree c.args.ctx.now.version) (frame_tree c.args.ctx.now.env.now) (bindings_of c.args.scope.now.bindings.items) c.args.f.now c.in-Let.name c.in-Let.g c.in-Let.body c.deref-in-Let.result.now c.deref-in-Ok-bind.result.now c.in-Let.is c.deref-in-Let.ensures c.deref-in-Ok-bind.ensures) c.in-Ok-eval-5.ensures.walk
+    (subst (λ l. Walks w (E.eval (version_tree c.args.ctx.now.version) (frame_tree c.args.ctx.now.env.now) l (formula_tree c.deref-in-Ok-bind.result.now)) value_tree c.eval-in-Let.new.trail c.eval-in-Ok-bind.result c.eval-in-Ok-bind.new.trail) c.in-Ok-bind.ensures.value c.eval-in-Ok-bind.ensures.walk)
+
+pub returns-clause-walk : goal.returns-clause-walk
+returns-clause-walk g t c =
+    let w = world (sheet c.args.ctx.now.cells.now) c.args.ctx.now.w.now (g.K.Known.outcomes c.args.ctx.now.known.now) in
+    one_halts w (E.eval (version_tree c.args.ctx.now.version) (frame_tree c.args.ctx.now.env.now) (bindings_of c.args.scope.now.bindings.items) (formula_tree c.args.f.now)) (E.eval (version_tree c.args.ctx.now.version) (frame_tree c.args.ctx.now.env.now) (bindings_of c.args.scope.now.bindings.items) (formula_tree c.deref-in-Let.result.now)) (λ u. E.eval (version_tree c.args.ctx.now.version) (frame_tree c.args.ctx.now.env.now) ((rc_str_bytes c.in-Let.name, u) ∷ bindings_of c.args.scope.now.bindings.items) (formula_tree c.in-Let.body.value)) value_tree value_tree c.args.trail.now c.eval-in-Let.new.trail c.in-Err-eval-5.halt
+    (let_is (version_tree c.args.ctx.now.version) (frame_tree c.args.ctx.now.env.now) (bindings_of c.args.scope.now.bindings.items) c.args.f.now c.in-Let.name c.in-Let.g c.in-Let.body c.deref-in-Let.result.now c.in-Let.body.value c.in-Let.is c.deref-in-Let.ensures refl) c.in-Err-eval-5.ensures.walk
