@@ -5,6 +5,7 @@ pub mod Wakes
 pub mod Places
 pub mod Tables
 pub mod Notes
+pub mod Copied
 pub mod Runs
 pub mod Picks
 pub mod Seeing

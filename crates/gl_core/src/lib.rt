@@ -2,6 +2,7 @@
 #![tactic(auto)]
 
 mod answers;
+mod copies;
 mod counts;
 mod entries;
 mod machine;
@@ -12,6 +13,7 @@ mod status;
 mod statuses;
 
 pub use answers::{CoreFault, Picked};
+pub use copies::copy_notes;
 pub use machine::Core;
 pub use quiet::{Quiet, Seen};
 
