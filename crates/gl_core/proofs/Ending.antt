@@ -1,0 +1,326 @@
+-- A run of picks: what each of them keeps, and what the end says.
+use Rattle.std.proofs.Common.{◌≡◌, ℕ, zero, suc, ◌+◌, ◌-◌, ◌<◌, ◌≤◌, ◌^◌, List, [], ◌∷◌, ◌++◌, ◌⊎◌, ◌||◌, Bool, true, false, cond, if◌then◌else◌, Option, Some, None, length, nat_lt, refl, sym, ap, ◌∙◌, subst, arith, inl, inr}
+use Rattle.std.specs.List.{list_any}
+use borrow.Author.Tests.{ltb-false}
+use Rattle.gl_query.specs.Lists.{Member, AreDistinct, MoreThan}
+use Rattle.gl_query.specs.Query.{Query, Found, Ready, Need, found}
+use Rattle.gl_query.specs.Laws.{IsQuiet}
+use Rattle.gl_query.specs.Machine.{Status, Idle, Waiting, Resolved, Demanded, at, table, change, need_answer, woken, wait, add_idle, need, turn, idle_keys, keys, nth, picked, pick, Picked, turn_answer, answer, left}
+use Rattle.gl_query.specs.Costs.{answer_at, step_at, total, settled, Counted, counted_keys, unnoted, AreReads, sum_reads, allowed}
+use Rattle.gl_query.proofs.Lookups.{mapped, at-change, nth_member, at-idle}
+use Rattle.gl_query.proofs.Steps.{true_table}
+use Rattle.gl_query.proofs.Quiet.{quiet}
+use Rattle.gl_query.proofs.Counts.{full_demands, pick_less}
+use Rattle.gl_query.proofs.Credit.{picked_credit, credit_allowed, full_allowed}
+use Rattle.gl_query.proofs.Least.{picked_settled}
+use Rattle.gl_query.proofs.Bound.{allowed_within}
+use Rattle.gl_query.proofs.Tables.{quiet_counted}
+use Rattle.gl_query.proofs.Proved.{no_idle}
+use Rattle.gl_calculus.specs.Limits.{max_demanded}
+use Rattle.gl_calculus.specs.Grid.{Range}
+use Rattle.gl_calculus.specs.Formula.{Version, Cells}
+use Rattle.gl_calculus.specs.Value.{Oracle}
+use Rattle.gl_calculus.specs.Key as K
+use Rattle.gl_calculus.specs.Key.{same_key}
+use Rattle.gl_calculus.specs.Evaluation.{program}
+use Rattle.gl_calculus.specs.Memory.{Notes}
+use Rattle.gl_calculus.proofs.Tests.{key_equality}
+use Rattle.gl_demand.specs.Steps.{one_more}
+use Rattle.gl_core.specs.Held.{Held}
+use Rattle.gl_core.specs.State.{State, state_of, seeds_of, notes_in, is_noted, keys_noted, newly_noted, noted_after, IsFor}
+use Rattle.gl_core.specs.Answers.{counted, AllowsDemanded, AllowsKnown}
+use Rattle.gl_core.proofs.Seeing.{none_of}
+
+-- a run of picks from one core to another, with the count of steps
+pub record IsRun (version : Version) (S : Cells) (w : Oracle) (first now : Held) (n m : ℕ) : Type 0 where
+  pub for_it : IsFor version S w now
+  pub seeds : seeds_of now ≡ seeds_of first
+  pub stay : (k : K.Key) → is_noted (notes_in first) k ≡ true → is_noted (notes_in now) k ≡ true
+  pub before : (k : K.Key) → is_noted (notes_in now) k ≡ true → (is_noted (notes_in first) k ≡ true) ⊎ ((o : K.Outcome) × (at same_key (state_of now) k ≡ Some (Resolved o)))
+  pub most : m ≤ n + total same_key (program version S w) (is_noted (notes_in first)) (state_of now)
+  pub least : m < 2 ^ 64 - 1 → n + settled (is_noted (notes_in first)) (state_of now) ≤ m + settled (is_noted (notes_in first)) (state_of first)
+
+pub run_begun : (version : Version) (S : Cells) (w : Oracle) (c : Held) (n : ℕ) → IsFor version S w c → IsRun version S w c c n n
+run_begun version S w c n h = record { for_it = h; seeds = refl; stay = λ k e. e; before = λ k e. inl e; most = omega arith; least = λ l. omega arith }
+
+-- ---- notes by their keys
+
+noted_by_keys : (ns : Notes) (k : K.Key) → is_noted ns k ≡ list_any (same_key k) (keys_noted ns)
+noted_by_keys [] k = refl
+noted_by_keys (n ∷ ns) k = ap (λ b. same_key k n.key || b) (noted_by_keys ns k)
+
+any_append : (test : K.Key → Bool) (xs ys : List K.Key) → list_any test (xs ++ ys) ≡ (list_any test xs || list_any test ys)
+any_append test [] ys = refl
+any_append test (x ∷ xs) ys = ap (λ b. test x || b) (any_append test xs ys) ∙ by (test x)
+  where
+    by : (b : Bool) → (b || (list_any test xs || list_any test ys)) ≡ ((b || list_any test xs) || list_any test ys)
+    by true = refl
+    by false = refl
+
+or_left : (a b : Bool) → a ≡ true → (a || b) ≡ true
+or_left true b e = refl
+or_left false b e = absurd (cc e)
+
+or_cases : (a b : Bool) {P : Type 0} → (a || b) ≡ true → (a ≡ true → P) → (b ≡ true → P) → P
+or_cases true b e f g = f refl
+or_cases false b e f g = g e
+
+new_one : (ns : Notes) (k j : K.Key) (a : Picked) → list_any (same_key j) (newly_noted ns k a) ≡ true → (j ≡ k) × (a ≡ Picked.Resolved)
+new_one ns k j Picked.Waits e = absurd (cc e)
+new_one ns k j Picked.Full e = absurd (cc e)
+new_one ns k j Picked.Resolved e = by (is_noted ns k) e
+  where
+    one : (b : Bool) → same_key j k ≡ b → (b || false) ≡ true → j ≡ k
+    one true t d = key_equality.0 _ _ t
+    one false t d = absurd (cc d)
+
+    by : (b : Bool) → list_any (same_key j) (cond b [] (k ∷ [])) ≡ true → (j ≡ k) × (Picked.Resolved ≡ Picked.Resolved)
+    by true d = absurd (cc d)
+    by false d = (one (same_key j k) refl d, refl)
+
+module _ (old new : Notes) (k : K.Key) (a : Picked) (e : keys_noted new ≡ noted_after old (Some k) a) where
+  split : (j : K.Key) → is_noted new j ≡ (is_noted old j || list_any (same_key j) (newly_noted old k a))
+  split j = noted_by_keys new j ∙ ap (list_any (same_key j)) e ∙ any_append (same_key j) (keys_noted old) (newly_noted old k a) ∙ ap (λ b. b || list_any (same_key j) (newly_noted old k a)) (sym (noted_by_keys old j))
+
+  kept_noted : (j : K.Key) → is_noted old j ≡ true → is_noted new j ≡ true
+  kept_noted j d = split j ∙ or_left (is_noted old j) (list_any (same_key j) (newly_noted old k a)) d
+
+  noted_from : (j : K.Key) {P : Type 0} → is_noted new j ≡ true → (is_noted old j ≡ true → P) → ((j ≡ k) → (a ≡ Picked.Resolved) → P) → P
+  noted_from j d f g = or_cases (is_noted old j) (list_any (same_key j) (newly_noted old k a)) (sym (split j) ∙ d) f (λ x. let (s, t) = new_one old k j a x in g s t)
+
+-- ---- resolved keys stay resolved
+
+changed_stays : (g : K.Key → Status K.Key K.Outcome → Status K.Key K.Outcome) (st : State) (j : K.Key) (o : K.Outcome) → g j (Resolved o) ≡ Resolved o → at same_key st j ≡ Some (Resolved o) → at same_key (change g st) j ≡ Some (Resolved o)
+changed_stays g st j o e d = at-change same_key key_equality g st j ∙ ap (mapped (g j)) d ∙ ap Some e
+
+added_stays : (st : State) (i j : K.Key) (o : K.Outcome) → at same_key st j ≡ Some (Resolved o) → at same_key (add_idle i st) j ≡ Some (Resolved o)
+added_stays [] i j o e = absurd (cc e)
+added_stays (x ∷ st) i j o e = by (same_key j x.key) e (added_stays st i j o)
+  where
+    by : (b : Bool) → cond b (Some x.status) (at same_key st j) ≡ Some (Resolved o) → (at same_key st j ≡ Some (Resolved o) → at same_key (add_idle i st) j ≡ Some (Resolved o)) → cond b (Some x.status) (at same_key (add_idle i st) j) ≡ Some (Resolved o)
+    by true d r = d
+    by false d r = r d
+
+module _ (st : State) (k : K.Key) (idle : at same_key st k ≡ Some Idle) where
+  unlike : (j : K.Key) (o : K.Outcome) → at same_key st j ≡ Some (Resolved o) → same_key j k ≡ false
+  unlike j o e = by (same_key j k) refl
+    where
+      by : (b : Bool) → same_key j k ≡ b → b ≡ false
+      by true t = let s : j ≡ k = key_equality.0 _ _ t in let no : Some (Resolved o) ≡ Some Idle = sym e ∙ ap (at same_key st) s ∙ idle in absurd (cc no)
+      by false t = refl
+
+  turn_stays : (limit : ℕ) (e : Found K.Key K.Outcome) (j : K.Key) (o : K.Outcome) → at same_key st j ≡ Some (Resolved o) → at same_key (turn same_key limit st k e) j ≡ Some (Resolved o)
+  turn_stays limit (Ready x) j o d = changed_stays (λ y s. cond (same_key y k) (Resolved x) (woken same_key k s)) st j o (ap (λ b. cond b (Resolved x) (Resolved o)) (unlike j o d)) d
+  turn_stays limit (Need i) j o d = by (at same_key st i)
+    where
+      by : (v : Option (Status K.Key K.Outcome)) → at same_key (need same_key limit st k i v) j ≡ Some (Resolved o)
+      by (Some s) = changed_stays (λ y s. cond (same_key y k) (Waiting i) s) st j o (ap (λ b. cond b (Waiting i) (Resolved o)) (unlike j o d)) d
+      by None = room (nat_lt (length st) limit)
+        where
+          room : (b : Bool) → at same_key (cond b (wait same_key k i (add_idle i st)) st) j ≡ Some (Resolved o)
+          room true = changed_stays (λ y s. cond (same_key y k) (Waiting i) s) (add_idle i st) j o (ap (λ b. cond b (Waiting i) (Resolved o)) (unlike j o d)) (added_stays st i j o d)
+          room false = d
+
+  -- the key that was picked is resolved, where the answer says so
+  turn_resolves : (limit : ℕ) (e : Found K.Key K.Outcome) → turn_answer same_key limit st e ≡ Picked.Resolved → (o : K.Outcome) × (at same_key (turn same_key limit st k e) k ≡ Some (Resolved o))
+  turn_resolves limit (Ready x) d = (x, at-change same_key key_equality (λ y s. cond (same_key y k) (Resolved x) (woken same_key k s)) st k ∙ ap (mapped (λ s. cond (same_key k k) (Resolved x) (woken same_key k s))) idle ∙ ap (λ b. Some (cond b (Resolved x) Idle)) (key_equality.1 k))
+  turn_resolves limit (Need i) d = absurd (no (at same_key st i) d)
+    where
+      room : (b : Bool) → cond b Picked.Waits Picked.Full ≡ Picked.Resolved → ⊥
+      room true e = cc e
+      room false e = cc e
+
+      no : (v : Option (Status K.Key K.Outcome)) → need_answer limit st v ≡ Picked.Resolved → ⊥
+      no (Some s) e = cc e
+      no None e = room (nat_lt (length st) limit) e
+
+-- ---- counting
+
+counts_up : (n : ℕ) → one_more n ≤ n + 1
+counts_up n = by (nat_lt n 18446744073709551615)
+  where
+    by : (b : Bool) → (if b then n + 1 else n) ≤ n + 1
+    by true = omega arith
+    by false = omega arith
+
+counts_one : (n : ℕ) → one_more n < 2 ^ 64 - 1 → (one_more n ≡ n + 1) × (n < 2 ^ 64 - 1)
+counts_one n h = by (nat_lt n 18446744073709551615) refl h
+  where
+    by : (b : Bool) → nat_lt n 18446744073709551615 ≡ b → (if b then n + 1 else n) < 2 ^ 64 - 1 → ((if b then n + 1 else n) ≡ n + 1) × (n < 2 ^ 64 - 1)
+    by true e h = (refl, omega arith)
+    by false e h = let a = ltb-false _ _ e in absurd (omega arith)
+
+counted_most : (b : Bool) (n : ℕ) → cond b n (one_more n) ≤ n + cond b 0 1
+counted_most true n = omega arith
+counted_most false n = counts_up n
+
+counted_least : (b : Bool) (n : ℕ) → cond b n (one_more n) < 2 ^ 64 - 1 → (cond b n (one_more n) ≡ n + cond b 0 1) × (n < 2 ^ 64 - 1)
+counted_least true n h = (omega arith, h)
+counted_least false n h = counts_one n h
+
+same_bools : (a b : Bool) → (a ≡ true → b ≡ true) → (b ≡ true → a ≡ true) → a ≡ b
+same_bools true b f g = sym (f refl)
+same_bools false true f g = g refl
+same_bools false false f g = refl
+
+nth_there : {X : Type 0} (xs : List X) (i : ℕ) → i < length xs → (x : X) × (nth xs i ≡ Some x)
+nth_there [] i l = absurd (omega arith)
+nth_there (x ∷ xs) zero l = (x, refl)
+nth_there (x ∷ xs) (suc i) l = nth_there xs i (omega arith)
+
+module _ (version : Version) (S : Cells) (w : Oracle) (first c : Held) (n m : ℕ) (h : IsRun version S w first c n m) (i : ℕ) (l : i < length (idle_keys (state_of c))) where
+  P : K.Key → Query K.Key K.Outcome Range K.Outcome
+  P = program version S w
+
+  N : K.Key → Bool
+  N = is_noted (notes_in first)
+
+  the_key : (k : K.Key) × (nth (idle_keys (state_of c)) i ≡ Some k)
+  the_key = nth_there (idle_keys (state_of c)) i l
+
+  idle_there : (k : K.Key) → nth (idle_keys (state_of c)) i ≡ Some k → at same_key (state_of c) k ≡ Some Idle
+  idle_there k e = at-idle same_key key_equality (state_of c) k h.for_it.sound.apart (nth_member (idle_keys (state_of c)) i k e)
+
+  -- an idle key has a note where it had one at first
+  same_noted : (k : K.Key) → at same_key (state_of c) k ≡ Some Idle → is_noted (notes_in c) k ≡ is_noted (notes_in first) k
+  same_noted k idle = same_bools (is_noted (notes_in c) k) (is_noted (notes_in first) k) (λ e. elim (h.before k e) [ inl x ↦ x | inr (o, d) ↦ let no : Some Idle ≡ Some (Resolved o) = sym idle ∙ d in absurd (cc no) ]) (h.stay k)
+
+  steps_now : (k : K.Key) → nth (idle_keys (state_of c)) i ≡ Some k → counted (is_noted (notes_in c)) (nth (idle_keys (state_of c)) i) m ≡ cond (is_noted (notes_in first) k) m (one_more m)
+  steps_now k e = ap (λ v. counted (is_noted (notes_in c)) v m) e ∙ ap (λ b. cond b m (one_more m)) (same_noted k (idle_there k e))
+
+  pub run_goes : (c' : Held) (m' : ℕ) (a : Picked) → state_of c' ≡ pick same_key max_demanded (program version S w) (state_of c) i → a ≡ answer_at same_key max_demanded (program version S w) (state_of c) (nth (idle_keys (state_of c)) i) → (a ≡ Picked.Full → ⊥) →
+      keys_noted (notes_in c') ≡ noted_after (notes_in c) (nth (idle_keys (state_of c)) i) a → IsFor version S w c' → seeds_of c' ≡ seeds_of c → m' ≡ counted (is_noted (notes_in c)) (nth (idle_keys (state_of c)) i) m → IsRun version S w first c' n m'
+  run_goes c' m' a state answered not_full notes for' seeds' count =
+      let (k, ek) = the_key in
+      let st = state_of c in
+      let p = program version S w in
+      let noted = is_noted (notes_in first) in
+      let idle = idle_there k ek in
+      let e = found (table same_key st) (p k) in
+      let turned : state_of c' ≡ turn same_key max_demanded st k e = state ∙ ap (picked same_key max_demanded p st) ek in
+      let answer_is : a ≡ turn_answer same_key max_demanded st e = answered ∙ ap (answer_at same_key max_demanded p st) ek in
+      let notes' : keys_noted (notes_in c') ≡ noted_after (notes_in c) (Some k) a = notes ∙ ap (λ v. noted_after (notes_in c) v a) ek in
+      let steps' : m' ≡ cond (noted k) m (one_more m) = count ∙ steps_now k ek in
+      let credit = picked_credit same_key key_equality max_demanded p (seeds_of c) noted st i h.for_it.sound (nth (idle_keys st) i) refl (λ f. not_full (answered ∙ f)) in
+      let credit' : total same_key p noted st + cond (noted k) 0 1 ≤ total same_key p noted (state_of c') =
+      subst (λ t. total same_key p noted st + cond (noted k) 0 1 ≤ total same_key p noted t) (sym state) (subst (λ v. total same_key p noted st + step_at noted v ≤ total same_key p noted (pick same_key max_demanded p st i)) ek credit) in
+      let less = picked_settled same_key key_equality max_demanded p (seeds_of c) noted st h.for_it.sound.apart (nth (idle_keys st) i) in
+      let less' : settled noted (state_of c') ≤ settled noted st + cond (noted k) 0 1 =
+      subst (λ t. settled noted t ≤ settled noted st + cond (noted k) 0 1) (sym state) (subst (λ v. settled noted (pick same_key max_demanded p st i) ≤ settled noted st + step_at noted v) ek less) in
+      let up = counted_most (noted k) m in
+      record {
+        for_it = for';
+        seeds = seeds' ∙ h.seeds;
+        stay = λ j d. kept_noted (notes_in c) (notes_in c') k a notes' j (h.stay j d);
+        before = λ j d. noted_from (notes_in c) (notes_in c') k a notes' j d
+            (λ x. elim (h.before j x) [
+              | inl y ↦ inl y
+              | inr (o, y) ↦ inr (o, ap (λ t. at same_key t j) turned ∙ turn_stays st k idle max_demanded e j o y)
+            ])
+            (λ s t. let (o, r) = turn_resolves st k idle max_demanded e (sym answer_is ∙ t) in inr (o, ap (at same_key (state_of c')) s ∙ ap (λ x. at same_key x k) turned ∙ r));
+        most = omega (arith, h.most, credit', up, steps');
+        least = λ b.
+            let (u, v) = counted_least (noted k) m (subst (λ x. x < 2 ^ 64 - 1) steps' b) in
+            let y = h.least v in
+            omega (arith, u, y, less', steps');
+      }
+
+  -- a pick that isn't Full leaves less to do
+  pub run_ends : (c' : Held) (a : Picked) → state_of c' ≡ pick same_key max_demanded (program version S w) (state_of c) i → a ≡ answer_at same_key max_demanded (program version S w) (state_of c) (nth (idle_keys (state_of c)) i) → (a ≡ Picked.Full → ⊥) → left max_demanded (state_of c') < left max_demanded (state_of c)
+  run_ends c' a state answered not_full =
+      let (k, ek) = the_key in
+      let st = state_of c in
+      let p = program version S w in
+      let n' : answer same_key max_demanded p st k ≡ Picked.Full → ⊥ = λ f. not_full (answered ∙ ap (answer_at same_key max_demanded p st) ek ∙ f) in
+      subst (λ t. left max_demanded t < left max_demanded st) (sym (state ∙ ap (picked same_key max_demanded p st) ek)) (pick_less same_key key_equality max_demanded p (seeds_of c) st k h.for_it.sound h.for_it.within (idle_there k ek) n')
+
+  module _ (full : Picked.Full ≡ answer_at same_key max_demanded (program version S w) (state_of c) (nth (idle_keys (state_of c)) i)) where
+    full_key : (k : K.Key) → nth (idle_keys (state_of c)) i ≡ Some k → answer same_key max_demanded (program version S w) (state_of c) k ≡ Picked.Full
+    full_key k ek = sym (full ∙ ap (answer_at same_key max_demanded (program version S w) (state_of c)) ek)
+
+    -- a Full pick shows that too many keys are demanded
+    pub run_full : MoreThan max_demanded (Demanded (program version S w) (seeds_of first))
+    run_full =
+        let (k, ek) = the_key in
+        let (xs, s, d, each) = full_demands same_key key_equality max_demanded (program version S w) (seeds_of c) (state_of c) k h.for_it.sound h.for_it.within (idle_there k ek) (full_key k ek) in
+        (xs, omega arith, d, λ x m. subst (λ t. Demanded (program version S w) t x) h.seeds (each x m))
+
+-- ---- the end
+
+known_key : (st : State) (k : K.Key) → Member k (keys st) → (s : Status K.Key K.Outcome) × (at same_key st k ≡ Some s)
+known_key [] k m = absurd m
+known_key (x ∷ st) k (inl e) = (x.status, ap (λ b. cond b (Some x.status) (at same_key st k)) (ap (same_key k) (sym e) ∙ key_equality.1 k))
+known_key (x ∷ st) k (inr m) = by (same_key k x.key) (known_key st k m)
+  where
+    by : (b : Bool) → (s : Status K.Key K.Outcome) × (at same_key st k ≡ Some s) → (s : Status K.Key K.Outcome) × (cond b (Some x.status) (at same_key st k) ≡ Some s)
+    by true r = (x.status, refl)
+    by false r = r
+
+module _ (noted : K.Key → Bool) where
+  among : (st : State) (k : K.Key) → Member k (unnoted noted st) → Member k (keys st) × (noted k ≡ false)
+  among [] k m = absurd m
+  among (x ∷ st) k m = by (noted x.key) refl m (among st k)
+    where
+      by : (b : Bool) → noted x.key ≡ b → Member k (cond b (unnoted noted st) (x.key ∷ unnoted noted st)) → (Member k (unnoted noted st) → Member k (keys st) × (noted k ≡ false)) → Member k (x.key ∷ keys st) × (noted k ≡ false)
+      by true e i r = let (a, b) = r i in (inr a, b)
+      by false e (inl d) r = (inl d, ap noted d ∙ e)
+      by false e (inr i) r = let (a, b) = r i in (inr a, b)
+
+  unnoted_apart : (st : State) → AreDistinct (keys st) → AreDistinct (unnoted noted st)
+  unnoted_apart [] d = tt
+  unnoted_apart (x ∷ st) d = by (noted x.key) (unnoted_apart st d.1)
+    where
+      by : (b : Bool) → AreDistinct (unnoted noted st) → AreDistinct (cond b (unnoted noted st) (x.key ∷ unnoted noted st))
+      by true r = r
+      by false r = ((λ m. d.0 (among st x.key m).0), r)
+
+  unnoted_few : (st : State) → length (unnoted noted st) ≤ length st
+  unnoted_few [] = omega arith
+  unnoted_few (x ∷ st) = by (noted x.key) (unnoted_few st)
+    where
+      by : (b : Bool) → length (unnoted noted st) ≤ length st → length (cond b (unnoted noted st) (x.key ∷ unnoted noted st)) ≤ suc (length st)
+      by true r = omega arith
+      by false r = omega arith
+
+module _ (version : Version) (S : Cells) (w : Oracle) (first c : Held) (n m : ℕ) (h : IsRun version S w first c n m) where
+  sums_allow : (cs : List (Counted K.Key)) → counted_keys cs ≡ unnoted (is_noted (notes_in first)) (state_of c) → AreReads same_key (program version S w) cs → allowed same_key (program version S w) (is_noted (notes_in first)) (table same_key (state_of c)) (state_of c) ≤ sum_reads cs
+  sums_allow cs e r = allowed_within same_key key_equality (program version S w) (is_noted (notes_in first)) (table same_key (state_of c)) (true_table same_key key_equality (program version S w) (seeds_of c) (state_of c) h.for_it.sound) (state_of c) cs e r
+
+  pub full_allows : (i : ℕ) → i < length (idle_keys (state_of c)) → Picked.Full ≡ answer_at same_key max_demanded (program version S w) (state_of c) (nth (idle_keys (state_of c)) i) → (m' : ℕ) → m' ≡ counted (is_noted (notes_in c)) (nth (idle_keys (state_of c)) i) m →
+      AllowsDemanded (Demanded (program version S w) (seeds_of first)) (program version S w) (is_noted (notes_in first)) n m'
+  full_allows i l full m' count =
+      let st = state_of c in
+      let p = program version S w in
+      let noted = is_noted (notes_in first) in
+      let (k, ek) = the_key version S w first c n m h i l in
+      let idle = idle_there version S w first c n m h i l k ek in
+      let up = counted_most (noted k) m in
+      let steps' : m' ≡ cond (noted k) m (one_more m) = count ∙ steps_now version S w first c n m h i l k ek in
+      record {
+        keys = unnoted noted st;
+        distinct = unnoted_apart noted st h.for_it.sound.apart;
+        few = let a = unnoted_few noted st in omega (arith, a, h.for_it.within);
+        each = λ x i. let (y, z) = among noted st x i in (subst (λ t. Demanded p t x) h.seeds (h.for_it.sound.demanded x (known_key st x y)), z);
+        most = λ cs e r.
+            let a = sums_allow cs e r in
+            let b = full_allowed same_key key_equality max_demanded p (seeds_of c) noted (table same_key st) k st idle in
+            omega (arith, a, b, up, steps', h.most);
+      }
+
+  module _ (quiet_now : length (idle_keys (state_of c)) ≡ 0) where
+    none_idle : (k : K.Key) → at same_key (state_of c) k ≡ Some Idle → ⊥
+    none_idle = no_idle same_key key_equality (state_of c) (none_of (idle_keys (state_of c)) quiet_now)
+
+    pub run_quiet : IsQuiet same_key (program version S w) (seeds_of first) (state_of c)
+    run_quiet = subst (λ s. IsQuiet same_key (program version S w) s (state_of c)) h.seeds (quiet same_key key_equality (program version S w) (seeds_of c) (state_of c) h.for_it.sound none_idle)
+
+    pub run_few : MoreThan max_demanded (Demanded (program version S w) (seeds_of first)) → ⊥
+    run_few (xs, l, d, each) = let a = run_quiet.no_more xs d each in omega (arith, a, l, h.for_it.within)
+
+    pub run_allows : AllowsKnown (program version S w) (is_noted (notes_in first)) (state_of c) n m
+    run_allows =
+        let noted = is_noted (notes_in first) in
+        let (cs, e, r) = quiet_counted same_key key_equality (program version S w) (seeds_of c) (state_of c) h.for_it.sound none_idle noted in
+        let a = sums_allow cs e r in
+        let b = credit_allowed same_key key_equality max_demanded (program version S w) (seeds_of c) noted (table same_key (state_of c)) (state_of c) in
+        record { counts = cs; keys = e; reads = r; most = omega (arith, a, b, h.most) }

@@ -1,0 +1,12 @@
+pub mod Trees
+pub mod Levels
+pub mod Idle
+pub mod Wakes
+pub mod Places
+pub mod Tables
+pub mod Notes
+pub mod Copied
+pub mod Runs
+pub mod Picks
+pub mod Seeing
+pub mod Ending

@@ -1,0 +1,66 @@
+-- What picks and runs answer, and the steps that they take.
+use Rattle.std.specs.Prelude.{◌≡◌, ℕ, ◌+◌, ◌≤◌, List, length, Option, Some, None, Bool, false, cond, IsTrue, IfSome, IsSome}
+use Rattle.gl_query.specs.Lists.{Member, AreDistinct}
+use Rattle.gl_query.specs.Query.{Query}
+use Rattle.gl_query.specs.Machine as Machine
+use Rattle.gl_query.specs.Costs.{Counted, counted_keys, unnoted, AreReads, sum_reads}
+use Rattle.gl_calculus.specs.Grid.{Range}
+use Rattle.gl_calculus.specs.Limits.{max_demanded}
+use Rattle.gl_calculus.specs.Key as K
+use Rattle.gl_calculus.specs.Key.{same_key}
+use Rattle.gl_calculus.specs.Sound.{is_sound_outcome, is_outcome_of}
+use Rattle.gl_demand.specs.View.{outcome_tree}
+use Rattle.gl_demand.specs.Steps.{one_more}
+use Rattle.gl_core.specs.declared.answers.Picked.{Picked}
+use Rattle.gl_core.specs.declared.answers.Picked.TheVariants.{Resolved, Waits, Full}
+use Rattle.gl_core.specs.declared.quiet.Seen.{Seen}
+use Rattle.gl_core.specs.declared.quiet.Seen.TheVariants.{Known, Loops}
+use Rattle.gl_demand.specs.declared.outcome.Outcome.{Outcome}
+use Rattle.gl_core.specs.declared.status.Status.{Status}
+use Rattle.gl_core.specs.State.{State}
+
+abbrev pub picked_tree : Picked → Machine.Picked
+picked_tree Resolved = Machine.Picked.Resolved
+picked_tree Waits = Machine.Picked.Waits
+picked_tree Full = Machine.Picked.Full
+
+-- the count of steps after a pick of this key: one more where the key has no note
+abbrev pub counted : (K.Key → Bool) → Option K.Key → ℕ → ℕ
+counted noted None n = n
+counted noted (Some k) n = cond (noted k) n (one_more n)
+
+-- The steps from n to m are at most 1 and the number of reads for each of some demanded keys without a note, however these reads are found.
+pub record AllowsDemanded (demanded : K.Key → Type 0) (program : K.Key → Query K.Key K.Outcome Range K.Outcome) (noted : K.Key → Bool) (n m : ℕ) : Type 0 where
+  pub keys : List K.Key
+  pub distinct : AreDistinct keys
+  pub few : length keys ≤ max_demanded
+  pub each : (k : K.Key) → Member k keys → demanded k × (noted k ≡ false)
+  pub most : (cs : List (Counted K.Key)) → counted_keys cs ≡ keys → AreReads same_key program cs → m ≤ n + sum_reads cs
+
+-- The same for exactly the known keys without a note, of which the reads are there.
+pub record AllowsKnown (program : K.Key → Query K.Key K.Outcome Range K.Outcome) (noted : K.Key → Bool) (st : State) (n m : ℕ) : Type 0 where
+  pub counts : List (Counted K.Key)
+  pub keys : counted_keys counts ≡ unnoted noted st
+  pub reads : AreReads same_key program counts
+  pub most : m ≤ n + sum_reads counts
+
+-- what is seen of a key by its status, where no key is idle
+abbrev pub IsSeen : Seen → Option (Machine.Status K.Key K.Outcome) → Type 0
+IsSeen (Known o) s = s ≡ Some (Machine.Resolved (outcome_tree o.now))
+IsSeen Loops s = (j : K.Key) × (s ≡ Some (Machine.Waiting j))
+
+-- an outcome that is seen is sound, and one of the key
+abbrev pub IsSoundSeen : K.Key → Seen → Type 0
+IsSoundSeen k (Known o) = IsTrue (is_sound_outcome (outcome_tree o.now)) × IsTrue (is_outcome_of k (outcome_tree o.now))
+IsSoundSeen k Loops = Unit {0}
+
+abbrev pub IsKnown : Outcome → Seen → Type 0
+IsKnown o (Known x) = x.now ≡ o
+IsKnown o Loops = ⊥
+
+-- what is seen by a status: nothing where there is none, or it is idle
+abbrev pub IsSeenStatus : Option Seen → Option Status → Type 0
+IsSeenStatus r None = r ≡ None
+IsSeenStatus r (Some Status.Idle) = r ≡ None
+IsSeenStatus r (Some (Status.Waiting p)) = r ≡ Some Loops
+IsSeenStatus r (Some (Status.Resolved o)) = IfSome r (IsKnown o) × IsSome r

@@ -1,0 +1,8 @@
+pub mod Counts
+pub mod Tree
+pub mod Statuses
+pub mod Held
+pub mod State
+pub mod Table
+pub mod Noting
+pub mod Answers

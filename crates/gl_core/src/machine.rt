@@ -1,0 +1,218 @@
+//! The core: known keys, each idle, waiting for another or resolved, and what a pick does.
+ghost use Rattle.std.specs.Prelude.{true, false, ◌≡◌, ◌≤◌, ◌<◌, ◌+◌, ◌-◌, ◌^◌, ℕ, length, map, OnOk, OnErr, IfOk, IfErr, vec_len};
+ghost use Rattle.gl_query.specs.Lists.{Member, AreDistinct, MoreThan};
+ghost use Rattle.gl_query.specs.Laws.{IsQuiet};
+ghost use Rattle.gl_query.specs.Machine as Machine;
+ghost use Rattle.gl_query.specs.Machine.{Demanded, idle_keys, nth};
+ghost use Rattle.gl_query.specs.Costs.{answer_at, settled};
+ghost use Rattle.gl_query.specs.Remembered.{AreTrue};
+ghost use Rattle.gl_calculus.specs.Limits.{max_demanded};
+ghost use Rattle.gl_calculus.specs.Key as K;
+ghost use Rattle.gl_calculus.specs.Key.{same_key};
+ghost use Rattle.gl_calculus.specs.Evaluation.{program};
+ghost use Rattle.gl_calculus.specs.Sound.{IsProperKey};
+ghost use Rattle.gl_ast.specs.View.{version_tree};
+ghost use Rattle.gl_cells.specs.Sheet.{sheet};
+ghost use Rattle.gl_order.specs.Rule.{PicksBelow, rule_of};
+ghost use Rattle.gl_memo.specs.Notes.{notes_of};
+ghost use Rattle.gl_demand.specs.View.{key_tree};
+ghost use Rattle.gl_demand.specs.Sound.{AreSoundKeys};
+ghost use Rattle.gl_core.specs.State.{state_of, seeds_of, notes_in, note_trees, is_noted, keys_noted, noted_after, AreSoundNotes, IsFor};
+ghost use Rattle.gl_core.specs.Table.{table_of, IsTable};
+ghost use Rattle.gl_core.specs.Answers.{picked_tree, counted, AllowsDemanded, AllowsKnown};
+
+use crate::answers::{CoreFault, Picked};
+use crate::entries::Entries;
+use crate::picking::pick_at;
+use crate::quiet::Quiet;
+use gl_ast::Version;
+use gl_cells::Cells;
+use gl_demand::{Key, Outcome, Steps, Watch};
+use gl_memo::Memo;
+use gl_order::Order;
+use gl_plane::{NoMemory, Oracle, Range};
+use std::alloc::Global;
+use std::marker::Model;
+
+/// Known keys, each idle, waiting for another known key, or resolved to its outcome; and the notes
+/// of keys: outcomes with what was read and looked at.
+///
+/// A core is for a sheet, an oracle and a version (`IsFor`) where its notes are true there, its
+/// seeds are proper, and its state is one that picks reach from the seeds.
+#[derive(Drop)]
+pub struct Core {
+    entries: Entries,
+    seeds: usize,
+    notes: Memo<Key, Outcome, Range>,
+}
+
+impl Model for Core {
+    ghost use Rattle.std.specs.Coded.{codes};
+    ghost use Rattle.gl_value.specs.contracts.Env as env;
+    ghost use Rattle.gl_value.specs.contracts.SheetVal as sheet_val;
+    ghost use Rattle.gl_value.specs.contracts.Value as value;
+    ghost use Rattle.gl_memo.specs.Notes.{notes_of};
+    ghost use Rattle.gl_core.specs.Held.{Held};
+
+    ghost Value = { Held };
+
+    ghost coded = { Prim.hlevel (codes, env.the_row.coded, sheet_val.the_row.coded, value.the_row.coded) };
+
+    ghost view = { λ c. record { keys = c.entries.keys.keys; statuses = c.entries.statuses.items.items; seeds = c.seeds; notes = notes_of c.notes } };
+
+    ghost use Rattle.gl_core.specs.Table.{IsCore};
+
+    ghost invariant = { λ c. IsCore c.entries (notes_of c.notes) };
+}
+
+fn is_full(picked: Picked) -> bool
+    ensures full { result ≡ true → Machine.Picked.Full ≡ picked_tree picked }
+    ensures other { result ≡ false → picked_tree picked ≡ Machine.Picked.Full → ⊥ }
+{
+    match picked {
+        Picked::Full => true,
+        Picked::Resolved => false,
+        Picked::Waits => false,
+    }
+}
+
+/// The seeds, all idle.
+fn seeded(alloc: Global, seeds: Vec<Key>) -> Result<Entries, NoMemory>
+    requires few { vec_len seeds ≤ max_demanded }
+    requires apart { AreDistinct (map key_tree seeds.items) }
+    requires sound { AreSoundKeys (map key_tree seeds.items) }
+    ensures keys { IfOk result (λ e. e.keys.keys ≡ seeds.items) }
+    ensures state { IfOk result (λ e. table_of e ≡ Machine.start (map key_tree seeds.items)) }
+    ensures table { IfOk result IsTable }
+{
+    let mut entries = Entries::new(alloc);
+    for seed in seeds {
+        entries.add_idle(alloc, seed, Vec::new(alloc))?;
+    }
+    Ok(entries)
+}
+
+impl Core {
+    /// The seeds, all idle, with the notes that are kept from before.
+    pub fn start(
+        alloc: Global,
+        seeds: Vec<Key>,
+        kept: Memo<Key, Outcome, Range>,
+        cells: &Cells,
+        w: &Oracle,
+        version: Version,
+    ) -> Result<Core, NoMemory>
+        requires few { vec_len seeds ≤ max_demanded }
+        requires apart { AreDistinct (map key_tree seeds.items) }
+        requires sound_seeds { AreSoundKeys (map key_tree seeds.items) }
+        requires proper { (k : K.Key) → Member k (map key_tree seeds.items) → IsProperKey (sheet cells.now) k }
+        requires true_notes { AreTrue same_key (program (version_tree version) (sheet cells.now) w.now) (note_trees (notes_of kept)) }
+        requires sound_notes { AreSoundNotes (note_trees (notes_of kept)) }
+        ensures state { IfOk result (λ core. state_of core ≡ Machine.start (map key_tree seeds.items)) }
+        ensures seeds { IfOk result (λ core. seeds_of core ≡ map key_tree seeds.items) }
+        ensures notes { IfOk result (λ core. notes_in core ≡ note_trees (notes_of kept)) }
+        ensures for_it { IfOk result (λ core. IsFor (version_tree version) (sheet cells.now) w.now core) }
+    {
+        let count = seeds.len();
+        let entries = seeded(alloc, seeds)?;
+        Ok(Core {
+            entries,
+            seeds: count,
+            notes: kept,
+        })
+    }
+
+    /// How many keys can be picked.
+    pub fn idle(&self) -> u64
+        ensures { result ≡ length (idle_keys (state_of self.now)) }
+    {
+        u64::from(self.entries.statuses.idle_total())
+    }
+
+    /// Picks the i-th of the idle keys, in the order in which keys became known.
+    ///
+    /// A key without a note is evaluated for one level, which is one step. A key with a note takes
+    /// none: it goes by the first of the note's reads that is not resolved. After `NoMemory` the
+    /// core is as before.
+    pub fn pick<L: Watch>(
+        &mut self,
+        alloc: Global,
+        i: u64,
+        cells: &Cells,
+        w: &Oracle,
+        version: Version,
+        steps: &mut Steps<L>,
+    ) -> Result<Picked, NoMemory>
+        requires there { i < length (idle_keys (state_of self.old)) }
+        requires for_it { IsFor (version_tree version) (sheet cells.now) w.now self.old }
+        ensures state { OnOk result (state_of self.new ≡ Machine.pick same_key max_demanded (program (version_tree version) (sheet cells.now) w.now) (state_of self.old) i) }
+        ensures answer { IfOk result (λ picked. picked_tree picked ≡ answer_at same_key max_demanded (program (version_tree version) (sheet cells.now) w.now) (state_of self.old) (nth (idle_keys (state_of self.old)) i)) }
+        ensures notes { IfOk result (λ picked. keys_noted (notes_in self.new) ≡ noted_after (notes_in self.old) (nth (idle_keys (state_of self.old)) i) (picked_tree picked)) }
+        ensures err { OnErr result (self.new ≡ self.old) }
+        ensures seeds { seeds_of self.new ≡ seeds_of self.old }
+        ensures stays { IsFor (version_tree version) (sheet cells.now) w.now self.new }
+        ensures counted { steps.new ≡ counted (is_noted (notes_in self.old)) (nth (idle_keys (state_of self.old)) i) steps.old }
+    {
+        let p = self.entries.statuses.idle_place(i as u32);
+        pick_at(
+            alloc,
+            &mut self.entries,
+            &mut self.notes,
+            p,
+            cells,
+            w,
+            version,
+            steps,
+        )
+    }
+
+    /// Picks by the rule until nothing is idle, whatever the rule answers. `Work` comes exactly
+    /// where more than `MAX_DEMANDED` keys are demanded.
+    pub fn run_all<F: Fn(u8, u64, u64) -> u64, L: Watch>(
+        self,
+        alloc: Global,
+        order: &Order<F>,
+        kind: u8,
+        cells: &Cells,
+        w: &Oracle,
+        version: Version,
+        steps: &mut Steps<L>,
+    ) -> Result<Quiet, CoreFault>
+        requires rule { PicksBelow (F.pre (rule_of order.now)) (F.post (rule_of order.now)) }
+        requires kind { kind ≤ 2 }
+        requires for_it { IsFor (version_tree version) (sheet cells.now) w.now self }
+        ensures quiet { IfOk result (λ q. IsQuiet same_key (program (version_tree version) (sheet cells.now) w.now) (seeds_of self) (state_of q)) }
+        ensures seeds { IfOk result (λ q. seeds_of q ≡ seeds_of self) }
+        ensures stays { IfOk result (λ q. IsFor (version_tree version) (sheet cells.now) w.now q) }
+        ensures work { IfErr result (λ e. e ≡ CoreFault.Work → MoreThan max_demanded (Demanded (program (version_tree version) (sheet cells.now) w.now) (seeds_of self))) }
+        ensures no_work { IfOk result (λ q. MoreThan max_demanded (Demanded (program (version_tree version) (sheet cells.now) w.now) (seeds_of self)) → ⊥) }
+        ensures most { IfOk result (λ q. AllowsKnown (program (version_tree version) (sheet cells.now) w.now) (is_noted (notes_in self)) (state_of q) steps.old steps.new) }
+        ensures most_work { IfErr result (λ e. e ≡ CoreFault.Work → AllowsDemanded (Demanded (program (version_tree version) (sheet cells.now) w.now) (seeds_of self)) (program (version_tree version) (sheet cells.now) w.now) (is_noted (notes_in self)) steps.old steps.new) }
+        ensures least { IfOk result (λ q. steps.new < 2 ^ 64 - 1 → steps.old + settled (is_noted (notes_in self)) (state_of q) ≤ steps.new + settled (is_noted (notes_in self)) (state_of self)) }
+    {
+        let mut core = self;
+        let mut turn = 0u64;
+        'picks: loop {
+            let n = core.idle();
+            if n == 0 {
+                return Ok(core.into_quiet());
+            }
+            let i = order.next(kind, turn, n);
+            let Ok(picked) = core.pick(alloc, i, cells, w, version, steps) else {
+                return Err(CoreFault::NoMemory);
+            };
+            if is_full(picked) {
+                return Err(CoreFault::Work);
+            }
+            turn = turn.wrapping_add(1);
+        }
+    }
+
+    /// The core, in which nothing is idle.
+    fn into_quiet(self) -> Quiet
+        requires { length (idle_keys (state_of self)) ≡ 0 }
+        ensures { result ≡ self }
+    {
+        Quiet::new(self.entries, self.seeds, self.notes)
+    }
+}

@@ -1,0 +1,16 @@
+use Rattle.std.proofs.Common.{subst, option_map}
+use Rattle.gl_query.specs.Evaluation.{Demand}
+use Rattle.gl_calculus.specs.Key.{give, own_value}
+use Rattle.gl_cells.specs.Sheet.{sheet}
+use Rattle.gl_value.specs.View.{value_tree}
+use Rattle.gl_demand.specs.View.{key_tree, outcome_tree}
+use Rattle.gl_demand.specs.Walk.{world}
+use Rattle.gl_demand.specs.Walks.{Walks}
+use Rattle.gl_demand.proofs.Walking.{goes_on}
+use Rattle.gl_demand.proofs.demand.demanded.Goals as goal
+
+pub returns-in-Ok-demand-clause-walk : goal.returns-in-Ok-demand-clause-walk
+returns-in-Ok-demand-clause-walk g c =
+    let w = world (sheet c.args.ctx.now.cells.now) c.args.ctx.now.w.now (g.K.Known.outcomes c.args.ctx.now.known.now) in
+    subst (λ k. Walks w (Demand k own_value) (option_map value_tree) c.args.trail.now c.value_in.result c.demand.new.trail) c.in-Ok.ensures.value
+    (goes_on w own_value (Demand (key_tree c.in-Ok.key) give) (λ o. outcome_tree o.now) (option_map value_tree) c.args.trail.now c.demand.new.trail c.demand.new.trail c.in-Ok-demand.outcome c.value_in.result c.in-Ok-demand.ensures.walk (c.value_in.ensures.walk w))

@@ -1,0 +1,17 @@
+pub mod View
+pub mod Steps
+pub mod Sound
+pub mod Blocks
+pub mod Same
+pub mod Equal
+pub mod Laws
+pub mod Walk
+pub mod Walks
+pub mod Held
+pub mod Seen
+pub mod Scope
+pub mod Cells
+pub mod Prefixed
+pub mod Stopped
+pub mod Places
+pub mod Settling

@@ -1,0 +1,10 @@
+-- The addresses of a sheet value's region that have content.
+use Rattle.std.specs.Prelude.{ℕ, List, filter}
+use Rattle.gl_calculus.specs.Grid.{Addr, addresses}
+use Rattle.gl_calculus.specs.Value.{SheetValue, region}
+use Rattle.gl_calculus.specs.Formula.{Cells}
+use Rattle.gl_demand.specs.Blocks.{has_content_in}
+
+-- in row-major order
+abbrev pub filled_places : Cells → SheetValue → List Addr
+filled_places S s = filter (has_content_in S s) (addresses (region s))

@@ -1,0 +1,82 @@
+//! What stands in the way of arrays: the contents of the sheet, or those of a sheet value's region.
+ghost use Rattle.std.specs.Prelude.{◌≡◌, ◌&&◌, not, IsTrue};
+ghost use Rattle.gl_calculus.specs.Grid.{same_addr};
+ghost use Rattle.gl_calculus.specs.Sound.{is_sound_sheet};
+ghost use Rattle.gl_cells.specs.Sheet.{sheet};
+ghost use Rattle.gl_value.specs.View.{sheet_tree};
+ghost use Rattle.gl_demand.specs.Blocks.{has_content_in};
+
+use crate::places::{count, has_content, place};
+use gl_cells::Cells;
+use gl_grant::Blocks;
+use gl_plane::{Addr, Range};
+use gl_value::SheetVal;
+
+/// The addresses with content in the sheet.
+#[derive(Clone, Copy)]
+pub struct TopBlocks<'a> {
+    pub cells: &'a Cells,
+}
+
+impl Blocks for TopBlocks<'_> {
+    ghost use Rattle.gl_cells.specs.Sheet.{sheet};
+    ghost use Rattle.gl_demand.specs.Blocks.{has_content};
+
+    ghost held = { λ s a. has_content (sheet s.cells.now) a };
+
+    fn blocked(&self, root: Addr, area: &Range) -> Option<Addr> {
+        if self.cells.contents() == 0 {
+            return None;
+        }
+        match self.cells.next_in(area, None) {
+            None => None,
+            Some(a) => {
+                if a == root {
+                    self.cells.next_in(area, Some(root))
+                } else {
+                    Some(a)
+                }
+            }
+        }
+    }
+}
+
+/// The addresses with content in a frame of the sheet value, which are in its region. The sheet
+/// value is sound.
+#[derive(Clone, Copy)]
+pub struct CopyBlocks<'a> {
+    pub cells: &'a Cells,
+    pub sheet: &'a SheetVal,
+    ghost sound: { IsTrue (is_sound_sheet (sheet_tree sheet.now)) },
+}
+
+impl Blocks for CopyBlocks<'_> {
+    ghost use Rattle.gl_cells.specs.Sheet.{sheet};
+    ghost use Rattle.gl_value.specs.View.{sheet_tree};
+    ghost use Rattle.gl_demand.specs.Blocks.{has_content_in};
+
+    ghost held = { λ s a. has_content_in (sheet s.cells.now) (sheet_tree s.sheet.now) a };
+
+    fn blocked(&self, root: Addr, area: &Range) -> Option<Addr> {
+        for i in 0..count(area) {
+            let a = place(area, i);
+            if self.is_other_content(root, a) {
+                return Some(a);
+            }
+        }
+        None
+    }
+}
+
+impl CopyBlocks<'_> {
+    /// The address has content, and is not the root.
+    fn is_other_content(&self, root: Addr, a: Addr) -> bool
+        ensures { result ≡ (has_content_in (sheet self.now.cells.now) (sheet_tree self.now.sheet.now) a && not (same_addr a root)) }
+    {
+        if a == root {
+            false
+        } else {
+            has_content(self.cells, self.sheet, a)
+        }
+    }
+}

@@ -1,0 +1,141 @@
+//! Keys that an evaluation demands.
+ghost use Rattle.std.specs.Prelude.{◌≡◌, Some, IsTrue, IfOk, IfErr, IfSome, option_map};
+ghost use Rattle.gl_query.specs.Evaluation.{Demand};
+ghost use Rattle.gl_calculus.specs.Facts.{fact};
+ghost use Rattle.gl_calculus.specs.Key.{Cell, give, own_value};
+ghost use Rattle.gl_calculus.specs.Reference.{own, value_of};
+ghost use Rattle.gl_calculus.specs.Sound.{is_sound_frame, is_sound_key, is_sound_outcome, is_sound_value};
+ghost use Rattle.gl_cells.specs.Sheet.{sheet};
+ghost use Rattle.gl_value.specs.View.{value_tree, frame_tree};
+ghost use Rattle.gl_demand.specs.View.{key_tree, outcome_tree};
+ghost use Rattle.gl_demand.specs.Walk.{World, world};
+ghost use Rattle.gl_demand.specs.Held.{held_tree, IsSoundHeld};
+ghost use Rattle.gl_demand.specs.Walks.{Walks};
+
+use crate::context::Context;
+use crate::held::{Held, held_at};
+use crate::trail::{Halt, Trail};
+use crate::{Key, Known, Outcome};
+use gl_plane::{Addr, NoMemory, Share};
+use gl_value::{Env, Value};
+
+/// The known outcome of a key, which is noted as read.
+#[tactic(auto, using(gl_value::specs::Forms::trees))]
+pub fn demand<'a, K: Known>(
+    ctx: &Context<'a, K>,
+    key: Key,
+    trail: &mut Trail,
+) -> Result<&'a Outcome, Halt>
+    requires { IsTrue (is_sound_key (key_tree key)) }
+    ensures walk { Walks (world (sheet ctx.now.cells.now) ctx.now.w.now (K.outcomes ctx.now.known.now)) (Demand (key_tree key) give) (λ o. outcome_tree o.now) trail.old result trail.new }
+    ensures sound { IfOk result (λ o. IsTrue (is_sound_outcome (outcome_tree o.now))) }
+{
+    match key.share() {
+        Ok(again) => match trail.read(again) {
+            Ok(()) => {}
+            Err(NoMemory) => return Err(Halt::NoMemory),
+        },
+        Err(NoMemory) => return Err(Halt::NoMemory),
+    }
+    match ctx.known.get(&key) {
+        Some(o) => Ok(o),
+        None => Err(Halt::Need(key)),
+    }
+}
+
+/// The value that an outcome of a cell is.
+#[tactic(auto, using(gl_value::specs::Forms::trees))]
+fn value_in(outcome: &Outcome, trail: &Trail) -> Result<Option<Value>, Halt>
+    requires { IsTrue (is_sound_outcome (outcome_tree outcome.now)) }
+    ensures walk { (w : World) → Walks w (own_value (outcome_tree outcome.now)) (option_map value_tree) trail.now result trail.now }
+    ensures sound { IfOk result (λ v. IfSome v (λ x. IsTrue (is_sound_value (value_tree x)))) }
+{
+    match outcome {
+        Outcome::Value(v) => match v.share() {
+            Ok(v) => Ok(Some(v)),
+            Err(NoMemory) => Err(Halt::NoMemory),
+        },
+        Outcome::Settled(_) => Ok(None),
+        Outcome::Abort(b) => Err(Halt::Spent(*b)),
+    }
+}
+
+/// The value of a formula cell, which is demanded.
+#[tactic(auto, using(gl_value::specs::Forms::trees))]
+fn demanded<K: Known>(
+    ctx: &Context<K>,
+    env: &Env,
+    a: Addr,
+    trail: &mut Trail,
+) -> Result<Option<Value>, Halt>
+    requires frame { IsTrue (is_sound_frame (frame_tree env.now)) }
+    ensures walk { Walks (world (sheet ctx.now.cells.now) ctx.now.w.now (K.outcomes ctx.now.known.now)) (Demand (Cell (frame_tree env.now) a) own_value) (option_map value_tree) trail.old result trail.new }
+    ensures sound { IfOk result (λ v. IfSome v (λ x. IsTrue (is_sound_value (value_tree x)))) }
+{
+    match cell_key(env, a) {
+        Ok(key) => match demand(ctx, key, trail) {
+            Ok(outcome) => value_in(outcome, trail),
+            Err(halt) => Err(halt),
+        },
+        Err(halt) => Err(halt),
+    }
+}
+
+/// The key of a cell.
+#[tactic(auto, using(gl_value::specs::Forms::trees))]
+fn cell_key(env: &Env, a: Addr) -> Result<Key, Halt>
+    requires frame { IsTrue (is_sound_frame (frame_tree env.now)) }
+    ensures value { IfOk result (λ k. key_tree k ≡ Cell (frame_tree env.now) a) }
+    ensures err { IfErr result (λ h. h ≡ Halt.NoMemory) }
+    ensures sound { IfOk result (λ k. IsTrue (is_sound_key (key_tree k))) }
+{
+    match env.share() {
+        Ok(env) => Ok(Key::Cell(env, a)),
+        Err(NoMemory) => Err(Halt::NoMemory),
+    }
+}
+
+/// The own value of an address: its override's, its constant's, or that of its formula.
+#[tactic(auto, using(gl_value::specs::Forms::trees))]
+pub fn own<K: Known>(
+    ctx: &Context<K>,
+    env: &Env,
+    a: Addr,
+    trail: &mut Trail,
+) -> Result<Option<Value>, Halt>
+    requires frame { IsTrue (is_sound_frame (frame_tree env.now)) }
+    ensures walk { Walks (world (sheet ctx.now.cells.now) ctx.now.w.now (K.outcomes ctx.now.known.now)) (own (frame_tree env.now) (fact (sheet ctx.now.cells.now) ctx.now.w.now a)) (option_map value_tree) trail.old result trail.new }
+    ensures sound { IfOk result (λ v. IfSome v (λ x. IsTrue (is_sound_value (value_tree x)))) }
+{
+    match held_at(ctx.cells, env, a) {
+        None => Ok(None),
+        Some(held) => value_of(ctx, env, a, &held, trail),
+    }
+}
+
+/// The own value of an address that holds this.
+#[tactic(auto, using(gl_value::specs::Forms::trees))]
+fn value_of<K: Known>(
+    ctx: &Context<K>,
+    env: &Env,
+    a: Addr,
+    held: &Held,
+    trail: &mut Trail,
+) -> Result<Option<Value>, Halt>
+    requires frame { IsTrue (is_sound_frame (frame_tree env.now)) }
+    requires held { IsSoundHeld (held_tree held.now) }
+    ensures walk { Walks (world (sheet ctx.now.cells.now) ctx.now.w.now (K.outcomes ctx.now.known.now)) (value_of (frame_tree env.now) a (Some (held_tree held.now))) (option_map value_tree) trail.old result trail.new }
+    ensures sound { IfOk result (λ v. IfSome v (λ x. IsTrue (is_sound_value (value_tree x)))) }
+{
+    match held {
+        Held::Value(v) => match v.share() {
+            Ok(v) => Ok(Some(v)),
+            Err(NoMemory) => Err(Halt::NoMemory),
+        },
+        Held::Scalar(x) => match x.share() {
+            Ok(x) => Ok(Some(Value::One(x))),
+            Err(NoMemory) => Err(Halt::NoMemory),
+        },
+        Held::Formula(_) => demanded(ctx, env, a, trail),
+    }
+}

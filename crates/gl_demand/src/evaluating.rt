@@ -1,0 +1,158 @@
+//! The evaluation of a key.
+ghost use Rattle.std.specs.Prelude.{◌≡◌, Some, IsTrue, IfOk};
+ghost use Rattle.gl_ast.specs.View.{version_tree};
+ghost use Rattle.gl_calculus.specs.Formula.{content};
+ghost use Rattle.gl_query.specs.Query.{Ready};
+ghost use Rattle.gl_calculus.specs.Key.{Cell, Settle, Settled};
+ghost use Rattle.gl_calculus.specs.Evaluation as E;
+ghost use Rattle.gl_calculus.specs.Reference.{own_content};
+ghost use Rattle.gl_calculus.specs.Sound.{is_sound_key, is_sound_sheet, is_sound_value};
+ghost use Rattle.gl_cells.specs.Sheet.{sheet};
+ghost use Rattle.gl_value.specs.View.{value_tree, frame_tree, sheet_tree};
+ghost use Rattle.gl_demand.specs.Held.{held_tree, IsSoundHeld};
+ghost use Rattle.gl_demand.specs.Sound.{IsSoundTable, IsSoundFound};
+ghost use Rattle.gl_demand.specs.View.{key_tree, found_tree};
+ghost use Rattle.gl_demand.specs.Walk.{world, walk};
+ghost use Rattle.gl_demand.specs.Walks.{Walks, trail_tree};
+ghost use Rattle.gl_demand.specs.Cells.{looked_cell};
+ghost use Rattle.gl_demand.specs.Stopped.{IsStopped};
+
+use crate::context::Context;
+use crate::elements::{share_scalar, share_value};
+use crate::formulas::eval;
+use crate::held::{Held, held_at};
+use crate::reading::look_at;
+use crate::scope::Scope;
+use crate::settle::settle;
+use crate::trail::{Halt, Trail};
+use crate::{Found, Key, Known, Outcome};
+use gl_ast::Version;
+use gl_cells::Cells;
+use gl_plane::{Addr, NoMemory, Oracle};
+use gl_value::{Env, Scalar, SheetVal, Value};
+use std::alloc::Global;
+use std::rc::Rc;
+
+/// The value of an address that holds this.
+#[tactic(auto, using(gl_value::specs::Forms::trees), unfolding(gl_calculus::specs::Evaluation::cell_value))]
+fn content_value<K: Known>(ctx: &Context<K>, held: &Held, trail: &mut Trail) -> Result<Value, Halt>
+    requires held { IsSoundHeld (held_tree held.now) }
+    ensures walk { Walks (world (sheet ctx.now.cells.now) ctx.now.w.now (K.outcomes ctx.now.known.now)) (E.cell_value (version_tree ctx.now.version) (frame_tree ctx.now.env.now) (Some (held_tree held.now))) value_tree trail.old result trail.new }
+    ensures sound { IfOk result (λ v. IsTrue (is_sound_value (value_tree v))) }
+{
+    match held {
+        Held::Value(v) => share_value(v),
+        Held::Scalar(x) => match share_scalar(x) {
+            Ok(x) => Ok(Value::One(x)),
+            Err(halt) => Err(halt),
+        },
+        Held::Formula(f) => {
+            let scope = Scope {
+                bindings: Vec::new(ctx.alloc),
+            };
+            eval(ctx, &scope, f, trail)
+        }
+    }
+}
+
+/// The value of a cell, which looks at its own address first.
+#[tactic(auto, using(gl_value::specs::Forms::trees), unfolding(gl_calculus::specs::Evaluation::cell_value))]
+fn cell_at<K: Known>(ctx: &Context<K>, a: Addr, trail: &mut Trail) -> Result<Value, Halt>
+    ensures walk { Walks (world (sheet ctx.now.cells.now) ctx.now.w.now (K.outcomes ctx.now.known.now)) (looked_cell (version_tree ctx.now.version) (frame_tree ctx.now.env.now) (own_content (content (sheet ctx.now.cells.now) a) (frame_tree ctx.now.env.now) a) a) value_tree trail.old result trail.new }
+    ensures sound { IfOk result (λ v. IsTrue (is_sound_value (value_tree v))) }
+{
+    match look_at(a, trail) {
+        Ok(()) => match held_at(ctx.cells, ctx.env, a) {
+            Some(held) => content_value(ctx, &held, trail),
+            None => Ok(Value::One(Scalar::Blank)),
+        },
+        Err(halt) => Err(halt),
+    }
+}
+
+/// What is found where an evaluation stops.
+fn stopped(halt: Halt) -> Result<Found, NoMemory>
+    ensures { IsStopped halt result }
+{
+    match halt {
+        Halt::Need(k) => Ok(Found::Need(k)),
+        Halt::Spent(b) => Ok(Found::Ready(Outcome::Abort(b))),
+        Halt::NoMemory => Err(NoMemory),
+    }
+}
+
+/// How the evaluation of a cell ends.
+fn evaluate_cell<K: Known>(ctx: &Context<K>, a: Addr, trail: &mut Trail) -> Result<Found, NoMemory>
+    ensures walk { IfOk result (λ x. walk (world (sheet ctx.now.cells.now) ctx.now.w.now (K.outcomes ctx.now.known.now)) (E.evaluation (version_tree ctx.now.version) (Cell (frame_tree ctx.now.env.now) a)) (trail_tree trail.old) ≡ (found_tree x, trail_tree trail.new)) }
+    ensures sound { IfOk result (λ x. IsSoundFound (Cell (frame_tree ctx.now.env.now) a) (found_tree x)) }
+{
+    match cell_at(ctx, a, trail) {
+        Ok(v) => Ok(Found::Ready(Outcome::Value(v))),
+        Err(halt) => stopped(halt),
+    }
+}
+
+/// What is found where a settling ends.
+fn settled(alloc: Global, oracle: Oracle) -> Result<Found, NoMemory>
+    ensures { IfOk result (λ x. found_tree x ≡ Ready (Settled oracle)) }
+{
+    Ok(Found::Ready(Outcome::Settled(Rc::new(alloc, oracle)?)))
+}
+
+/// How the settling of a sheet value ends.
+fn evaluate_copy<K: Known>(
+    ctx: &Context<K>,
+    s: &Rc<SheetVal>,
+    trail: &mut Trail,
+) -> Result<Found, NoMemory>
+    requires { IsTrue (is_sound_sheet (sheet_tree s.now.value)) }
+    ensures walk { IfOk result (λ x. walk (world (sheet ctx.now.cells.now) ctx.now.w.now (K.outcomes ctx.now.known.now)) (E.evaluation (version_tree ctx.now.version) (Settle (sheet_tree s.now.value))) (trail_tree trail.old) ≡ (found_tree x, trail_tree trail.new)) }
+    ensures sound { IfOk result (λ x. IsSoundFound (Settle (sheet_tree s.now.value)) (found_tree x)) }
+{
+    match settle(ctx, s, trail) {
+        Ok(oracle) => settled(ctx.alloc, oracle),
+        Err(halt) => stopped(halt),
+    }
+}
+
+/// How the evaluation of a key ends.
+pub fn evaluate<K: Known>(
+    alloc: Global,
+    cells: &Cells,
+    w: &Oracle,
+    key: &Key,
+    known: &K,
+    version: Version,
+    trail: &mut Trail,
+) -> Result<Found, NoMemory>
+    requires key { IsTrue (is_sound_key (key_tree key.now)) }
+    requires known { IsSoundTable (K.outcomes known.now) }
+    ensures walk { IfOk result (λ x. walk (world (sheet cells.now) w.now (K.outcomes known.now)) (E.evaluation (version_tree version) (key_tree key.now)) (trail_tree trail.old) ≡ (found_tree x, trail_tree trail.new)) }
+    ensures sound { IfOk result (λ x. IsSoundFound (key_tree key.now) (found_tree x)) }
+{
+    match key {
+        Key::Cell(env, a) => {
+            let ctx = Context {
+                alloc,
+                cells,
+                w,
+                known,
+                version,
+                env,
+            };
+            evaluate_cell(&ctx, *a, trail)
+        }
+        Key::Settle(s) => {
+            let top = Env::Top;
+            let ctx = Context {
+                alloc,
+                cells,
+                w,
+                known,
+                version,
+                env: &top,
+            };
+            evaluate_copy(&ctx, s, trail)
+        }
+    }
+}

@@ -1,0 +1,51 @@
+//! Keys: what is evaluated.
+ghost use Rattle.std.specs.Prelude.{◌≡◌, IfOk};
+ghost use Rattle.gl_calculus.specs.Sound.{is_sound_key};
+ghost use Rattle.gl_demand.specs.View.{key_tree};
+
+use gl_plane::{Addr, NoMemory, Share};
+use gl_value::{Env, SheetVal};
+use std::rc::Rc;
+
+/// One evaluation: of a formula cell in a frame, or the settling of a sheet value.
+#[derive(Drop, PartialEq, Eq, Hash)]
+pub enum Key {
+    Cell(Env, Addr),
+    Settle(Rc<SheetVal>),
+}
+
+impl Key {
+    /// The frame or the sheet value is sound.
+    pub fn is_sound(&self) -> bool
+        ensures { result ≡ is_sound_key (key_tree self.now) }
+    {
+        match self {
+            Key::Cell(e, _) => e.is_sound(),
+            Key::Settle(s) => s.is_sound(),
+        }
+    }
+}
+
+impl Share for Key {
+    ghost use Rattle.gl_demand.specs.View.{key_tree};
+    ghost use Rattle.gl_demand.specs.Equal.{key_equal};
+    ghost use Rattle.std.specs.Prelude.{◌≡◌};
+    ghost use Rattle.std.proofs.Common.{sym};
+
+    ghost shares = { λ x y. key_tree y ≡ key_tree x };
+
+    ghost alike = { λ x y h. (key_equal x y).1 (sym h) };
+
+    fn share(&self) -> Result<Key, NoMemory> {
+        share_key(self)
+    }
+}
+
+fn share_key(key: &Key) -> Result<Key, NoMemory>
+    ensures { IfOk result (λ x. key_tree x ≡ key_tree key.now) }
+{
+    match key {
+        Key::Cell(e, a) => Ok(Key::Cell(e.share()?, *a)),
+        Key::Settle(s) => Ok(Key::Settle(s.clone()?)),
+    }
+}

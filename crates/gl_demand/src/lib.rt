@@ -1,0 +1,33 @@
+//! One evaluation of one key against the results that are known so far.
+#![tactic(auto)]
+
+mod blocks;
+mod context;
+mod demand;
+mod elements;
+mod evaluating;
+mod formulas;
+mod held;
+mod key;
+mod known;
+mod laws;
+mod noting;
+mod operators;
+mod outcome;
+mod places;
+mod reading;
+mod scope;
+mod scoping;
+mod settle;
+mod spills;
+mod stepping;
+mod steps;
+mod trail;
+
+pub use blocks::{CopyBlocks, TopBlocks};
+pub use key::Key;
+pub use known::{Found, Known, Turn};
+pub use laws::{keys_compare_by_tree, outcomes_compare_by_tree};
+pub use outcome::{Budget, Outcome};
+pub use stepping::step;
+pub use steps::{Silent, Steps, Watch};

@@ -1,0 +1,61 @@
+//! What keys come to.
+ghost use Rattle.std.specs.Prelude.{◌≡◌, IfOk};
+ghost use Rattle.gl_calculus.specs.Sound.{is_sound_outcome};
+ghost use Rattle.gl_demand.specs.View.{outcome_tree};
+
+use gl_plane::{NoMemory, Oracle, Share};
+use gl_value::Value;
+use std::rc::Rc;
+
+/// What an evaluation can spend: the ranks of sheet values, and the rounds of a settling.
+#[derive(Clone, Copy, PartialEq, Eq, Hash, Debug)]
+pub enum Budget {
+    Depth,
+    CopyRounds,
+}
+
+/// What a key comes to: a cell to a value, a sheet value to an oracle, or either to a spent budget.
+#[derive(Drop, PartialEq, Eq, Hash)]
+pub enum Outcome {
+    Value(Value),
+    Settled(Rc<Oracle>),
+    Abort(Budget),
+}
+
+impl Outcome {
+    /// The value is sound; an oracle and a spent budget are.
+    pub fn is_sound(&self) -> bool
+        ensures { result ≡ is_sound_outcome (outcome_tree self.now) }
+    {
+        match self {
+            Outcome::Value(v) => v.is_sound(),
+            Outcome::Settled(_) => true,
+            Outcome::Abort(_) => true,
+        }
+    }
+}
+
+impl Share for Outcome {
+    ghost use Rattle.gl_demand.specs.View.{outcome_tree};
+    ghost use Rattle.gl_demand.specs.Equal.{outcome_equal};
+    ghost use Rattle.std.specs.Prelude.{◌≡◌};
+    ghost use Rattle.std.proofs.Common.{sym};
+
+    ghost shares = { λ x y. outcome_tree y ≡ outcome_tree x };
+
+    ghost alike = { λ x y h. (outcome_equal x y).1 (sym h) };
+
+    fn share(&self) -> Result<Outcome, NoMemory> {
+        share_outcome(self)
+    }
+}
+
+fn share_outcome(outcome: &Outcome) -> Result<Outcome, NoMemory>
+    ensures { IfOk result (λ x. outcome_tree x ≡ outcome_tree outcome.now) }
+{
+    match outcome {
+        Outcome::Value(v) => Ok(Outcome::Value(v.share()?)),
+        Outcome::Settled(w) => Ok(Outcome::Settled(w.clone()?)),
+        Outcome::Abort(b) => Ok(Outcome::Abort(*b)),
+    }
+}

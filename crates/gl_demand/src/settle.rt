@@ -1,0 +1,250 @@
+//! The settling of a copy.
+ghost use Rattle.std.specs.Prelude.{◌≡◌, ◌++◌, ◌∷◌, [], List, ◌<◌, ◌≤◌, IsTrue, IfOk, IfErr, OnOk, map, length, option_map};
+ghost use Rattle.gl_query.specs.Evaluation.{LookAt};
+ghost use Rattle.gl_calculus.specs.Grid.{AreInOrder, Addr as PlainAddr, Size as PlainSize};
+ghost use Rattle.gl_calculus.specs.Value.{region, In, Oracle as Plain};
+ghost use Rattle.gl_calculus.specs.Oracle.{AreSizes};
+ghost use Rattle.gl_calculus.specs.Facts.{fact, facts};
+ghost use Rattle.gl_calculus.specs.Evaluation.{arrays, rounds, copy_budget, takes_a_round, array_at};
+ghost use Rattle.gl_calculus.specs.Sound.{is_sound_frame, is_sound_sheet};
+ghost use Rattle.gl_cells.specs.Sheet.{sheet};
+ghost use Rattle.gl_value.specs.View.{value_tree, sheet_tree, frame_tree};
+ghost use Rattle.gl_demand.specs.Held.{held_tree};
+ghost use Rattle.gl_demand.specs.Places.{filled_places};
+ghost use Rattle.gl_demand.specs.Walk.{world};
+ghost use Rattle.gl_demand.specs.Walks.{Walks};
+ghost use Rattle.gl_demand.specs.Settling.{Visits, all_rounds, halt_of};
+ghost use Rattle.gl_demand.specs.declared.trail.Halt.{Halt};
+
+use crate::blocks::CopyBlocks;
+use crate::context::Context;
+use crate::demand::own;
+use crate::held::Held;
+use crate::places::{held_in, places};
+use crate::trail::{Halt, Trail};
+use crate::{Budget, Known};
+use gl_cells::Cells;
+use gl_plane::{Addr, NoMemory, Oracle, Sizes};
+use gl_rounds::{IterFault, Round, iterate};
+use gl_value::{Env, SheetVal, Value};
+use std::alloc::Global;
+use std::rc::Rc;
+
+/// Settles a sheet value, which is sound: it looks at the region, and goes through the rounds from
+/// the empty oracle to the first that is its own next one. `Halt::Spent` where there is none within
+/// one round for each formula and each array override of the region, and eight more.
+pub fn settle<K: Known>(
+    ctx: &Context<K>,
+    s: &Rc<SheetVal>,
+    trail: &mut Trail,
+) -> Result<Oracle, Halt>
+    requires { IsTrue (is_sound_sheet (sheet_tree s.now.value)) }
+    ensures { Walks (world (sheet ctx.now.cells.now) ctx.now.w.now (K.outcomes ctx.now.known.now)) (LookAt (region (sheet_tree s.now.value)) (λ xs. rounds (sheet_tree s.now.value) xs (copy_budget (sheet_tree s.now.value) xs) [])) (λ o. o) trail.old result trail.new }
+{
+    match trail.look(s.region) {
+        Ok(()) => settle_region(ctx, s, trail),
+        Err(NoMemory) => Err(Halt::NoMemory),
+    }
+}
+
+/// The rounds, once the region is looked at.
+fn settle_region<K: Known>(
+    ctx: &Context<K>,
+    s: &Rc<SheetVal>,
+    trail: &mut Trail,
+) -> Result<Oracle, Halt>
+    requires { IsTrue (is_sound_sheet (sheet_tree s.now.value)) }
+    ensures { Walks (world (sheet ctx.now.cells.now) ctx.now.w.now (K.outcomes ctx.now.known.now)) (all_rounds (world (sheet ctx.now.cells.now) ctx.now.w.now (K.outcomes ctx.now.known.now)) (sheet_tree s.now.value)) (λ o. o) trail.old result trail.new }
+{
+    match places(ctx.alloc, ctx.cells, s) {
+        Ok(places) => settle_places(ctx, s, &places, trail),
+        Err(NoMemory) => Err(Halt::NoMemory),
+    }
+}
+
+/// The rounds over the addresses with content.
+fn settle_places<K: Known>(
+    ctx: &Context<K>,
+    s: &Rc<SheetVal>,
+    places: &[Addr],
+    trail: &mut Trail,
+) -> Result<Oracle, Halt>
+    requires sound { IsTrue (is_sound_sheet (sheet_tree s.now.value)) }
+    requires all { places.now ≡ filled_places (sheet ctx.now.cells.now) (sheet_tree s.now.value) }
+    requires few { length places.now ≤ 7019298 }
+    ensures { Walks (world (sheet ctx.now.cells.now) ctx.now.w.now (K.outcomes ctx.now.known.now)) (all_rounds (world (sheet ctx.now.cells.now) ctx.now.w.now (K.outcomes ctx.now.known.now)) (sheet_tree s.now.value)) (λ o. o) trail.old result trail.new }
+{
+    let budget = copy_budget(ctx.cells, s, places);
+    let blocks = CopyBlocks {
+        cells: ctx.cells,
+        sheet: s,
+    };
+    let mut round = CopyRound {
+        ctx,
+        copy: s,
+        places,
+    };
+    match iterate(ctx.alloc, &mut round, &s.region, &blocks, budget, trail) {
+        Ok(settled) => Ok(settled.oracle),
+        Err(fault) => Err(halt_of(fault)),
+    }
+}
+
+/// Why the walk halts where the rounds don't settle.
+fn halt_of(fault: IterFault<Halt>) -> Halt
+    ensures { result ≡ halt_of fault }
+{
+    match fault {
+        IterFault::Rounds(_) => Halt::Spent(Budget::CopyRounds),
+        IterFault::Round(halt) => halt,
+        IterFault::NoMemory => Halt::NoMemory,
+    }
+}
+
+/// How many rounds a sheet value may take: one for each formula and each array override of its
+/// region, and eight more.
+fn copy_budget(cells: &Cells, s: &SheetVal, places: &[Addr]) -> u32
+    requires sound { IsTrue (is_sound_sheet (sheet_tree s.now)) }
+    requires all { places.now ≡ filled_places (sheet cells.now) (sheet_tree s.now) }
+    requires few { length places.now ≤ 7019298 }
+    ensures { (w : Plain) → result ≡ copy_budget (sheet_tree s.now) (facts (sheet cells.now) w (region (sheet_tree s.now))) }
+{
+    let mut count = 8;
+    for a in places {
+        if takes_a_round(&held_in(cells, s, *a)) {
+            count += 1;
+        }
+    }
+    count
+}
+
+/// A formula takes a round, and so does a given array.
+#[tactic(auto, using(gl_value::specs::Forms::trees))]
+fn takes_a_round(held: &Option<Held>) -> bool
+    ensures { result ≡ takes_a_round (option_map held_tree held.now) }
+{
+    match held {
+        Some(Held::Formula(_)) => true,
+        Some(Held::Value(Value::Array(_))) => true,
+        Some(Held::Value(Value::One(_))) => false,
+        Some(Held::Scalar(_)) => false,
+        None => false,
+    }
+}
+
+/// The rounds of a sheet value: each visits the addresses with content.
+#[derive(Drop)]
+struct CopyRound<'a, 'b, K: Known> {
+    ctx: &'a Context<'b, K>,
+    copy: &'a Rc<SheetVal>,
+    places: &'a [Addr],
+    ghost sound: { IsTrue (is_sound_sheet (sheet_tree copy.now.value)) },
+    ghost all: { places.now ≡ filled_places (sheet ctx.now.cells.now) (sheet_tree copy.now.value) },
+}
+
+impl<K: Known> Round for CopyRound<'_, '_, K> {
+    ghost use Rattle.std.specs.Prelude.{◌≡◌};
+    ghost use Rattle.gl_cells.specs.Sheet.{sheet};
+    ghost use Rattle.gl_value.specs.View.{sheet_tree};
+    ghost use Rattle.gl_demand.specs.Walk.{world};
+    ghost use Rattle.gl_demand.specs.Walks.{Walks};
+    ghost use Rattle.gl_demand.specs.Settling.{Gives, Fails, round_arrays};
+
+    type Fault = Halt;
+
+    type Count = Trail;
+
+    ghost gives = { λ s. Gives (world (sheet s.ctx.now.cells.now) s.ctx.now.w.now (K.outcomes s.ctx.now.known.now)) (sheet_tree s.copy.now.value) };
+
+    ghost fails = { λ s. Fails (world (sheet s.ctx.now.cells.now) s.ctx.now.w.now (K.outcomes s.ctx.now.known.now)) (sheet_tree s.copy.now.value) };
+
+    ghost calls = { λ s c w r t d. (t ≡ s) × Walks (world (sheet s.ctx.now.cells.now) s.ctx.now.w.now (K.outcomes s.ctx.now.known.now)) (round_arrays (world (sheet s.ctx.now.cells.now) s.ctx.now.w.now (K.outcomes s.ctx.now.known.now)) (sheet_tree s.copy.now.value) w) (λ zs. zs) c r d };
+
+    fn sizes(&mut self, w: &Oracle, trail: &mut Trail) -> Result<Sizes, Halt> {
+        match frame(self.ctx.alloc, self.copy, w) {
+            Ok(env) => arrays_at(self.ctx, &env, self.places, trail),
+            Err(NoMemory) => Err(Halt::NoMemory),
+        }
+    }
+
+    ghost one = { λ s w x y h k. let both : _ = Prim.cc in both };
+}
+
+/// The frame of a sheet value under an oracle.
+#[tactic(auto, using(gl_value::specs::Forms::trees))]
+fn frame(alloc: Global, s: &Rc<SheetVal>, w: &Oracle) -> Result<Env, NoMemory>
+    ensures { IfOk result (λ e. frame_tree e ≡ In (sheet_tree s.now.value) w.now) }
+{
+    Ok(Env::In(s.clone()?, Rc::new(alloc, copied(alloc, w)?)?))
+}
+
+/// The same entries once more.
+fn copied(alloc: Global, w: &Oracle) -> Result<Oracle, NoMemory>
+    ensures { IfOk result (λ v. v ≡ w.now) }
+{
+    let mut copy = Oracle::new(alloc);
+    while let Some(entry) = w.at(copy.len()) {
+        match copy.push(entry) {
+            Ok(()) => {}
+            Err(NoMemory) => return Err(NoMemory),
+        }
+    }
+    Ok(copy)
+}
+
+/// The sizes of the arrays among the own values of some addresses, which are in row-major order.
+fn arrays_at<K: Known>(
+    ctx: &Context<K>,
+    env: &Env,
+    places: &[Addr],
+    trail: &mut Trail,
+) -> Result<Sizes, Halt>
+    requires frame { IsTrue (is_sound_frame (frame_tree env.now)) }
+    requires ordered { AreInOrder places.now }
+    ensures { Walks (world (sheet ctx.now.cells.now) ctx.now.w.now (K.outcomes ctx.now.known.now)) (arrays (frame_tree env.now) (map (fact (sheet ctx.now.cells.now) ctx.now.w.now) places.now)) (λ zs. zs) trail.old result trail.new }
+{
+    let mut sizes = Sizes::new(ctx.alloc);
+    for a in places {
+        match visit(ctx, env, *a, &mut sizes, trail) {
+            Ok(()) => {}
+            Err(halt) => return Err(halt),
+        }
+    }
+    Ok(sizes)
+}
+
+/// Adds the size of an address's own value, if that is an array.
+fn visit<K: Known>(
+    ctx: &Context<K>,
+    env: &Env,
+    a: Addr,
+    sizes: &mut Sizes,
+    trail: &mut Trail,
+) -> Result<(), Halt>
+    requires frame { IsTrue (is_sound_frame (frame_tree env.now)) }
+    requires last { (z : PlainSize) → AreSizes (sizes.old ++ (a, z) ∷ []) }
+    ensures walk { Visits (world (sheet ctx.now.cells.now) ctx.now.w.now (K.outcomes ctx.now.known.now)) (frame_tree env.now) (fact (sheet ctx.now.cells.now) ctx.now.w.now a) sizes.old trail.old result sizes.new trail.new }
+    ensures ordered { (rest : List PlainAddr) → AreInOrder (map (λ x. x.0) sizes.old ++ a ∷ rest) → OnOk result (AreInOrder (map (λ x. x.0) sizes.new ++ rest)) }
+{
+    match own(ctx, env, a, trail) {
+        Ok(v) => add_array(sizes, a, v),
+        Err(halt) => Err(halt),
+    }
+}
+
+/// Appends the size of a value, if it is an array.
+#[tactic(auto, using(gl_value::specs::Forms::trees))]
+fn add_array(sizes: &mut Sizes, a: Addr, v: Option<Value>) -> Result<(), Halt>
+    requires { (z : PlainSize) → AreSizes (sizes.old ++ (a, z) ∷ []) }
+    ensures ok { OnOk result (sizes.new ≡ sizes.old ++ array_at a (option_map value_tree v)) }
+    ensures err { IfErr result (λ h. h ≡ Halt.NoMemory) }
+{
+    match v {
+        Some(Value::Array(array)) => match sizes.push(a, array.size()) {
+            Ok(()) => Ok(()),
+            Err(NoMemory) => Err(Halt::NoMemory),
+        },
+        Some(Value::One(_)) => Ok(()),
+        None => Ok(()),
+    }
+}

@@ -1,0 +1,85 @@
+//! One evaluation.
+ghost use Rattle.std.specs.Prelude.{◌≡◌, IsTrue, IfOk, map};
+ghost use Rattle.gl_query.specs.Lists.{distinct};
+ghost use Rattle.gl_query.specs.Query.{found, asked, looked};
+ghost use Rattle.gl_calculus.specs.Key.{same_key};
+ghost use Rattle.gl_calculus.specs.Evaluation.{program};
+ghost use Rattle.gl_calculus.specs.Sound.{is_sound_key, IsProperKey};
+ghost use Rattle.gl_ast.specs.View.{version_tree};
+ghost use Rattle.gl_cells.specs.Sheet.{sheet};
+ghost use Rattle.gl_demand.specs.View.{key_tree, found_tree};
+ghost use Rattle.gl_demand.specs.Sound.{IsSoundTable, IsSoundFound, AreSoundKeys};
+ghost use Rattle.gl_demand.specs.Steps.{one_more};
+
+use crate::evaluating::evaluate;
+use crate::trail::Trail;
+use crate::{Found, Key, Known, Steps, Turn, Watch};
+use gl_ast::Version;
+use gl_cells::Cells;
+use gl_plane::{NoMemory, Oracle};
+use indexmap::IndexSet;
+use std::alloc::Global;
+
+/// Evaluates a key for one level against the known outcomes, in the sheet and the oracle of the
+/// top.
+///
+/// It finds the key's outcome, or the first key that it demands without known outcome. The reads
+/// are the distinct keys that it demands, in the order of first demand, with that key last; the
+/// looked ranges are all that it looks at, in order. Each call counts as one step, also where it
+/// answers `NoMemory`.
+pub fn step<K: Known, L: Watch>(
+    alloc: Global,
+    cells: &Cells,
+    w: &Oracle,
+    key: &Key,
+    known: &K,
+    version: Version,
+    steps: &mut Steps<L>,
+) -> Result<Turn, NoMemory>
+    requires sound { IsTrue (is_sound_key (key_tree key.now)) }
+    requires proper { IsProperKey (sheet cells.now) (key_tree key.now) }
+    requires known { IsSoundTable (K.outcomes known.now) }
+    ensures found { IfOk result (λ t. found_tree t.found
+        ≡ found (K.outcomes known.now) (program (version_tree version) (sheet cells.now) w.now (key_tree key.now))) }
+    ensures reads { IfOk result (λ t. map key_tree t.reads.items
+        ≡ distinct same_key (asked (K.outcomes known.now) (program (version_tree version) (sheet cells.now) w.now (key_tree key.now)))) }
+    ensures looked { IfOk result (λ t. t.looked.items
+        ≡ looked (K.outcomes known.now) (program (version_tree version) (sheet cells.now) w.now (key_tree key.now))) }
+    ensures sound_found { IfOk result (λ t. IsSoundFound (key_tree key.now) (found_tree t.found)) }
+    ensures sound_reads { IfOk result (λ t. AreSoundKeys (map key_tree t.reads.items)) }
+    ensures counted { steps.new ≡ one_more steps.old }
+{
+    steps.count(key);
+    let mut trail = Trail::new(alloc);
+    match evaluate(alloc, cells, w, key, known, version, &mut trail) {
+        Ok(found) => turn(alloc, found, trail),
+        Err(NoMemory) => Err(NoMemory),
+    }
+}
+
+/// What was found, with the trail.
+fn turn(alloc: Global, found: Found, trail: Trail) -> Result<Turn, NoMemory>
+    ensures found { IfOk result (λ t. found_tree t.found ≡ found_tree found) }
+    ensures reads { IfOk result (λ t. map key_tree t.reads.items ≡ map key_tree trail.reads.keys) }
+    ensures looked { IfOk result (λ t. t.looked.items ≡ trail.looked.items) }
+{
+    let Trail { reads, looked } = trail;
+    match in_order(alloc, reads) {
+        Ok(reads) => Ok(Turn {
+            found,
+            reads,
+            looked,
+        }),
+        Err(NoMemory) => Err(NoMemory),
+    }
+}
+
+/// The keys of a set in their order.
+fn in_order(alloc: Global, keys: IndexSet<Key>) -> Result<Vec<Key>, NoMemory>
+    ensures { IfOk result (λ v. v.items ≡ keys.keys) }
+{
+    match keys.into_iter().collect(alloc) {
+        Ok(keys) => Ok(keys),
+        Err(_) => Err(NoMemory),
+    }
+}

@@ -1,0 +1,36 @@
+//! What an evaluation has read and looked at, and why it stops.
+ghost use Rattle.std.specs.Prelude.{map};
+ghost use Rattle.gl_demand.specs.View.{key_tree};
+ghost use Rattle.gl_demand.specs.Sound.{AreSoundKeys};
+
+use crate::{Budget, Key};
+use gl_plane::{NoMemory, Range};
+use indexmap::IndexSet;
+
+/// The distinct keys that were read, in the order of their first reads, and the ranges that were
+/// looked at.
+#[derive(Drop)]
+pub struct Trail {
+    pub reads: IndexSet<Key>,
+    pub looked: Vec<Range>,
+    ghost sound: { AreSoundKeys (map key_tree reads.keys) },
+}
+
+/// Why an evaluation stops: at a key without known outcome, at a spent budget, or without memory.
+#[derive(Drop)]
+pub enum Halt {
+    Need(Key),
+    Spent(Budget),
+    NoMemory,
+}
+
+impl From<NoMemory> for Halt {
+    ghost use Rattle.std.specs.Prelude.{◌≡◌};
+    ghost use Rattle.gl_demand.specs.declared.trail.Halt.{Halt};
+
+    ghost from_gives = { λ _ e. e ≡ Halt.NoMemory };
+
+    fn from(_: NoMemory) -> Halt {
+        Halt::NoMemory
+    }
+}
