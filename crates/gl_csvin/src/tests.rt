@@ -89,3 +89,25 @@ fn fields_of_payloads(rt: HostRuntime) -> Result<(), Fail> {
     }
     Ok(())
 }
+
+/// A byte so many times, and a line end.
+fn push_line(payload: &mut Vec<u8>, byte: u8, count: u32) -> Result<(), Fail> {
+    for _ in 0..count {
+        payload.push(byte)?;
+    }
+    payload.push(b'\n')?;
+    Ok(())
+}
+
+/// 1,048,576 bytes, the most that an import takes, in 4,096 records of one field.
+#[test]
+fn the_longest_payload(rt: HostRuntime) -> Result<(), Fail> {
+    let mut payload = Vec::new(rt.alloc());
+    for _ in 0..4096u32 {
+        push_line(&mut payload, b'a', 255)?;
+    }
+    assert_eq!(rt; payload.len(), 1_048_576);
+    let found = contents(rt.alloc(), payload.as_slice(), address("B2")?)?;
+    assert_eq!(rt; found.len(), 4096);
+    Ok(())
+}
