@@ -131,6 +131,8 @@ fn rows_and_columns(rt: HostRuntime) -> Result<(), Fail> {
         assert_eq!(rt; (at(&v, i, j), at(&w, j, i)), (n, n), "at {i} {j}");
     }
     assert_eq!(rt; (code(&extent_rows(&w)), code(&extent_columns(&w))), (3, 2));
+    let u = counted(rt.alloc(), 4, 2)?;
+    assert_eq!(rt; (code(&extent_rows(&u)), code(&extent_columns(&u))), (4, 2));
     for (a, n, own) in [(Blank, 1i64, -10i64), (Na, -3, -3)] {
         let x = value(a);
         assert_eq!(rt; (code(&extent_rows(&x)), code(&extent_columns(&x))), (n, n));

@@ -41,6 +41,7 @@ fn atoms(alloc: Global) -> Result<Formula, Fail> {
     let mut all = Vec::new(alloc);
     all.push(Formula::Text(text))?;
     all.push(Formula::Bool(false))?;
+    all.push(Formula::At(address(27, 10)?))?;
     all.push(Formula::Spill(address(26, 1)?))?;
     all.push(area()?)?;
     Ok(Formula::Call(Fun::VStack, all))
@@ -64,6 +65,12 @@ fn binding(alloc: Global) -> Result<Formula, Fail> {
     Ok(Formula::Let(x, Box::new(alloc, Formula::Int(5))?, Box::new(alloc, less)?))
 }
 
+/// A sum of three numbers, the first two in parentheses.
+fn grouped(alloc: Global) -> Result<Formula, Fail> {
+    let first = two(alloc, Level::Sum, Formula::Int(1), Op::Add, Formula::Int(2))?;
+    two(alloc, Level::Sum, first, Op::Add, Formula::Int(3))
+}
+
 #[test]
 fn canonical_texts(rt: HostRuntime) -> Result<(), Fail> {
     let alloc = rt.alloc();
@@ -72,8 +79,10 @@ fn canonical_texts(rt: HostRuntime) -> Result<(), Fail> {
     let text = print(alloc, &atoms(alloc)?)?;
     assert_eq!(rt;
         text.as_str(),
-        "VSTACK(\"a\\\\\\\"\\n\\r\\t\\x01\\x7F\u{20ac}\",FALSE,Z1#,AA10:ZZ9999)"
+        "VSTACK(\"a\\\\\\\"\\n\\r\\t\\x01\\x7F\u{20ac}\",FALSE,AA10,Z1#,AA10:ZZ9999)"
     );
+    let text = print(alloc, &grouped(alloc)?)?;
+    assert_eq!(rt; text.as_str(), "(1+2)+3");
     let text = print(alloc, &binding(alloc)?)?;
     assert_eq!(rt; text.as_str(), "LET(x,5,x&2<=3)");
     Ok(())

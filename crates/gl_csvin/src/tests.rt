@@ -20,7 +20,7 @@ fn is_content(content: &Content, number: Option<i64>, text: &str) -> bool {
 /// Fields of B2 and on, each with its address, its number and its text.
 #[test]
 fn fields_of_payloads(rt: HostRuntime) -> Result<(), Fail> {
-    let cases: [(&str, &[(&str, Option<i64>, &str)]); 9] = [
+    let cases: [(&str, &[(&str, Option<i64>, &str)]); 10] = [
         (
             "-7,\"a\nb\"\n,=A9\n",
             &[
@@ -73,7 +73,8 @@ fn fields_of_payloads(rt: HostRuntime) -> Result<(), Fail> {
         ),
         // an empty field alone is a record, and a quote may be left open
         ("\"\"\n\"a,\nb", &[("B3", None, "a,\nb")]),
-        // two marks go, and a third is text
+        // one mark or two go, and a third is text
+        ("\u{feff}7\n", &[("B2", Some(7), "")]),
         ("\u{feff}\u{feff}7", &[("B2", Some(7), "")]),
         ("\u{feff}\u{feff}\u{feff}7", &[("B2", None, "\u{feff}7")]),
         ("", &[]),
