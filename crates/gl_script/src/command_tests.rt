@@ -203,8 +203,10 @@ fn no_addresses(rt: HostRuntime) -> Result<(), Fail> {
 
 #[test]
 fn formulas(rt: HostRuntime) -> Result<(), Fail> {
-    let cases: [(&str, &str); 18] = [
+    let cases: [(&str, &str); 22] = [
         ("set A1 = 1 + A1 ", "set formula"),
+        ("set A1 =SEQUENCE(3,1)", "set formula"),
+        ("set B1 =A1#*2", "set formula"),
         ("set A1 =", "formula syntax"),
         ("set A1 =$A1", "formula token"),
         ("set A1 =A0", "formula token"),
@@ -218,7 +220,9 @@ fn formulas(rt: HostRuntime) -> Result<(), Fail> {
         ("set A1 =SUM(A1:ZZ9999)", "formula range"),
         ("set A1 =B1:A1", "formula range"),
         ("set A1 =FOO(1)", "formula name"),
+        ("set A1 =x", "formula name"),
         ("set A1 =LET(x,x,1)", "formula name"),
+        ("set A1 =G(A1:B1,A1)", "formula arity"),
         ("set A1 =ABS(1,2)", "formula arity"),
         ("set A1 =SHEET(1+2)", "formula arity"),
         ("set A0 =1+", "error address"),
@@ -263,6 +267,17 @@ fn long_lines(rt: HostRuntime) -> Result<(), Fail> {
     for (start, piece, count, end, want) in cases {
         let line = long_line(rt.alloc(), start, piece, count, end)?;
         assert_eq!(rt; told(rt.alloc(), line.as_bytes()), want, "{start}");
+    }
+    Ok(())
+}
+
+#[test]
+fn nested_parentheses(rt: HostRuntime) -> Result<(), Fail> {
+    let cases: [(u32, &str); 2] = [(64u32, "set formula"), (65u32, "formula deep")];
+    for (count, want) in cases {
+        let open = long_line(rt.alloc(), "set A1 =", "(", count, "1")?;
+        let line = long_line(rt.alloc(), open.as_str(), ")", count, "")?;
+        assert_eq!(rt; told(rt.alloc(), line.as_bytes()), want, "{count}");
     }
     Ok(())
 }
