@@ -21,3 +21,4 @@ pub mod Rounds
 pub mod Copying
 pub mod Chains
 pub mod Bindings
+pub mod IsFormula

@@ -1,0 +1,15 @@
+-- A cell key is proper exactly where its address holds a formula.
+use Rattle.std.proofs.Common.{◌≡◌, Bool, true, false, Option, Some, None, IsTrue, IsFalse, refl, sym, ◌∙◌, subst}
+use Rattle.gl_calculus.specs.Formula.{Formula}
+use Rattle.gl_calculus.specs.Reference.{Held, Given, Computed}
+use Rattle.gl_demand.specs.Held.{is_computed}
+
+pub is_formula : (h : Option Held) → IsTrue (is_computed h) → (f : Formula) × (h ≡ Some (Computed f))
+is_formula None e = absurd (cc e)
+is_formula (Some (Given v)) e = absurd (cc e)
+is_formula (Some (Computed f)) e = (f, refl)
+
+pub no_formula : (h : Option Held) → IsFalse (is_computed h) → (f : Formula) → h ≡ Some (Computed f) → ⊥
+no_formula h n f e =
+    let t : is_computed (Some (Computed f)) ≡ false = subst (λ x. is_computed x ≡ false) e n in
+    absurd (cc t)
