@@ -1,15 +1,15 @@
 //! The elements that references show.
 ghost use Rattle.std.specs.Prelude.{◌≡◌, Some, IsTrue, IfOk, IfErr, IfSome, option_map};
-ghost use Rattle.gl_calculus.specs.Lift.{item_or};
 ghost use Rattle.gl_calculus.specs.Reference.{shown, spilled, spilling};
 ghost use Rattle.gl_calculus.specs.Sound.{is_sound_scalar, is_sound_value};
 ghost use Rattle.gl_plane.specs.Permit.{permit_tree};
-ghost use Rattle.gl_value.specs.View.{scalar_tree, value_tree, array_tree};
+ghost use Rattle.gl_value.specs.View.{scalar_tree, value_tree};
 ghost use Rattle.gl_demand.specs.declared.trail.Halt.{Halt};
 
+use crate::shows;
 use crate::trail::Halt;
 use gl_plane::{NoMemory, Permit, Share};
-use gl_value::{Array, ErrKind, Scalar, Value};
+use gl_value::{ErrKind, Scalar, Value};
 
 /// A scalar once more.
 pub fn share_scalar(x: &Scalar) -> Result<Scalar, Halt>
@@ -33,46 +33,21 @@ pub fn share_value(x: &Value) -> Result<Value, Halt>
     }
 }
 
-/// The same element, which is sound where the array is.
-fn element_or(a: &Array, i: u16, j: u16, beyond: Scalar) -> Result<Scalar, Halt>
-    ensures value { IfOk result (λ x. scalar_tree x ≡ item_or (scalar_tree beyond) (array_tree a.now) i j) }
-    ensures err { IfErr result (λ h. h ≡ Halt.NoMemory) }
-    ensures sound { IsTrue (is_sound_value (array_tree a.now)) → IsTrue (is_sound_scalar (scalar_tree beyond)) → IfOk result (λ x. IsTrue (is_sound_scalar (scalar_tree x))) }
-{
-    element_of(a, i, j, beyond)
-}
-
-/// The element of an array in a row and a column from 0, or the scalar that stands beyond it.
-#[tactic(auto, using(crate::proofs::Showing::item_some, crate::proofs::Showing::item_none))]
-fn element_of(a: &Array, i: u16, j: u16, beyond: Scalar) -> Result<Scalar, Halt>
-    ensures value { IfOk result (λ x. scalar_tree x ≡ item_or (scalar_tree beyond) (array_tree a.now) i j) }
-    ensures err { IfErr result (λ h. h ≡ Halt.NoMemory) }
-{
-    match a.item(i, j) {
-        Some(x) => share_scalar(x),
-        None => Ok(beyond),
-    }
-}
-
 /// What an address with content shows: an array its corner, unless it is refused.
-#[tactic(auto, using(gl_value::specs::Forms::trees))]
 pub fn shown(permit: Option<Permit>, v: &Value) -> Result<Scalar, Halt>
     requires { IsTrue (is_sound_value (value_tree v.now)) }
     ensures value { IfOk result (λ x. scalar_tree x ≡ shown (option_map permit_tree permit) (value_tree v.now)) }
     ensures err { IfErr result (λ h. h ≡ Halt.NoMemory) }
     ensures sound { IfOk result (λ x. IsTrue (is_sound_scalar (scalar_tree x))) }
 {
-    match v {
-        Value::One(x) => share_scalar(x),
-        Value::Array(a) => match permit {
-            Some(Permit::Refused) => Ok(Scalar::Err(ErrKind::Spill)),
-            Some(Permit::Permitted) => element_or(a, 0, 0, Scalar::Err(ErrKind::Na)),
-            None => element_or(a, 0, 0, Scalar::Err(ErrKind::Na)),
-        },
+    match shows::shown(permit, v) {
+        Ok(x) => Ok(x),
+        Err(NoMemory) => Err(Halt::NoMemory),
     }
 }
 
 /// The element at an offset of a root's own value; a blank where there is none.
+#[tactic(auto, using(gl_value::specs::Forms::trees))]
 pub fn spilled(v: &Option<Value>, i: u16, j: u16) -> Result<Scalar, Halt>
     requires { IfSome v.now (λ x. IsTrue (is_sound_value (value_tree x))) }
     ensures value { IfOk result (λ x. scalar_tree x ≡ spilled (option_map value_tree v.now) i j) }
@@ -86,16 +61,15 @@ pub fn spilled(v: &Option<Value>, i: u16, j: u16) -> Result<Scalar, Halt>
 }
 
 /// The same of a value that is there.
-#[tactic(auto, using(gl_value::specs::Forms::trees))]
 fn spilled_from(v: &Value, i: u16, j: u16) -> Result<Scalar, Halt>
     requires { IsTrue (is_sound_value (value_tree v.now)) }
     ensures value { IfOk result (λ x. scalar_tree x ≡ spilled (Some (value_tree v.now)) i j) }
     ensures err { IfErr result (λ h. h ≡ Halt.NoMemory) }
     ensures sound { IfOk result (λ x. IsTrue (is_sound_scalar (scalar_tree x))) }
 {
-    match v {
-        Value::One(_) => Ok(Scalar::Blank),
-        Value::Array(a) => element_or(a, i, j, Scalar::Blank),
+    match shows::spilled(v, i, j) {
+        Ok(x) => Ok(x),
+        Err(NoMemory) => Err(Halt::NoMemory),
     }
 }
 

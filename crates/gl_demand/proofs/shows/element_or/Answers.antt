@@ -6,7 +6,7 @@ use Rattle.std.specs.Prelude.{◌≡◌}
 use Rattle.gl_calculus.specs.Sound.{is_sound_scalar}
 use Rattle.gl_value.specs.View.{scalar_tree, array_tree}
 use Rattle.gl_demand.proofs.Showing.{item_or_sound, sound_same}
-use Rattle.gl_demand.proofs.elements.element_or.Goals as goal
+use Rattle.gl_demand.proofs.shows.element_or.Goals as goal
 
 pub returns-clause-sound : goal.returns-clause-sound
 returns-clause-sound c = λ h k.
