@@ -15,6 +15,7 @@ mod noting;
 mod operators;
 mod outcome;
 mod places;
+mod ranges;
 mod reading;
 mod scope;
 mod scoping;
