@@ -14,3 +14,4 @@ pub mod Cells
 pub mod Stopped
 pub mod Places
 pub mod Settling
+pub mod Viewing

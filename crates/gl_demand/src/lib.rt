@@ -24,6 +24,7 @@ mod spills;
 mod stepping;
 mod steps;
 mod trail;
+mod viewing;
 
 pub use blocks::{CopyBlocks, TopBlocks};
 pub use key::Key;
