@@ -11,7 +11,6 @@ pub mod ReadingOn
 pub mod Parts
 pub mod Trees
 pub mod Spilling
-pub mod Rows
 pub mod Ordered
 pub mod Counting
 pub mod Firsts

@@ -1,58 +1,98 @@
 -- The addresses of a range read one after another.
-use Rattle.std.proofs.Common.{◌≡◌, ℕ, List, [], ◌∷◌, ◌++◌, map, Option, Some, None, Result, Ok, Err, refl, ap, sym, subst, ◌∙◌, append_assoc}
-use Rattle.std.proofs.lemmas.List.{append-nil}
-use Rattle.gl_query.specs.Query.{Found, Ready, Need}
-use Rattle.gl_query.specs.Evaluation.{bind}
-use Rattle.gl_calculus.specs.Grid.{Addr}
+use Rattle.std.proofs.Common.{◌≡◌, IsTrue, List, [], ◌∷◌, ◌++◌, map, Result, Ok, Err, IfOk, IfErr, ap, sym, subst, ◌∙◌}
+use Rattle.std.proofs.lemmas.List.{append-nil, map-append}
+use Rattle.std.specs.declared.alloc.Global.{Global}
+use Rattle.std.specs.declared.vec.Vec.{Vec}
+use Rattle.gl_query.specs.Query.{Ready}
+use Rattle.gl_calculus.specs.Grid.{Addr, Range, extents}
 use Rattle.gl_calculus.specs.Value as V
 use Rattle.gl_calculus.specs.Value.{Frame}
-use Rattle.gl_calculus.specs.Facts.{Fact, fact}
-use Rattle.gl_calculus.specs.Key.{Key, Budget, Eval, give, on_result, ◌>>=◌}
-use Rattle.gl_calculus.specs.Reference.{Reading, deref, deref_all}
-use Rattle.gl_value.specs.View.{scalar_tree}
+use Rattle.gl_calculus.specs.Facts.{Fact, facts}
+use Rattle.gl_calculus.specs.Key.{Eval, give, on_result, ◌>>=◌}
+use Rattle.gl_calculus.specs.Reference.{Reading, deref, deref_all, at_range}
+use Rattle.gl_calculus.specs.Sound.{is_sound_scalar, are_sound}
+use Rattle.gl_lift.proofs.Soundness.{sound_more}
+use Rattle.gl_value.specs.View.{scalar_tree, value_tree, item_trees}
 use Rattle.gl_value.specs.declared.Scalar.{Scalar}
-use Rattle.gl_demand.specs.View.{key_tree, budget_tree}
-use Rattle.gl_demand.specs.Walk.{World, Trail, End, walk, then_walk}
+use Rattle.gl_value.specs.declared.Value.{Value}
+use Rattle.gl_demand.specs.Walk.{World, Trail, walk, then_walk, looking, behind}
 use Rattle.gl_demand.specs.Walks.{Walks, trail_tree}
-use Rattle.gl_demand.specs.Prefixed.{prefixed}
+use Rattle.gl_demand.specs.Seen.{AreSeen, ReadsOne}
 use Rattle.gl_demand.specs.declared.trail.Trail as Code
 use Rattle.gl_demand.specs.declared.trail.Halt.{Halt}
 use Rattle.gl_demand.specs.declared.trail.Halt.TheVariants as halt
-use Rattle.gl_demand.proofs.Walking.{walk-bind, walk-on}
+use Rattle.gl_demand.proofs.Walking.{walk-bind, walk-on, goes_on, halts, later, behind_twice, behind_none, joined}
+use Rattle.gl_demand.proofs.Seeing.{none_seen}
+use Rattle.gl_demand.proofs.References.{gives}
 
-prefixed_twice : (xs ys : List V.Scalar) (e : End (Result (List V.Scalar) Budget)) → prefixed xs (prefixed ys e) ≡ prefixed (xs ++ ys) e
-prefixed_twice xs ys (Ready (Ok zs), t) = ap (λ l. (Ready (Ok l), t)) (sym (append_assoc xs ys zs))
-prefixed_twice xs ys (Ready (Err b), t) = refl
-prefixed_twice xs ys (Need k, t) = refl
+-- What a reference has read so far: its walk goes on with the facts that are left.
+pub record ReadSoFar (w : World) (e : Frame) (all : List Fact) (start : Code.Trail) (roots : List Addr) (before : List Scalar) (rest : List Fact) (now : Code.Trail) : Type 0 where
+  pub seen : List Fact
+  pub are_seen : AreSeen w roots seen
+  pub walked : walk w (deref_all e [] all) (trail_tree start) ≡ behind (map scalar_tree before) (walk w (deref_all e seen rest) (trail_tree now))
 
-pub prefixed_none : (e : End (Result (List V.Scalar) Budget)) → prefixed [] e ≡ e
-prefixed_none (Ready (Ok zs), t) = refl
-prefixed_none (Ready (Err b), t) = refl
-prefixed_none (Need k, t) = refl
+pub still_sound : (xs ys : List Scalar) (x : Scalar) → ys ≡ xs ++ x ∷ [] → IsTrue (are_sound (item_trees xs)) → IsTrue (is_sound_scalar (scalar_tree x)) → IsTrue (are_sound (item_trees ys))
+still_sound xs ys x e h k = subst (λ zs. IsTrue (are_sound (item_trees zs))) (sym e) (sound_more xs x h k)
 
-module _ (w : World) where
-  consed : (y : V.Scalar) (e : End (Result (List V.Scalar) Budget)) → then_walk e (λ r u. walk w (on_result (λ ys. give (y ∷ ys)) r) u) ≡ prefixed (y ∷ []) e
-  consed y (Ready (Ok ys), t) = refl
-  consed y (Ready (Err b), t) = refl
-  consed y (Need k, t) = refl
-
-  module _ (e : Frame) (s : List Fact) (x : Fact) (rest : List Fact) where
+module _ (w : World) (e : Frame) where
+  module _ (s : List Fact) (x : Fact) (rest : List Fact) where
     abbrev on : Reading → Eval (List V.Scalar)
     on y = deref_all e y.1 rest >>= λ ys. give (y.0 ∷ ys)
 
-    pub next_walk : (out : List V.Scalar) (t u : Trail) (y : V.Scalar) (s' : List Fact) → walk w (deref e s x) t ≡ (Ready (Ok (y, s')), u)
-        → prefixed out (walk w (deref_all e s (x ∷ rest)) t) ≡ prefixed (out ++ y ∷ []) (walk w (deref_all e s' rest) u)
+    next_walk : (out : List V.Scalar) (t u : Trail) (y : V.Scalar) (s' : List Fact) → walk w (deref e s x) t ≡ (Ready (Ok (y, s')), u)
+        → behind out (walk w (deref_all e s (x ∷ rest)) t) ≡ behind (out ++ y ∷ []) (walk w (deref_all e s' rest) u)
     next_walk out t u y s' h =
-        ap (prefixed out) (walk-on w on (deref e s x) t (y, s') u h ∙ walk-bind w (on_result (λ ys. give (y ∷ ys))) (deref_all e s' rest) u ∙ consed y (walk w (deref_all e s' rest) u))
-        ∙ prefixed_twice out (y ∷ []) (walk w (deref_all e s' rest) u)
+        ap (behind out) (walk-on w on (deref e s x) t (y, s') u h ∙ walk-bind w (on_result (λ ys. give (y ∷ ys))) (deref_all e s' rest) u ∙ joined w (y ∷ []) (walk w (deref_all e s' rest) u))
+        ∙ behind_twice out (y ∷ []) (walk w (deref_all e s' rest) u)
 
-    -- a halt ends the whole
-    pub all_halts : {A B : Type 0} (out : List V.Scalar) (p : Eval (List V.Scalar)) (f : A → Reading) (f' : B → List V.Scalar) (old mid new : Code.Trail) (h : Halt)
-        → walk w p (trail_tree old) ≡ prefixed out (walk w (deref_all e s (x ∷ rest)) (trail_tree mid)) → Walks w (deref e s x) f mid (Err h) new → Walks w p f' old (Err h) new
-    all_halts out p f f' old mid new (halt.Need k) q m = q ∙ ap (prefixed out) (walk-bind w (on_result on) (deref e s x) (trail_tree mid) ∙ ap (λ z. then_walk z (λ r v. walk w (on_result on r) v)) m)
-    all_halts out p f f' old mid new (halt.Spent b) q m = q ∙ ap (prefixed out) (walk-bind w (on_result on) (deref e s x) (trail_tree mid) ∙ ap (λ z. then_walk z (λ r v. walk w (on_result on r) v)) m)
-    all_halts out p f f' old mid new halt.NoMemory q m = tt
+  module _ (all : List Fact) (start : Code.Trail) where
+    pub read_none : (roots : List Addr) (items : List Scalar) → roots ≡ [] → items ≡ [] → ReadSoFar w e all start roots items all start
+    read_none roots items h k = record {
+      seen = [];
+      are_seen = subst (λ ks. AreSeen w ks []) (sym h) (none_seen w);
+      walked = sym (behind_none (walk w (deref_all e [] all) (trail_tree start))) ∙ ap (λ xs. behind (map scalar_tree xs) (walk w (deref_all e [] all) (trail_tree start))) (sym k);
+    }
 
-  -- all are read
-  pub all_read : (e : Frame) (s : List Fact) (out : List V.Scalar) (p : Eval (List V.Scalar)) (old t : Trail) → walk w p old ≡ prefixed out (walk w (deref_all e s []) t) → walk w p old ≡ (Ready (Ok out), t)
-  all_read e s out p old t h = h ∙ ap (λ l. (Ready (Ok l), t)) (append-nil out)
+    module _ (x : Fact) (rest left : List Fact) (roots roots' : List Addr) (before after : List Scalar) (mid new : Code.Trail) (far : ReadSoFar w e all start roots before left mid) (split : left ≡ x ∷ rest) where
+      opened : walk w (deref_all e [] all) (trail_tree start) ≡ behind (map scalar_tree before) (walk w (deref_all e far.seen (x ∷ rest)) (trail_tree mid))
+      opened = far.walked ∙ ap (λ l. behind (map scalar_tree before) (walk w (deref_all e far.seen l) (trail_tree mid))) split
+
+      pub read_more : (y : Scalar) → ReadsOne w (deref e far.seen x) mid (Ok y) roots' new → after ≡ before ++ y ∷ [] → ReadSoFar w e all start roots' after rest new
+      read_more y r k = record {
+        seen = r.seen;
+        are_seen = r.are_seen;
+        walked =
+            opened
+            ∙ next_walk far.seen x rest (map scalar_tree before) (trail_tree mid) (trail_tree new) (scalar_tree y) r.seen r.walk
+            ∙ ap (λ l. behind l (walk w (deref_all e r.seen rest) (trail_tree new))) (sym (ap (map scalar_tree) k ∙ map-append scalar_tree before (y ∷ [])));
+      }
+
+      -- a halt ends the whole
+      pub read_halts : (h : Halt) → ReadsOne w (deref e far.seen x) mid (Err h) roots' new → Walks {T = Vec Scalar Global} w (deref_all e [] all) (λ v. map scalar_tree v.items) start (Err h) new
+      read_halts (halt.Need k) r = opened ∙ ap (behind (map scalar_tree before)) (walk-bind w (on_result (on far.seen x rest)) (deref e far.seen x) (trail_tree mid) ∙ ap (λ z. then_walk z (λ o v. walk w (on_result (on far.seen x rest) o) v)) r.walk)
+      read_halts (halt.Spent b) r = opened ∙ ap (behind (map scalar_tree before)) (walk-bind w (on_result (on far.seen x rest)) (deref e far.seen x) (trail_tree mid) ∙ ap (λ z. then_walk z (λ o v. walk w (on_result (on far.seen x rest) o) v)) r.walk)
+      read_halts halt.NoMemory r = tt
+
+    pub read_all : (roots : List Addr) (items : List Scalar) (left : List Fact) (now : Code.Trail) → ReadSoFar w e all start roots items left now → left ≡ [] → walk w (deref_all e [] all) (trail_tree start) ≡ (Ready (Ok (map scalar_tree items)), trail_tree now)
+    read_all roots items left now far h =
+        far.walked ∙ ap (λ l. behind (map scalar_tree items) (walk w (deref_all e far.seen l) (trail_tree now))) h ∙ ap (λ l. (Ready (Ok l), trail_tree now)) (append-nil (map scalar_tree items))
+
+  -- ---- a range
+
+  module _ (r : Range) (old mid new : Code.Trail) where
+    abbrev made : List V.Scalar → Eval V.Value
+    made ys = give (V.Value.Array (extents r) (V.scalars ys))
+
+    abbrev scalars_read : Eval (List V.Scalar)
+    scalars_read = deref_all e [] (facts w.cells w.oracle r)
+
+    pub range_on : (items : Vec Scalar Global) (o : Result Value Halt) → trail_tree mid ≡ looking r (trail_tree old) → Walks w scalars_read (λ (v : Vec Scalar Global). map scalar_tree v.items) mid (Ok items) new
+        → IfOk o (λ v. value_tree v ≡ V.Value.Array (extents r) (item_trees items.items)) → IfErr o (λ h. h ≡ halt.NoMemory) → Walks w (at_range e r) value_tree old o new
+    range_on items o m k c d =
+        later w (at_range e r) (scalars_read >>= made) value_tree old mid new o (ap (walk w (scalars_read >>= made)) (sym m))
+        (goes_on w made scalars_read (λ (v : Vec Scalar Global). map scalar_tree v.items) value_tree mid new new items o k (gives w (V.Value.Array (extents r) (item_trees items.items)) value_tree new o c d))
+
+    pub range_halts : (h : Halt) → trail_tree mid ≡ looking r (trail_tree old) → Walks w scalars_read (λ (v : Vec Scalar Global). map scalar_tree v.items) mid (Err h) new → Walks w (at_range e r) value_tree old (Err h) new
+    range_halts h m k =
+        later w (at_range e r) (scalars_read >>= made) value_tree old mid new (Err h) (ap (walk w (scalars_read >>= made)) (sym m))
+        (halts w made scalars_read (λ (v : Vec Scalar Global). map scalar_tree v.items) value_tree mid new h k)

@@ -4,7 +4,7 @@ use Rattle.std.specs.Rc.{rc_str_bytes}
 use Rattle.std.specs.declared.alloc.Global.{Global}
 use Rattle.std.specs.declared.boxed.Box.{Box}
 use Rattle.std.specs.declared.rc.RcStr.{RcStr}
-use Rattle.gl_calculus.specs.Grid.{Addr}
+use Rattle.gl_calculus.specs.Grid.{Addr, Range}
 use Rattle.gl_calculus.specs.Value as V
 use Rattle.gl_calculus.specs.Value.{Frame}
 use Rattle.gl_calculus.specs.Formula as F
@@ -12,10 +12,10 @@ use Rattle.gl_calculus.specs.Formula.{Version}
 use Rattle.gl_calculus.specs.Lift.{lift1, lift2}
 use Rattle.gl_calculus.specs.Operators.{negate, compare}
 use Rattle.gl_calculus.specs.Key.{Eval, give, ◌>>=◌}
-use Rattle.gl_calculus.specs.Reference.{at_address, spill_of}
+use Rattle.gl_calculus.specs.Reference.{at_address, at_range, spill_of}
 use Rattle.gl_calculus.specs.Evaluation as E
 use Rattle.gl_ast.specs.View.{formula_tree, op_tree}
-use Rattle.gl_ast.specs.Forms.{formula_tree-Text, formula_tree-At, formula_tree-Spill, formula_tree-Neg, formula_tree-Compare}
+use Rattle.gl_ast.specs.Forms.{formula_tree-Text, formula_tree-At, formula_tree-Spill, formula_tree-Area, formula_tree-Neg, formula_tree-Compare}
 use Rattle.gl_ast.specs.declared.Op.{Op}
 use Rattle.gl_ast.specs.declared.Formula.{Formula}
 use Rattle.gl_ast.specs.declared.Formula.TheVariants as form
@@ -32,6 +32,9 @@ module _ (v : Version) (e : Frame) (bs : E.Bindings) where
 
   pub spill_is : (f : Formula) (a : Addr) → f ≡ form.Spill a → value (formula_tree f) ≡ spill_of e a
   spill_is f a i = ap (λ x. value (formula_tree x)) i ∙ ap value (formula_tree-Spill a)
+
+  pub area_is : (f : Formula) (r : Range) → f ≡ form.Area r → value (formula_tree f) ≡ at_range e r
+  area_is f r i = ap (λ x. value (formula_tree x)) i ∙ ap value (formula_tree-Area r)
 
   pub neg_is : (f : Formula) (g : Box Formula Global) (h : Formula) → f ≡ form.Neg g → h ≡ g.value → value (formula_tree f) ≡ (value (formula_tree h) >>= λ u. give (lift1 negate u))
   neg_is f g h i j = ap (λ x. value (formula_tree x)) i ∙ ap value (formula_tree-Neg g) ∙ ap (λ x. value (F.Formula.Neg (formula_tree x))) (sym j)

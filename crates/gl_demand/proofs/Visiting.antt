@@ -1,5 +1,5 @@
 -- The arrays of a round, found address by address.
-use Rattle.std.proofs.Common.{◌≡◌, Bool, true, false, cond, is_some, List, [], ◌∷◌, ◌++◌, map, filter, drop, Option, Some, None, Result, Ok, Err, OnOk, IfErr, IfOk, refl, ap, sym, subst, ◌∙◌, append_assoc}
+use Rattle.std.proofs.Common.{◌≡◌, Bool, true, false, cond, is_some, List, [], ◌∷◌, ◌++◌, map, filter, drop, Option, Some, None, Result, Ok, Err, OnOk, IfErr, IfOk, refl, ap, sym, subst, ◌∙◌}
 use Rattle.std.proofs.lemmas.List.{append-nil, map-append}
 use Rattle.gl_query.specs.Query.{Found, Ready, Need, found}
 use Rattle.gl_query.specs.Evaluation.{bind, given}
@@ -12,41 +12,26 @@ use Rattle.gl_calculus.specs.Key.{Key, Budget, Eval, give, on_result, ◌>>=◌}
 use Rattle.gl_calculus.specs.Reference.{Held, own_content, own, value_of}
 use Rattle.gl_calculus.specs.Evaluation.{array_at, arrays}
 use Rattle.gl_demand.specs.View.{key_tree, budget_tree}
-use Rattle.gl_demand.specs.Walk.{World, Trail, End, walk, then_walk}
+use Rattle.gl_demand.specs.Walk.{World, Trail, End, walk, then_walk, behind}
 use Rattle.gl_demand.specs.Walks.{Walks, trail_tree}
 use Rattle.gl_demand.specs.Blocks.{has_content_in}
 use Rattle.gl_demand.specs.Places.{filled_places}
-use Rattle.gl_demand.specs.Settling.{behind, Visits, round_arrays, Gives, Fails}
+use Rattle.gl_demand.specs.Settling.{Visits, round_arrays, Gives, Fails}
 use Rattle.gl_demand.specs.declared.trail.Trail as Code
 use Rattle.gl_demand.specs.declared.trail.Halt.{Halt}
 use Rattle.gl_demand.specs.declared.trail.Halt.TheVariants as halt
-use Rattle.gl_demand.proofs.Walking.{walk-bind, walk-on, walk-found, halts, later}
+use Rattle.gl_demand.proofs.Walking.{walk-bind, walk-on, walk-found, halts, later, behind_twice, behind_none, joined}
 use Rattle.gl_demand.proofs.Ordered.{order_first, order_without}
 
 -- ---- one address after another
 
-behind_twice : (xs ys : Sizes) (z : End (Result Sizes Budget)) → behind xs (behind ys z) ≡ behind (xs ++ ys) z
-behind_twice xs ys (Ready (Ok zs), t) = ap (λ l. (Ready (Ok l), t)) (sym (append_assoc xs ys zs))
-behind_twice xs ys (Ready (Err b), t) = refl
-behind_twice xs ys (Need k, t) = refl
-
-pub behind_none : (z : End (Result Sizes Budget)) → behind [] z ≡ z
-behind_none (Ready (Ok zs), t) = refl
-behind_none (Ready (Err b), t) = refl
-behind_none (Need k, t) = refl
-
 module _ (w : World) (e : Frame) where
-  joined : (ys : Sizes) (z : End (Result Sizes Budget)) → then_walk z (λ r u. walk w (on_result (λ zs. give (ys ++ zs)) r) u) ≡ behind ys z
-  joined ys (Ready (Ok zs), t) = refl
-  joined ys (Ready (Err b), t) = refl
-  joined ys (Need k, t) = refl
-
   -- on behind an own value
   abbrev on : Addr → List Fact → Option Value → Eval Sizes
   on a rest v = arrays e rest >>= λ zs. give (array_at a v ++ zs)
 
   on_walk : (a : Addr) (rest : List Fact) (v : Option Value) (u : Trail) → walk w (on a rest v) u ≡ behind (array_at a v) (walk w (arrays e rest) u)
-  on_walk a rest v u = walk-bind w (on_result (λ zs. give (array_at a v ++ zs))) (arrays e rest) u ∙ joined (array_at a v) (walk w (arrays e rest) u)
+  on_walk a rest v u = walk-bind w (on_result (λ zs. give (array_at a v ++ zs))) (arrays e rest) u ∙ joined w (array_at a v) (walk w (arrays e rest) u)
 
   visit_walk : (x : Fact) (rest : List Fact) (zs : Sizes) (t u : Trail) (v : Option Value) → walk w (own e x) t ≡ (Ready (Ok v), u) → behind zs (walk w (arrays e (x ∷ rest)) t) ≡ behind (zs ++ array_at x.address v) (walk w (arrays e rest) u)
   visit_walk x rest zs t u v h =

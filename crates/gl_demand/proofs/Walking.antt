@@ -9,9 +9,9 @@ use Rattle.gl_query.specs.Query.{Found, Ready, Need, next, found, asked, looked}
 use Rattle.gl_query.specs.Evaluation.{Evaluation, Done, LookAt, Demand, bind, given}
 use Rattle.gl_calculus.specs.Grid.{Range}
 use Rattle.gl_calculus.specs.Facts.{Fact, facts}
-use Rattle.gl_calculus.specs.Key.{Key, same_key, Outcome, Eval, give, on_result, ◌>>=◌}
+use Rattle.gl_calculus.specs.Key.{Key, same_key, Outcome, Budget, Eval, give, on_result, ◌>>=◌}
 use Rattle.gl_demand.specs.View.{key_tree, budget_tree}
-use Rattle.gl_demand.specs.Walk.{Trail, World, reading, looking, walk, then_walk}
+use Rattle.gl_demand.specs.Walk.{Trail, World, End, reading, looking, walk, then_walk, behind}
 use Rattle.gl_demand.specs.Walks.{Walks, trail_tree}
 use Rattle.gl_demand.specs.declared.trail.Trail as Code
 use Rattle.gl_demand.specs.declared.trail.Halt.{Halt}
@@ -46,6 +46,24 @@ module _ (w : World) where
 
   pub goes_on : {A B R S : Type 0} (g : R → Eval S) (p : Eval R) (f : A → R) (f' : B → S) (old mid new : Code.Trail) (x : A) (r : Result B Halt) → Walks w p f old (Ok x) mid → Walks w (g (f x)) f' mid r new → Walks w (p >>= g) f' old r new
   goes_on g p f f' old mid new x r e h = later (p >>= g) (g (f x)) f' old mid new r (walk-on g p (trail_tree old) (f x) (trail_tree mid) e) h
+
+-- ---- results before those of the rest
+
+module _ {A : Type 0} where
+  pub behind_twice : (xs ys : List A) (z : End (Result (List A) Budget)) → behind xs (behind ys z) ≡ behind (xs ++ ys) z
+  behind_twice xs ys (Ready (Ok zs), t) = ap (λ l. (Ready (Ok l), t)) (sym (append_assoc xs ys zs))
+  behind_twice xs ys (Ready (Err b), t) = refl
+  behind_twice xs ys (Need k, t) = refl
+
+  pub behind_none : (z : End (Result (List A) Budget)) → behind [] z ≡ z
+  behind_none (Ready (Ok zs), t) = refl
+  behind_none (Ready (Err b), t) = refl
+  behind_none (Need k, t) = refl
+
+  pub joined : (w : World) (ys : List A) (z : End (Result (List A) Budget)) → then_walk z (λ r u. walk w (on_result (λ zs. give (ys ++ zs)) r) u) ≡ behind ys z
+  joined w ys (Ready (Ok zs), t) = refl
+  joined w ys (Ready (Err b), t) = refl
+  joined w ys (Need k, t) = refl
 
 -- ---- what a whole walk is
 

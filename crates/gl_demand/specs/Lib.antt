@@ -11,7 +11,7 @@ pub mod Held
 pub mod Seen
 pub mod Scope
 pub mod Cells
-pub mod Prefixed
 pub mod Stopped
 pub mod Places
 pub mod Settling
+pub mod Viewing

@@ -1,15 +1,15 @@
 -- The rounds of a sheet value as walks: what a round sees, and what it comes to.
-use Rattle.std.specs.Prelude.{◌≡◌, List, ◌++◌, ◌∷◌, [], map, Result, Ok, Err}
+use Rattle.std.specs.Prelude.{◌≡◌, List, ◌∷◌, [], Result, Ok, Err}
 use Rattle.gl_query.specs.Query.{Found, Ready, Need, found}
 use Rattle.gl_query.specs.Evaluation.{given}
 use Rattle.gl_calculus.specs.Grid.{Addr}
 use Rattle.gl_calculus.specs.Value.{Oracle, SheetValue, Frame, In, region}
 use Rattle.gl_calculus.specs.Oracle.{Sizes}
 use Rattle.gl_calculus.specs.Facts.{Fact, fact, facts}
-use Rattle.gl_calculus.specs.Key.{Key, Budget, Eval}
+use Rattle.gl_calculus.specs.Key.{Eval}
 use Rattle.gl_calculus.specs.Evaluation.{arrays, rounds, copy_budget}
 use Rattle.gl_demand.specs.View.{key_tree, budget_tree}
-use Rattle.gl_demand.specs.Walk.{World, End, walk}
+use Rattle.gl_demand.specs.Walk.{World, walk, behind}
 use Rattle.gl_demand.specs.Walks.{Walks, trail_tree}
 use Rattle.gl_demand.specs.declared.trail.Trail.{Trail}
 use Rattle.gl_demand.specs.declared.trail.Halt.{Halt}
@@ -39,12 +39,6 @@ abbrev pub Fails : World → SheetValue → Oracle → Halt → Type 0
 Fails w s o (halt.Need k) = found w.known (given (facts w.cells w.oracle) (round_arrays w s o)) ≡ Need (key_tree k)
 Fails w s o (halt.Spent b) = found w.known (given (facts w.cells w.oracle) (round_arrays w s o)) ≡ Ready (Err (budget_tree b))
 Fails w s o halt.NoMemory = Unit {0}
-
--- sizes that were found before those of the rest of a walk
-abbrev pub behind : Sizes → End (Result Sizes Budget) → End (Result Sizes Budget)
-behind xs (Ready (Ok ys), t) = (Ready (Ok (xs ++ ys)), t)
-behind xs (Ready (Err b), t) = (Ready (Err b), t)
-behind xs (Need k, t) = (Need k, t)
 
 -- A visit of an address adds its array, if its own value is one: then a walk through it and any further addresses goes on with those, else it halts.
 abbrev pub Visits : World → Frame → Fact → Sizes → Trail → Result (Unit {0}) Halt → Sizes → Trail → Type 0

@@ -42,3 +42,9 @@ walk w (Demand k c) t = next (Need k, reading k t) (w.known k) (λ o. walk w (c 
 abbrev pub then_walk : {R S : Type 0} → End R → (R → Trail → End S) → End S
 then_walk (Ready r, t) g = g r t
 then_walk (Need k, t) g = (Need k, t)
+
+-- results that were found before those of the rest of a walk
+abbrev pub behind : {A : Type 0} → List A → End (Result (List A) Budget) → End (Result (List A) Budget)
+behind xs (Ready (Ok ys), t) = (Ready (Ok (xs ++ ys)), t)
+behind xs (Ready (Err b), t) = (Ready (Err b), t)
+behind xs (Need k, t) = (Need k, t)

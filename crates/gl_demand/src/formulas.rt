@@ -12,6 +12,7 @@ ghost use Rattle.gl_demand.specs.Walks.{Walks};
 use crate::Known;
 use crate::context::Context;
 use crate::operators::{compared, negated, operated, text};
+use crate::ranges::at_range;
 use crate::reading::at_address;
 use crate::scope::Scope;
 use crate::scoping::{bind, bound};
@@ -48,7 +49,7 @@ pub fn eval<K: Known>(
             Err(halt) => Err(halt),
         },
         Formula::Spill(a) => spill_of(ctx, ctx.env, *a, trail),
-        Formula::Area(_) => Err(Halt::NoMemory),
+        Formula::Area(r) => at_range(ctx, ctx.env, r, trail),
         Formula::Var(name) => bound(scope, name),
         Formula::Chain(_, g, rest) => match eval(ctx, scope, g, trail) {
             Ok(first) => {

@@ -16,6 +16,7 @@ mod operators;
 mod outcome;
 mod places;
 mod properness;
+mod ranges;
 mod reading;
 mod scope;
 mod scoping;
@@ -25,6 +26,7 @@ mod spills;
 mod stepping;
 mod steps;
 mod trail;
+mod viewing;
 
 pub use blocks::{CopyBlocks, TopBlocks};
 pub use key::Key;

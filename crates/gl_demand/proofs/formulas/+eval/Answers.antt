@@ -13,7 +13,7 @@ use Rattle.gl_demand.specs.Walk.{world, walk}
 use Rattle.gl_demand.specs.Walks.{Walks, trail_tree}
 use Rattle.gl_demand.proofs.References.{gives}
 use Rattle.gl_demand.proofs.Parts.{one_then, one_given, one_halts, two_given, two_halts}
-use Rattle.gl_demand.proofs.Trees.{text_is, at_is, spill_is, neg_is, compare_is}
+use Rattle.gl_demand.proofs.Trees.{text_is, at_is, spill_is, area_is, neg_is, compare_is}
 use Rattle.std.proofs.lemmas.List.{drop_more}
 use Rattle.gl_demand.proofs.Bindings.{var_is, let_is}
 use Rattle.gl_demand.proofs.Chains.{chain_is, chain_start, chain_next, chain_halts, chain_end}
@@ -67,6 +67,11 @@ pub returns-in-Spill-clause-walk : goal.returns-in-Spill-clause-walk
 returns-in-Spill-clause-walk g t c =
     let w = world (sheet c.args.ctx.now.cells.now) c.args.ctx.now.w.now (g.K.Known.outcomes c.args.ctx.now.known.now) in
     subst (λ p. Walks w p value_tree c.args.trail.now c.spill_of.result c.spill_of.new.trail) (sym (spill_is (version_tree c.args.ctx.now.version) (frame_tree c.args.ctx.now.env.now) (bindings_of c.args.scope.now.bindings.items) c.args.f.now c.in-Spill.a c.in-Spill.is)) c.spill_of.ensures.walk
+
+pub returns-in-Area-clause-walk : goal.returns-in-Area-clause-walk
+returns-in-Area-clause-walk g t c =
+    let w = world (sheet c.args.ctx.now.cells.now) c.args.ctx.now.w.now (g.K.Known.outcomes c.args.ctx.now.known.now) in
+    subst (λ p. Walks w p value_tree c.args.trail.now c.at_range.result c.at_range.new.trail) (sym (area_is (version_tree c.args.ctx.now.version) (frame_tree c.args.ctx.now.env.now) (bindings_of c.args.scope.now.bindings.items) c.args.f.now c.in-Area.r c.in-Area.is)) c.at_range.ensures.walk
 
 pub loop-op-init : goal.loop-op-init
 loop-op-init g t c =

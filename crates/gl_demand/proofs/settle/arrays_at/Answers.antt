@@ -4,9 +4,8 @@ use Rattle.gl_calculus.specs.Facts.{fact}
 use Rattle.gl_calculus.specs.Evaluation.{arrays}
 use Rattle.gl_cells.specs.Sheet.{sheet}
 use Rattle.gl_value.specs.View.{frame_tree}
-use Rattle.gl_demand.specs.Walk.{world, walk}
+use Rattle.gl_demand.specs.Walk.{world, walk, behind}
 use Rattle.gl_demand.specs.Walks.{trail_tree}
-use Rattle.gl_demand.specs.Settling.{behind}
 use Rattle.gl_demand.proofs.Counting.{drop_item}
 use Rattle.gl_demand.proofs.Visiting.{last_in_order, all_halt, all_visited}
 use Rattle.gl_demand.proofs.settle.arrays_at.Goals as goal

@@ -4,9 +4,8 @@ use Rattle.gl_calculus.specs.Facts.{fact}
 use Rattle.gl_calculus.specs.Evaluation.{arrays}
 use Rattle.gl_cells.specs.Sheet.{sheet}
 use Rattle.gl_value.specs.View.{frame_tree}
-use Rattle.gl_demand.specs.Walk.{world, walk}
+use Rattle.gl_demand.specs.Walk.{world, walk, behind}
 use Rattle.gl_demand.specs.Walks.{trail_tree}
-use Rattle.gl_demand.specs.Settling.{behind}
 use Rattle.gl_demand.proofs.settle.arrays_at.Given as goal
 
 -- The walk goes on with the addresses that are left, behind the arrays so far, and those stay in order.

@@ -1,0 +1,98 @@
+//! How ranges are read: their addresses in row-major order, in one reference.
+ghost use Rattle.std.specs.Prelude.{◌≡◌, ◌*◌, [], IsTrue, IfOk, IfErr, SomeIff, length, map, vec_len};
+ghost use Rattle.gl_calculus.specs.Grid.{addresses, extents};
+ghost use Rattle.gl_calculus.specs.Facts.{facts};
+ghost use Rattle.gl_calculus.specs.Reference as R;
+ghost use Rattle.gl_calculus.specs.Value as V;
+ghost use Rattle.gl_calculus.specs.Sound.{is_sound_frame, are_sound, is_size, is_sound_value};
+ghost use Rattle.gl_cells.specs.Sheet.{sheet};
+ghost use Rattle.gl_value.specs.View.{scalar_tree, value_tree, frame_tree, item_trees};
+ghost use Rattle.gl_demand.specs.Walk.{world};
+ghost use Rattle.gl_demand.specs.Walks.{Walks};
+ghost use Rattle.gl_demand.specs.declared.trail.Halt.{Halt};
+
+use crate::Known;
+use crate::context::Context;
+use crate::places::{count, place};
+use crate::reading::deref;
+use crate::trail::{Halt, Trail};
+use gl_plane::{NoMemory, Range, Size};
+use gl_value::{Array, Env, Scalar, Value};
+use indexmap::IndexSet;
+use std::alloc::Global;
+use std::rc::Rc;
+
+/// The scalars at the addresses of a range.
+fn read_range<K: Known>(
+    ctx: &Context<K>,
+    env: &Env,
+    r: &Range,
+    trail: &mut Trail,
+) -> Result<Vec<Scalar>, Halt>
+    requires frame { IsTrue (is_sound_frame (frame_tree env.now)) }
+    ensures walk { Walks (world (sheet ctx.now.cells.now) ctx.now.w.now (K.outcomes ctx.now.known.now)) (R.deref_all (frame_tree env.now) [] (facts (sheet ctx.now.cells.now) ctx.now.w.now r.now)) (λ v. map scalar_tree v.items) trail.old result trail.new }
+    ensures sound { IfOk result (λ v. IsTrue (are_sound (item_trees v.items))) }
+    ensures count { IfOk result (λ v. vec_len v ≡ length (addresses r.now)) }
+{
+    let mut seen = IndexSet::new(ctx.alloc);
+    let mut items = Vec::new(ctx.alloc);
+    for i in 0..count(r) {
+        match deref(ctx, env, place(r, i), &mut seen, trail) {
+            Ok(x) => match items.push(x) {
+                Ok(()) => {}
+                Err(_) => return Err(Halt::NoMemory),
+            },
+            Err(halt) => return Err(halt),
+        }
+    }
+    Ok(items)
+}
+
+/// The extents of a range, where an array has them.
+fn size_of(r: &Range) -> Option<Size>
+    ensures { SomeIff result (IsTrue (is_size (extents r.now))) (extents r.now) }
+{
+    let first = r.first();
+    let last = r.last();
+    Size::new(last.row() + 1 - first.row(), last.col() + 1 - first.col())
+}
+
+/// The array of these scalars, which are in row-major order.
+#[tactic(auto, using(gl_value::specs::Forms::trees))]
+fn array_of(alloc: Global, size: Size, items: Vec<Scalar>) -> Result<Value, Halt>
+    requires size { IsTrue (is_size size) }
+    requires sound { IsTrue (are_sound (item_trees items.items)) }
+    requires count { vec_len items ≡ size.rows * size.cols }
+    ensures value { IfOk result (λ v. value_tree v ≡ V.Value.Array size (item_trees items.items)) }
+    ensures err { IfErr result (λ h. h ≡ Halt.NoMemory) }
+    ensures sound { IfOk result (λ v. IsTrue (is_sound_value (value_tree v))) }
+{
+    match Rc::new(alloc, Array::new(size, items)) {
+        Ok(a) => Ok(Value::Array(a)),
+        Err(_) => Err(Halt::NoMemory),
+    }
+}
+
+/// A range as a value. One of more than 10,000 addresses, which no well formed formula has, is
+/// refused.
+pub fn at_range<K: Known>(
+    ctx: &Context<K>,
+    env: &Env,
+    r: &Range,
+    trail: &mut Trail,
+) -> Result<Value, Halt>
+    requires frame { IsTrue (is_sound_frame (frame_tree env.now)) }
+    ensures walk { Walks (world (sheet ctx.now.cells.now) ctx.now.w.now (K.outcomes ctx.now.known.now)) (R.at_range (frame_tree env.now) r.now) value_tree trail.old result trail.new }
+    ensures sound { IfOk result (λ v. IsTrue (is_sound_value (value_tree v))) }
+{
+    match size_of(r) {
+        Some(size) => match trail.look(*r) {
+            Ok(()) => match read_range(ctx, env, r, trail) {
+                Ok(items) => array_of(ctx.alloc, size, items),
+                Err(halt) => Err(halt),
+            },
+            Err(NoMemory) => Err(Halt::NoMemory),
+        },
+        None => Err(Halt::NoMemory),
+    }
+}
