@@ -15,3 +15,4 @@ pub mod Stopped
 pub mod Places
 pub mod Settling
 pub mod Viewing
+pub mod Arity

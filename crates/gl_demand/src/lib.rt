@@ -1,6 +1,7 @@
 //! One evaluation of one key against the results that are known so far.
 #![tactic(auto)]
 
+mod applying;
 mod blocks;
 mod context;
 mod demand;
