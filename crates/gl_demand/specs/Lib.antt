@@ -15,3 +15,5 @@ pub mod Prefixed
 pub mod Stopped
 pub mod Places
 pub mod Settling
+pub mod Choices
+pub mod Values

@@ -1,7 +1,10 @@
 //! One evaluation of one key against the results that are known so far.
 #![tactic(auto)]
 
+mod applying;
 mod blocks;
+mod calls;
+mod choosing;
 mod context;
 mod demand;
 mod elements;
@@ -11,6 +14,7 @@ mod held;
 mod key;
 mod known;
 mod laws;
+mod making;
 mod noting;
 mod operators;
 mod outcome;
@@ -23,6 +27,7 @@ mod spills;
 mod stepping;
 mod steps;
 mod trail;
+mod viewing;
 
 pub use blocks::{CopyBlocks, TopBlocks};
 pub use key::Key;
