@@ -21,3 +21,5 @@ pub mod Copying
 pub mod Chains
 pub mod Bindings
 pub mod IsFormula
+pub mod Calling
+pub mod Groups

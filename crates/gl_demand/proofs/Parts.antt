@@ -33,3 +33,9 @@ module _ (w : World) where
   two_halts p q q' g f k f' old mid new x h e a b =
       one_then p q (λ u. q' >>= λ v. g u v) f f' old mid new x (Err h) e a
       (one_halts (q' >>= λ v. g (f x) v) q' (g (f x)) k f' mid new h refl b)
+
+  pub two_then : {X Z Y A C B : Type 0} (p : Eval B) (q : Eval A) (q' : Eval C) (g : A → C → Eval B) (f : X → A) (k : Z → C) (f' : Y → B) (old mid late new : Trail) (x : X) (z : Z) (r : Result Y Halt)
+      → p ≡ (q >>= λ u. q' >>= λ v. g u v) → Walks w q f old (Ok x) mid → Walks w q' k mid (Ok z) late → Walks w (g (f x) (k z)) f' late r new → Walks w p f' old r new
+  two_then p q q' g f k f' old mid late new x z r e a b c =
+      one_then p q (λ u. q' >>= λ v. g u v) f f' old mid new x r e a
+      (one_then (q' >>= λ v. g (f x) v) q' (g (f x)) k f' mid late new z r refl b c)

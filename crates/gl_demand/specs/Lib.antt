@@ -16,3 +16,5 @@ pub mod Places
 pub mod Settling
 pub mod Viewing
 pub mod Arity
+pub mod Choices
+pub mod Values

@@ -10,6 +10,7 @@ ghost use Rattle.gl_demand.specs.Walk.{world};
 ghost use Rattle.gl_demand.specs.Walks.{Walks};
 
 use crate::Known;
+use crate::calls::call;
 use crate::context::Context;
 use crate::operators::{compared, negated, operated, text};
 use crate::ranges::at_range;
@@ -22,6 +23,7 @@ use gl_ast::Formula;
 use gl_value::{Scalar, Value};
 
 /// The value of a formula, its parts taken from left to right.
+#[cycle(evaluation)]
 #[tactic(auto, using(gl_value::specs::Forms::trees, gl_ast::specs::Forms::trees))]
 pub fn eval<K: Known>(
     ctx: &Context<K>,
@@ -67,7 +69,7 @@ pub fn eval<K: Known>(
             }
             Err(halt) => Err(halt),
         },
-        Formula::Call(_, _) => Err(Halt::NoMemory),
+        Formula::Call(fun, xs) => call(ctx, scope, *fun, xs, trail),
         Formula::Let(name, g, body) => match eval(ctx, scope, g, trail) {
             Ok(v) => match bind(ctx.alloc, scope, name, v) {
                 Ok(inner) => eval(ctx, &inner, body, trail),

@@ -3,6 +3,8 @@
 
 mod applying;
 mod blocks;
+mod calls;
+mod choosing;
 mod context;
 mod demand;
 mod elements;
@@ -12,6 +14,7 @@ mod held;
 mod key;
 mod known;
 mod laws;
+mod making;
 mod noting;
 mod operators;
 mod outcome;
