@@ -26,7 +26,8 @@ use Rattle.gl_value.specs.declared.ErrKind.{ErrKind}
 use Rattle.gl_value.specs.declared.Scalar.{Err as ScalarErr}
 use Rattle.gl_value.specs.declared.Value.{Value, One}
 use Rattle.gl_demand.specs.Choices.{by_choice, by_replacement}
-use Rattle.gl_demand.specs.Values.{AreSound, plain_call}
+use Rattle.gl_funs.specs.Elements.{AreSound}
+use Rattle.gl_demand.specs.Values.{plain_call}
 use Rattle.gl_demand.specs.Walk.{World, Trail, End, walk, then_walk}
 use Rattle.gl_demand.specs.Walks.{Walks, trail_tree}
 use Rattle.gl_demand.specs.declared.choosing.Choice.{Choice}

@@ -22,7 +22,7 @@ use Rattle.gl_value.specs.declared.Scalar.{Err as ScalarErr}
 use Rattle.gl_value.specs.declared.Value.{One}
 use Rattle.gl_demand.specs.Choices.{by_choice, by_replacement}
 use Rattle.gl_demand.specs.Scope.{bindings_of}
-use Rattle.gl_demand.specs.Values.{AreSound}
+use Rattle.gl_funs.specs.Elements.{AreSound}
 use Rattle.gl_demand.specs.Walk.{world, walk}
 use Rattle.gl_demand.specs.Walks.{Walks, trail_tree}
 use Rattle.gl_demand.specs.declared.choosing.Choice.TheVariants as choice

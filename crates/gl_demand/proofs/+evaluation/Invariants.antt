@@ -9,7 +9,7 @@ use Rattle.gl_calculus.specs.Sound.{is_sound_value}
 use Rattle.gl_cells.specs.Sheet.{sheet}
 use Rattle.gl_value.specs.View.{value_tree, frame_tree}
 use Rattle.gl_demand.specs.Scope.{bindings_of}
-use Rattle.gl_demand.specs.Values.{AreSound}
+use Rattle.gl_funs.specs.Elements.{AreSound}
 use Rattle.gl_demand.specs.Walk.{world, walk}
 use Rattle.gl_demand.specs.Walks.{trail_tree}
 use Rattle.gl_demand.proofs.Calling.{called, plain, behind_values}
