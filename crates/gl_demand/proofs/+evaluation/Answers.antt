@@ -225,7 +225,7 @@ calls::call_if-returns-clause-walk g t c =
     let e = frame_tree c.args.ctx.now.env.now in
     let bs = bindings_of c.args.scope.now.bindings.items in
     subst (λ p. Walks w p value_tree c.args.trail.now c.applied.result c.applied.new.trail)
-    (sym (if_plain v e bs c.args.xs.now (λ h. elim c.in_default.branch [ calls::call_if-in_default-via-then-xs-lt3 z ↦ omega (arith, ltb-true (length c.args.xs.now) 3 z.if-xs-lt3-1.true) | calls::call_if-in_default-via-else-xs-lt3+else-xs-lt4 z ↦ omega (arith, ltb-false (length c.args.xs.now) 4 z.if-xs-lt4-1.false) ]))) c.applied.ensures.walk
+    (sym (if_plain v e bs c.args.xs.now (λ h. elim c.in_default.branch [ calls::call_if-in_default-via-then-xs-lt3 z ↦ omega (arith, ltb-true (length c.args.xs.now) 3 (cc)) | calls::call_if-in_default-via-else-xs-lt3+else-xs-lt4 z ↦ omega (arith, ltb-false (length c.args.xs.now) 4 (cc)) ]))) c.applied.ensures.walk
 
 pub calls::call_if_error-returns-clause-walk : goal.calls::call_if_error-returns-clause-walk
 calls::call_if_error-returns-clause-walk g t c =
@@ -234,7 +234,7 @@ calls::call_if_error-returns-clause-walk g t c =
     let e = frame_tree c.args.ctx.now.env.now in
     let bs = bindings_of c.args.scope.now.bindings.items in
     subst (λ p. Walks w p value_tree c.args.trail.now c.applied.result c.applied.new.trail)
-    (sym (if_error_plain v e bs c.args.xs.now (λ h. elim c.in_default.branch [ calls::call_if_error-in_default-via-then-xs-lt2 z ↦ omega (arith, ltb-true (length c.args.xs.now) 2 z.if-xs-lt2-1.true) | calls::call_if_error-in_default-via-else-xs-lt2+else-xs-lt3 z ↦ omega (arith, ltb-false (length c.args.xs.now) 3 z.if-xs-lt3-1.false) ]))) c.applied.ensures.walk
+    (sym (if_error_plain v e bs c.args.xs.now (λ h. elim c.in_default.branch [ calls::call_if_error-in_default-via-then-xs-lt2 z ↦ omega (arith, ltb-true (length c.args.xs.now) 2 (cc)) | calls::call_if_error-in_default-via-else-xs-lt2+else-xs-lt3 z ↦ omega (arith, ltb-false (length c.args.xs.now) 3 (cc)) ]))) c.applied.ensures.walk
 
 pub calls::call_sheet-returns-in_default-clause-walk : goal.calls::call_sheet-returns-in_default-clause-walk
 calls::call_sheet-returns-in_default-clause-walk g t c =
@@ -243,7 +243,7 @@ calls::call_sheet-returns-in_default-clause-walk g t c =
     let e = frame_tree c.args.ctx.now.env.now in
     let bs = bindings_of c.args.scope.now.bindings.items in
     subst (λ p. Walks w p value_tree c.args.trail.now c.applied.result c.applied.new.trail)
-    (sym (sheet_plain v e bs c.args.xs.now (λ h. elim c.in_default.branch [ calls::call_sheet-in_default-via-then-xs-lt1 z ↦ omega (arith, ltb-true (length c.args.xs.now) 1 z.if-xs-lt1-1.true) | calls::call_sheet-in_default-via-else-xs-lt1+else-xs-lt2 z ↦ omega (arith, ltb-false (length c.args.xs.now) 2 z.if-xs-lt2-1.false) ]))) c.applied.ensures.walk
+    (sym (sheet_plain v e bs c.args.xs.now (λ h. elim c.in_default.branch [ calls::call_sheet-in_default-via-then-xs-lt1 z ↦ omega (arith, ltb-true (length c.args.xs.now) 1 (cc)) | calls::call_sheet-in_default-via-else-xs-lt1+else-xs-lt2 z ↦ omega (arith, ltb-false (length c.args.xs.now) 2 (cc)) ]))) c.applied.ensures.walk
 
 pub calls::call_update-returns-clause-walk : goal.calls::call_update-returns-clause-walk
 calls::call_update-returns-clause-walk g t c =
@@ -252,7 +252,7 @@ calls::call_update-returns-clause-walk g t c =
     let e = frame_tree c.args.ctx.now.env.now in
     let bs = bindings_of c.args.scope.now.bindings.items in
     subst (λ p. Walks w p value_tree c.args.trail.now c.applied.result c.applied.new.trail)
-    (sym (update_plain v e bs c.args.xs.now (λ h. elim c.in_default.branch [ calls::call_update-in_default-via-then-xs-lt3 z ↦ omega (arith, ltb-true (length c.args.xs.now) 3 z.if-xs-lt3-1.true) | calls::call_update-in_default-via-else-xs-lt3+else-xs-lt4 z ↦ omega (arith, ltb-false (length c.args.xs.now) 4 z.if-xs-lt4-1.false) ]))) c.applied.ensures.walk
+    (sym (update_plain v e bs c.args.xs.now (λ h. elim c.in_default.branch [ calls::call_update-in_default-via-then-xs-lt3 z ↦ omega (arith, ltb-true (length c.args.xs.now) 3 (cc)) | calls::call_update-in_default-via-else-xs-lt3+else-xs-lt4 z ↦ omega (arith, ltb-false (length c.args.xs.now) 4 (cc)) ]))) c.applied.ensures.walk
 
 pub calls::call_view-returns-in_default-clause-walk : goal.calls::call_view-returns-in_default-clause-walk
 calls::call_view-returns-in_default-clause-walk g t c =
@@ -261,7 +261,7 @@ calls::call_view-returns-in_default-clause-walk g t c =
     let e = frame_tree c.args.ctx.now.env.now in
     let bs = bindings_of c.args.scope.now.bindings.items in
     subst (λ p. Walks w p value_tree c.args.trail.now c.applied.result c.applied.new.trail)
-    (sym (view_plain v e bs c.args.xs.now (λ h. elim c.in_default.branch [ calls::call_view-in_default-via-then-xs-lt2 z ↦ omega (arith, ltb-true (length c.args.xs.now) 2 z.if-xs-lt2-1.true) | calls::call_view-in_default-via-else-xs-lt2+else-xs-lt3 z ↦ omega (arith, ltb-false (length c.args.xs.now) 3 z.if-xs-lt3-1.false) ]))) c.applied.ensures.walk
+    (sym (view_plain v e bs c.args.xs.now (λ h. elim c.in_default.branch [ calls::call_view-in_default-via-then-xs-lt2 z ↦ omega (arith, ltb-true (length c.args.xs.now) 2 (cc)) | calls::call_view-in_default-via-else-xs-lt2+else-xs-lt3 z ↦ omega (arith, ltb-false (length c.args.xs.now) 3 (cc)) ]))) c.applied.ensures.walk
 
 pub calls::call_this-returns-in_default-clause-walk : goal.calls::call_this-returns-in_default-clause-walk
 calls::call_this-returns-in_default-clause-walk g t c =
