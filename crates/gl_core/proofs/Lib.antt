@@ -10,3 +10,4 @@ pub mod Runs
 pub mod Picks
 pub mod Seeing
 pub mod Ending
+pub mod Kept

@@ -5,6 +5,7 @@ mod answers;
 mod copies;
 mod counts;
 mod entries;
+mod keeping;
 mod machine;
 mod outcomes;
 mod picking;

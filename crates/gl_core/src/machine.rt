@@ -17,7 +17,7 @@ ghost use Rattle.gl_order.specs.Rule.{PicksBelow, rule_of};
 ghost use Rattle.gl_memo.specs.Notes.{notes_of};
 ghost use Rattle.gl_demand.specs.View.{key_tree};
 ghost use Rattle.gl_demand.specs.Sound.{AreSoundKeys};
-ghost use Rattle.gl_core.specs.State.{state_of, seeds_of, notes_in, note_trees, is_noted, keys_noted, noted_after, AreSoundNotes, IsFor};
+ghost use Rattle.gl_core.specs.State.{state_of, seeds_of, notes_in, note_trees, is_noted, keys_noted, noted_after, HaveSoundParts, IsFor};
 ghost use Rattle.gl_core.specs.Table.{table_of, IsTable};
 ghost use Rattle.gl_core.specs.Answers.{picked_tree, counted, AllowsDemanded, AllowsKnown};
 
@@ -107,7 +107,7 @@ impl Core {
         requires sound_seeds { AreSoundKeys (map key_tree seeds.items) }
         requires proper { (k : K.Key) → Member k (map key_tree seeds.items) → IsProperKey (sheet cells.now) k }
         requires true_notes { AreTrue same_key (program (version_tree version) (sheet cells.now) w.now) (note_trees (notes_of kept)) }
-        requires sound_notes { AreSoundNotes (note_trees (notes_of kept)) }
+        requires sound_notes { HaveSoundParts (note_trees (notes_of kept)) }
         ensures state { IfOk result (λ core. state_of core ≡ Machine.start (map key_tree seeds.items)) }
         ensures seeds { IfOk result (λ core. seeds_of core ≡ map key_tree seeds.items) }
         ensures notes { IfOk result (λ core. notes_in core ≡ note_trees (notes_of kept)) }
