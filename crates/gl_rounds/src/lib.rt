@@ -22,6 +22,9 @@ pub trait Round {
     /// What is counted over all rounds.
     type Count;
 
+    /// The sizes may be asked for.
+    ghost can: { Self → Type 0 } = { λ s. Unit {0} };
+
     /// Under the oracle the arrays have these sizes.
     ghost gives: { Self → Plain → Found → Type 0 };
 
@@ -33,6 +36,8 @@ pub trait Round {
 
     /// The sizes of the arrays under an oracle.
     fn sizes(&mut self, w: &Oracle, count: &mut Self::Count) -> Result<Sizes, Self::Fault>
+        requires { can self.old }
+        ensures can_again { can self.new }
         ensures given { IfOk result (λ zs. gives self.old w.now zs) }
         ensures failed { IfErr result (λ e. fails self.old w.now e) }
         ensures called { calls self.old count.old w.now result self.new count.new }
@@ -67,7 +72,8 @@ pub fn iterate<R: Round, B: Blocks>(
     budget: u32,
     count: &mut R::Count,
 ) -> Result<Settled, IterFault<R::Fault>>
-    requires { 1 ≤ budget }
+    requires budget { 1 ≤ budget }
+    requires can { R.can round.old }
     ensures { Answers (R.gives round.old) (R.fails round.old) R.calls bound.now (B.held blocks.now) budget round.old count.old result round.new count.new }
 {
     let mut oracle = Oracle::new(alloc);
@@ -99,6 +105,8 @@ fn next_oracle<R: Round, B: Blocks>(
     blocks: &B,
     count: &mut R::Count,
 ) -> Result<Oracle, IterFault<R::Fault>>
+    requires { R.can round.old }
+    ensures can_again { R.can round.new }
     ensures once { Once (R.gives round.old) (R.fails round.old) R.calls bound.now (B.held blocks.now) w.now round.old count.old result round.new count.new }
     ensures gives_kept { (v : Plain) (zs : Found) → R.gives round.new v zs ↔ R.gives round.old v zs }
     ensures fails_kept { (v : Plain) (e : R.Fault) → R.fails round.new v e ↔ R.fails round.old v e }

@@ -6,6 +6,7 @@ pub loop-next-init : goal.loop-next-init
 loop-next-init g c = record {
   reached = begins (g.R.Round.gives c.args.round.now) (g.R.Round.fails c.args.round.now) g.R.Round.calls c.args.bound.now (g.B.Blocks.held c.args.blocks.now) c.args.budget c.args.round.now c.args.count.now c.new-oracle.result c.new-oracle.ensures;
   few = omega arith;
+  can = c.requires.can;
   gives_kept = λ v zs. (λ h. h, λ h. h);
   fails_kept = λ v e. (λ h. h, λ h. h);
 }
@@ -42,6 +43,7 @@ loop-next-preserved g c =
           c.loop-next.rounds c.loop-next.oracle c.loop-next.round c.loop-next.count c.loop-next.invariant.reached (g.R.Round.gives c.loop-next.round) (g.R.Round.fails c.loop-next.round) c.loop-next.invariant.gives_kept c.loop-next.invariant.fails_kept c.next_oracle.new.round c.next_oracle.new.count
           c.in-Ok.next (c.loop-next.rounds + 1) c.in-Ok.ensures.once moves refl c.if-rounds-budget.false;
       few = omega (arith, c.loop-next.invariant.few, c.if-rounds-budget.false);
+      can = c.next_oracle.ensures.can_again;
       gives_kept = λ v zs. (
         λ h. (c.loop-next.invariant.gives_kept v zs).0 ((c.next_oracle.ensures.gives_kept v zs).0 h),
         λ h. (c.next_oracle.ensures.gives_kept v zs).1 ((c.loop-next.invariant.gives_kept v zs).1 h),

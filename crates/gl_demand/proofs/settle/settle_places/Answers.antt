@@ -12,8 +12,8 @@ use Rattle.gl_demand.specs.Settling.{region_facts, halt_of}
 use Rattle.gl_demand.proofs.Rounds.{all_settle, all_halt}
 use Rattle.gl_demand.proofs.settle.settle_places.Goals as goal
 
-pub iterate-requires : goal.iterate-requires
-iterate-requires g c = omega (arith, c.copy_budget-budget.ensures c.args.ctx.now.w.now)
+pub iterate-requires-clause-budget : goal.iterate-requires-clause-budget
+iterate-requires-clause-budget g c = omega (arith, c.copy_budget-budget.ensures c.args.ctx.now.w.now)
 
 pub returns-in-Ok : goal.returns-in-Ok
 returns-in-Ok g c =
