@@ -1,5 +1,5 @@
 //! The sheet.
-ghost use Rattle.std.specs.Prelude.{◌≡◌, ◌≤◌, ◌+◌, [], length, find, map, IfSome, option_map};
+ghost use Rattle.std.specs.Prelude.{◌≡◌, ◌≤◌, ◌+◌, [], length, find, map, IfOk, IfSome, option_map};
 ghost use Rattle.std.specs.Option.{option_copied};
 ghost use Rattle.gl_calculus.specs.Formula.{IsSheet, content, formula_addresses};
 ghost use Rattle.gl_calculus.specs.Limits.{max_formulas, max_contents};
@@ -11,9 +11,10 @@ ghost use Rattle.gl_cells.specs.Sheet.{sheet, AreProper, Answers};
 
 use crate::batch::{put_list, put_one};
 use crate::clear::clear_in;
+use crate::formulas::formulas_in;
 use crate::search::next_in;
 use crate::{Content, PutFault};
-use gl_plane::{Addr, Range};
+use gl_plane::{Addr, NoMemory, Range};
 use std::alloc::Global;
 use std::collections::BTreeMap;
 use std::marker::Model;
@@ -63,8 +64,18 @@ impl Cells {
     pub fn formulas(&self) -> u32
         ensures count { result ≡ length (formula_addresses (sheet self.now)) }
         ensures few { result ≤ max_formulas }
+        ensures ordered { IsSheet (sheet self.now) }
     {
         self.forms as u32
+    }
+
+    /// The addresses that hold a formula, in row-major order.
+    pub fn formula_addresses(&self, alloc: Global) -> Result<Vec<Addr>, NoMemory>
+        ensures value { IfOk result (λ v. v.items ≡ formula_addresses (sheet self.now)) }
+        ensures few { length (formula_addresses (sheet self.now)) ≤ max_formulas }
+        ensures ordered { IsSheet (sheet self.now) }
+    {
+        formulas_in(alloc, &self.map)
     }
 
     /// How many contents there are.

@@ -6,6 +6,7 @@ mod cells;
 mod clear;
 mod content;
 mod fault;
+mod formulas;
 mod plain;
 mod search;
 mod table;
