@@ -1,0 +1,20 @@
+//! The whole calculation of a sheet, round by round, and what is held of it.
+#![tactic(auto)]
+
+mod answers;
+mod calc;
+mod calculating;
+mod collecting;
+mod ending;
+mod reasons;
+mod round;
+mod showing;
+mod starting;
+
+pub use answers::{Answer, SpentKind, Why};
+pub use calc::Calc;
+pub use reasons::why_at;
+pub use showing::shown_at;
+
+/// The rounds that may be made beyond one for each formula.
+pub const EXTRA_ROUNDS: u32 = 8;
