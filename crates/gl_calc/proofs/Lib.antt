@@ -4,3 +4,4 @@ pub mod Arrays
 pub mod Rounds
 pub mod Ended
 pub mod Called
+pub mod Shows

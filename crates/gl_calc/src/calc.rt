@@ -15,7 +15,9 @@ ghost use Rattle.gl_calc.specs.Answers.{Answers, Takes, IsShownBy};
 
 use crate::calculating::calculate;
 use crate::ending::{Answered, Ending};
-use crate::{Answer, Why, shown_at, why_at};
+use crate::reasons::why_at;
+use crate::showing::shown_at;
+use crate::{Answer, Why};
 use gl_ast::Version;
 use gl_cells::{Cells, Content, PutFault};
 use gl_demand::{Steps, Watch};

@@ -13,8 +13,6 @@ mod starting;
 
 pub use answers::{Answer, SpentKind, Why};
 pub use calc::Calc;
-pub use reasons::why_at;
-pub use showing::shown_at;
 
 /// The rounds that may be made beyond one for each formula.
 pub const EXTRA_ROUNDS: u32 = 8;
