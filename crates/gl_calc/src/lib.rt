@@ -10,6 +10,8 @@ mod reasons;
 mod round;
 mod showing;
 mod starting;
+#[cfg(test)]
+mod tests;
 
 pub use answers::{Answer, SpentKind, Why};
 pub use calc::Calc;
