@@ -1,0 +1,5 @@
+pub mod Sizes
+pub mod Refusals
+pub mod Beginnings
+pub mod Errors
+pub mod Within
