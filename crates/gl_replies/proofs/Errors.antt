@@ -1,0 +1,78 @@
+-- An `error` line begins as one, and no other reply does.
+use Rattle.std.proofs.Common.{◌≡◌, ℕ, List, Option, Some, None, refl, arith, IsTrue}
+use Rattle.gl_calculus.specs.Grid.{extents}
+use Rattle.gl_calculus.specs.Value.{Oracle}
+use Rattle.gl_calculus.specs.Formula.{Version, Cells, Content, content}
+use Rattle.gl_calculus.specs.Calculation.{SpentKind, Why, why}
+use Rattle.gl_calculus.specs.Oracle as R
+use Rattle.gl_language.specs.Text.{Bytes}
+use Rattle.gl_protocol.specs.Framing.{Item}
+use Rattle.gl_protocol.specs.Tables.{line}
+use Rattle.gl_protocol.specs.Commands as C
+use Rattle.gl_protocol.specs.Commands.{Word, Request, error_line, spent_line, why_text, ok_line, get_text, SettledReply, Does, Acts}
+use Rattle.gl_protocol.specs.Output.{is_refusal}
+use Rattle.gl_replies.specs.Laws.{ErrorsAreRefusals, RefusalsAreErrors}
+use Rattle.gl_replies.proofs.Beginnings.{Begins, empty, by, no_refusal, shown_begins, content_begins, line_begins, table_begins}
+
+-- the reply is an `error` line, or doesn't begin as one
+abbrev IsError : Bytes → Type 0
+IsError r = IsTrue (is_refusal r) → (w : Word) × (r ≡ error_line w)
+
+no_error : {r : Bytes} → Begins r → IsError r
+no_error b h = absurd (no_refusal b h)
+
+an_error : (w : Word) → IsError (error_line w)
+an_error w h = (w, refl)
+
+spent_reply : (k : SpentKind) → IsError (spent_line k)
+spent_reply (SpentKind.Rounds a) = no_error (by (omega arith) (λ e. omega (arith, e)))
+spent_reply (SpentKind.CopyRounds a) = no_error (by (omega arith) (λ e. omega (arith, e)))
+spent_reply (SpentKind.Depth a) = no_error (by (omega arith) (λ e. omega (arith, e)))
+spent_reply SpentKind.Work = no_error (by (omega arith) (λ e. omega (arith, e)))
+
+-- `edge` begins with an `e` too
+why_reply : (x : Why) → IsError (line (why_text x))
+why_reply Why.NoEntry = no_error (by (omega arith) (λ e. omega (arith, e)))
+why_reply Why.Permitted = no_error (by (omega arith) (λ e. omega (arith, e)))
+why_reply (Why.Blocked R.Obstacle.Edge) = λ h. cc h
+why_reply (Why.Blocked (R.Obstacle.Content a)) = no_error (by (omega arith) (λ e. omega (arith, e)))
+why_reply (Why.Blocked (R.Obstacle.Root a)) = no_error (by (omega arith) (λ e. omega (arith, e)))
+
+get_reply : (o : Option Content) → IsError (line (get_text o))
+get_reply None = no_error (by (omega arith) (λ e. omega (arith, e)))
+get_reply (Some c) = no_error (line_begins (content_begins c))
+
+module _ (records : Bytes → List (List Bytes)) (version : Version) (S : Cells) where
+  settled_reply : {w : Oracle} {n : ℕ} {x : Request} {r : Bytes} → SettledReply records version S w n x r → IsError r
+  settled_reply (C.SettledReply.show {x = x} s) = no_error (line_begins (shown_begins x))
+  settled_reply (C.SettledReply.view {r = r} {rows = rows} s) = no_error (table_begins (extents r).cols rows)
+  settled_reply C.SettledReply.calc = no_error (by (omega arith) (λ e. omega (arith, e)))
+  settled_reply C.SettledReply.oracle = no_error (by (omega arith) (λ e. omega (arith, e)))
+  settled_reply {w = w} (C.SettledReply.why_so {a = a}) = why_reply (why S w a)
+
+  does_reply : {x : Request} {T : Cells} {r : Bytes} → Does records version S x T r → IsError r
+  does_reply C.Does.nothing = no_error empty
+  does_reply (C.Does.set e) = no_error (by (omega arith) (λ f. omega (arith, f)))
+  does_reply (C.Does.set_refused {w = w} e) = an_error w
+  does_reply C.Does.clear = no_error (by (omega arith) (λ e. omega (arith, e)))
+  does_reply (C.Does.get {a = a}) = get_reply (content S a)
+  does_reply C.Does.list = no_error (by (omega arith) (λ e. omega (arith, e)))
+  does_reply C.Does.quit = no_error (by (omega arith) (λ e. omega (arith, e)))
+  does_reply (C.Does.settled a s) = settled_reply s
+  does_reply (C.Does.spent {k = k} t a) = spent_reply k
+
+  acts_reply : {x : Item} {T : Cells} {r : Bytes} → Acts records version S x T r → IsError r
+  acts_reply (C.Acts.request l d) = does_reply d
+  acts_reply (C.Acts.refused {w = w} l) = an_error w
+  acts_reply C.Acts.long = an_error C.LineWord
+  acts_reply C.Acts.truncated = an_error C.TruncatedWord
+  acts_reply (C.Acts.import place n a cs ws at_place read ok) = no_error (by (omega arith) (λ e. omega (arith, e)))
+  acts_reply (C.Acts.import_place place n ws none) = an_error C.AddressWord
+  acts_reply (C.Acts.import_fields {w = w} place n a ws at_place read) = an_error w
+  acts_reply (C.Acts.import_refused {w = w} place n a cs ws at_place read over) = an_error w
+
+pub errors_are_refusals : ErrorsAreRefusals
+errors_are_refusals w = refl
+
+pub refusals_are_errors : RefusalsAreErrors
+refusals_are_errors records version S T x r a = acts_reply records version S a

@@ -1,0 +1,13 @@
+pub mod Orders
+pub mod Found
+pub mod Sizes
+pub mod Effects
+pub mod Once
+pub mod Outputs
+pub mod Refusals
+pub mod Beginnings
+pub mod Errors
+pub mod Texts
+pub mod Contents
+pub mod Within
+pub mod Kept

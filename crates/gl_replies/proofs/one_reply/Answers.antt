@@ -1,0 +1,11 @@
+use Rattle.gl_replies.proofs.Outputs.{one_act, one_output, one_text}
+use Rattle.gl_replies.proofs.one_reply.Goals as goal
+
+pub returns-clause-act : goal.returns-clause-act
+returns-clause-act g = one_act
+
+pub returns-clause-output : goal.returns-clause-output
+returns-clause-output g = one_output
+
+pub returns-clause-written : goal.returns-clause-written
+returns-clause-written g = one_text

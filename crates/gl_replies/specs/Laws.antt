@@ -1,0 +1,38 @@
+-- The laws of replies and of sheets that public functions state.
+use Rattle.std.specs.Prelude.{◌≡◌, ◌≤◌, length, List, [], IsTrue}
+use Rattle.gl_calculus.specs.Limits.{max_formulas, max_contents}
+use Rattle.gl_calculus.specs.Formula.{Version, Cells, IsSheet, formula_addresses}
+use Rattle.gl_language.specs.Text.{Bytes}
+use Rattle.gl_protocol.specs.Framing.{Item}
+use Rattle.gl_protocol.specs.Commands.{Word, error_line, Acts}
+use Rattle.gl_protocol.specs.Output.{is_refusal, IsOutput, Runs}
+use Rattle.gl_protocol.specs.Laws.{AreProper}
+
+-- Whatever picks were made, a list of items has one output.
+abbrev pub OneText : Type 0
+OneText = (records : Bytes → List (List Bytes)) (is : List Item) (out other : Bytes) → IsOutput records is out → IsOutput records is other → out ≡ other
+
+-- An `error` line begins as one, and no other reply does.
+abbrev pub ErrorsAreRefusals : Type 0
+ErrorsAreRefusals = (w : Word) → IsTrue (is_refusal (error_line w))
+
+abbrev pub RefusalsAreErrors : Type 0
+RefusalsAreErrors =
+    (records : Bytes → List (List Bytes)) (version : Version) (S S' : Cells) (x : Item) (r : Bytes) →
+    Acts records version S x S' r → IsTrue (is_refusal r) → (w : Word) × (r ≡ error_line w)
+
+-- at most so many formulas, and so many contents
+abbrev pub IsWithinLimits : Cells → Type 0
+IsWithinLimits S = (length (formula_addresses S) ≤ max_formulas) × (length S ≤ max_contents)
+
+-- Each item leaves a sheet within the limits.
+abbrev pub ActsKeepLimits : Type 0
+ActsKeepLimits =
+    (records : Bytes → List (List Bytes)) (version : Version) (S S' : Cells) (x : Item) (r : Bytes) →
+    IsWithinLimits S → Acts records version S x S' r → IsWithinLimits S'
+
+-- So every sheet that a script leads to is in order, of proper contents, and within the limits.
+abbrev pub ScriptsKeepSheets : Type 0
+ScriptsKeepSheets =
+    (records : Bytes → List (List Bytes)) (version : Version) (is : List Item) (S : Cells) (rs : List Bytes) →
+    Runs records version [] is S rs → IsSheet S × AreProper S × IsWithinLimits S
