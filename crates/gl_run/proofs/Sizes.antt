@@ -1,5 +1,5 @@
 -- The number of rows that a word writes, by what `parse` reads of it.
-use Rattle.std.proofs.Common.{◌≡◌, ◌≢◌, ◌∙◌, ℕ, ◌-◌, ◌+◌, ◌*◌, ◌^◌, ◌<◌, ◌≤◌, Bool, true, false, cond, ◌&&◌, not, eqb, leb, ltb, List, [], ◌∷◌, length, get_or, fold, Option, Some, None, Result, Ok, Err, refl, ap, sym, subst, arith, rules}
+use Rattle.std.proofs.Common.{◌≡◌, ◌≢◌, ◌∙◌, ℕ, ◌-◌, ◌+◌, ◌*◌, ◌^◌, ◌<◌, ◌≤◌, Bool, true, false, cond, ◌&&◌, ◌||◌, ◌==◌, not, eqb, leb, ltb, List, [], ◌∷◌, length, get_or, fold, Option, Some, None, Result, Ok, Err, refl, ap, sym, subst, arith, rules}
 use Rattle.std.specs.List.{list_all}
 use Rattle.std.specs.Result.{OkIff}
 use Rattle.std.specs.Str.Parse.{ParsesUnsigned}
@@ -15,15 +15,23 @@ use Rattle.gl_script.proofs.Headers.{number_led}
 
 -- ---- a zero, or a sign, at the front
 
-pub zero_led : (bs : Bytes) → 0 < length bs → get_or bs 0 0 ≡ 48 → None ≡ size_of bs
-zero_led [] l h = absurd (omega arith)
-zero_led (b ∷ []) l h = subst (λ (x : ℕ). None ≡ size_of (x ∷ [])) (sym h) refl
-zero_led (b ∷ c ∷ bs) l h = subst (λ (x : ℕ). None ≡ size_of (x ∷ c ∷ bs)) (sym h) refl
+zero_led : (bs : Bytes) → get_or bs 0 0 ≡ 48 → None ≡ size_of bs
+zero_led [] h = refl
+zero_led (b ∷ []) h = subst (λ (x : ℕ). None ≡ size_of (x ∷ [])) (sym h) refl
+zero_led (b ∷ c ∷ bs) h = subst (λ (x : ℕ). None ≡ size_of (x ∷ c ∷ bs)) (sym h) refl
 
-pub plus_led : (bs : Bytes) → 0 < length bs → get_or bs 0 0 ≡ 43 → None ≡ size_of bs
-plus_led [] l h = absurd (omega arith)
-plus_led (b ∷ []) l h = subst (λ (x : ℕ). None ≡ size_of (x ∷ [])) (sym h) refl
-plus_led (b ∷ c ∷ bs) l h = subst (λ (x : ℕ). None ≡ size_of (x ∷ c ∷ bs)) (sym h) refl
+plus_led : (bs : Bytes) → get_or bs 0 0 ≡ 43 → None ≡ size_of bs
+plus_led [] h = refl
+plus_led (b ∷ []) h = subst (λ (x : ℕ). None ≡ size_of (x ∷ [])) (sym h) refl
+plus_led (b ∷ c ∷ bs) h = subst (λ (x : ℕ). None ≡ size_of (x ∷ c ∷ bs)) (sym h) refl
+
+pub size_led : (bs : Bytes) → (get_or bs 0 0 == 48 || get_or bs 0 0 == 43) ≡ true → None ≡ size_of bs
+size_led bs h =
+    let P : Bool → Type 0 = λ t. get_or bs 0 0 == 48 ≡ t → (t || get_or bs 0 0 == 43) ≡ true → None ≡ size_of bs in
+    (elim (get_or bs 0 0 == 48) as P [
+      | true ↦ λ e d. let f : get_or bs 0 0 ≡ 48 = grind (arith, nat_tests) in zero_led bs f
+      | false ↦ λ e d. let f : get_or bs 0 0 ≡ 43 = grind (arith, nat_tests) in plus_led bs f
+    ]) refl h
 
 -- ---- digits
 
@@ -50,7 +58,18 @@ some_digit (b ∷ bs) h = omega arith
 own : IsNumeralModel (λ ds. list_all is_digit ds ≡ true) digits_value
 own = numerals_by_fold _ (search rules) (λ n ds. fold (λ n d. 10 * n + (d - 48)) n ds) (search rules)
 
-module _ {E : Type 0} (bs : Bytes) (r : Result ℕ E) (h : ParsesUnsigned 32 10 bs r) (plus : get_or bs 0 0 ≢ 43) (zero_first : get_or bs 0 0 ≢ 48) where
+module _ {E : Type 0} (bs : Bytes) (r : Result ℕ E) (h : ParsesUnsigned 32 10 bs r) (led : (get_or bs 0 0 == 48 || get_or bs 0 0 == 43) ≡ false) where
+  plus : get_or bs 0 0 ≢ 43
+  plus e =
+      let P : Bool → Type 0 = λ t. (t || get_or bs 0 0 == 43) ≡ false → ⊥ in
+      let f : (get_or bs 0 0 == 43) ≡ true = grind (arith, nat_tests) in
+      (elim (get_or bs 0 0 == 48) as P [ true ↦ λ d. absurd (cc d) | false ↦ λ d. absurd (cc (sym f ∙ d)) ]) led
+
+  zero_first : get_or bs 0 0 ≢ 48
+  zero_first e =
+      let f : (get_or bs 0 0 == 48) ≡ true = grind (arith, nat_tests) in
+      let d : (true || get_or bs 0 0 == 43) ≡ false = rw f at led in absurd (cc d)
+
   reads : OkIff r ((list_all is_digit bs ≡ true) × (0 < length bs) × (digits_value bs < 2 ^ 32)) (digits_value bs)
   reads = parse_plain own 32 bs r h plus
 

@@ -117,11 +117,7 @@ const ROWS: [(&[u8], &[u8], Status); 14] = [
         b"ok\nok\nerror command\n",
         REFUSED,
     ),
-    (
-        b"set A1 1\ngridlet 2\n",
-        b"ok\nerror command\n",
-        REFUSED,
-    ),
+    (b"set A1 1\ngridlet 2\n", b"ok\nerror command\n", REFUSED),
     // a payload is no part of the script
     (
         b"set A1 2\nimport A1 5\nquit\nshow A1\n",

@@ -1,5 +1,5 @@
 // The words with which the program is called.
-ghost use Rattle.std.specs.Prelude.{◌≡◌, ◌≤◌, ◌&&◌, nat_lt, nat_le, Some, None, IfSome, option_map, if◌then◌else◌};
+ghost use Rattle.std.specs.Prelude.{◌≡◌, ◌≤◌, ◌==◌, ◌&&◌, ◌||◌, nat_lt, nat_le, slice_index, Some, None, IfSome, option_map, if◌then◌else◌};
 ghost use Rattle.gl_calculus.specs.Limits.{max_generated};
 ghost use Rattle.gl_protocol.specs.Words.{kind_of, size_of, order_pair, gen_pair, then_pair, or_else, plain_call};
 ghost use Rattle.gl_run.specs.Call.{words_call};
@@ -50,19 +50,28 @@ fn in_limits(n: u32) -> Option<u32>
     }
 }
 
-// The number of rows that a word writes, with no sign, and no zero at its front.
+// Whether a zero or a sign stands at the front.
+fn is_led(word: &[u8]) -> bool
+    ensures { result ≡ (slice_index word.now 0 == 48 || slice_index word.now 0 == 43) }
+{
+    match word {
+        [] => false,
+        [first, ..] => *first == b'0' || *first == b'+',
+    }
+}
+
+// The number of rows that a word writes, with no zero and no sign at its front.
 fn size_of(word: &str) -> Option<u32>
     ensures size { result ≡ size_of word.now }
     ensures some { IfSome result (λ n. 1 ≤ n) }
     ensures few { IfSome result (λ n. n ≤ max_generated) }
 {
-    match word.as_bytes() {
-        [b'0', ..] => None,
-        [b'+', ..] => None,
-        _ => match word.parse::<u32>() {
-            Ok(n) => in_limits(n),
-            Err(_) => None,
-        },
+    if is_led(word.as_bytes()) {
+        return None;
+    }
+    match word.parse::<u32>() {
+        Ok(n) => in_limits(n),
+        Err(_) => None,
     }
 }
 
