@@ -1,5 +1,5 @@
 -- How an item that is answered leads from one state to the next.
-use Rattle.std.proofs.Common.{◌≡◌, ◌∙◌, Bool, true, false, List, Option, None, Some, IfSome, Result, Ok, Err, IfOk, sym, subst, ap, codes, option_map}
+use Rattle.std.proofs.Common.{◌≡◌, ◌∙◌, Bool, true, false, Option, None, Some, IfSome, Result, Ok, Err, IfOk, sym, subst, codes}
 use Rattle.gl_calculus.specs.Formula as F
 use Rattle.gl_calculus.specs.Formula.{Cells}
 use Rattle.gl_language.specs.Text.{Bytes}
@@ -7,7 +7,7 @@ use Rattle.gl_protocol.specs.Framing.{Item}
 use Rattle.gl_protocol.specs.Commands.{Acts, LineWord, TruncatedWord, error_line, ok_line}
 use Rattle.gl_protocol.specs.Output.{is_line}
 use Rattle.gl_csvin.specs.Import.{records_of}
-use Rattle.gl_run.specs.State.{State, fresh, begun, state_by}
+use Rattle.gl_run.specs.State.{fresh, begun, state_by}
 use Rattle.gl_run.specs.Act as A
 use Rattle.gl_run.specs.Act.{Act}
 

@@ -1,5 +1,5 @@
 -- The replies of a run from the start are those of the script.
-use Rattle.std.proofs.Common.{◌≡◌, Bool, true, false, List, [], ◌∷◌, sym, subst}
+use Rattle.std.proofs.Common.{List, [], ◌∷◌, sym, subst}
 use Rattle.gl_calculus.specs.Formula as F
 use Rattle.gl_calculus.specs.Formula.{Version, Cells}
 use Rattle.gl_language.specs.Text.{Bytes}
@@ -7,7 +7,7 @@ use Rattle.gl_protocol.specs.Framing.{Item}
 use Rattle.gl_protocol.specs.Output as Output
 use Rattle.gl_protocol.specs.Output.{Runs, AreReplies}
 use Rattle.gl_csvin.specs.Import.{records_of}
-use Rattle.gl_run.specs.State.{State, fresh, begun, start}
+use Rattle.gl_run.specs.State.{State, begun, start}
 use Rattle.gl_run.specs.Act as A
 use Rattle.gl_run.specs.Act.{Act, Run}
 

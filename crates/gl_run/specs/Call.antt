@@ -1,5 +1,5 @@
 -- What the words of a call ask for, and the text that a run answers.
-use Rattle.std.specs.Prelude.{ℕ, Bool, true, false, List, map, Option, Some, None, is_some, string_bytes}
+use Rattle.std.specs.Prelude.{ℕ, Bool, false, List, map, Option, Some, None, is_some, string_bytes}
 use Rattle.std.specs.declared.string.String.{String}
 use Rattle.std.specs.declared.alloc.Global.{Global}
 use Rattle.gl_language.specs.Text.{Bytes}
