@@ -2,7 +2,7 @@
 use Rattle.std.specs.Prelude.{[], Option, Some, None, option_map}
 use Rattle.gl_calculus.specs.Formula.{Version, Cells}
 use Rattle.gl_ast.specs.View.{version_tree}
-use Rattle.gl_calc.specs.Held.{sheet_of}
+use Rattle.gl_calc.specs.View.{sheet_of}
 use Rattle.gl_run.specs.declared.session.Session.{Session}
 
 pub data State : Type 0 where

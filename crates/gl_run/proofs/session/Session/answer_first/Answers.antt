@@ -1,6 +1,6 @@
 use Rattle.std.proofs.Common.{◌≡◌, option_map, ap, rules}
 use Rattle.gl_ast.specs.View.{version_tree}
-use Rattle.gl_calc.specs.Held.{sheet_of}
+use Rattle.gl_calc.specs.View.{sheet_of}
 use Rattle.gl_script.specs.Framer.{told}
 use Rattle.gl_protocol.specs.Commands.{ok_line}
 use Rattle.gl_run.proofs.Acting.{acts_two, one_reply}

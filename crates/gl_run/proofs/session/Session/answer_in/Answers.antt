@@ -1,5 +1,5 @@
 use Rattle.gl_ast.specs.View.{version_tree}
-use Rattle.gl_calc.specs.Held.{sheet_of}
+use Rattle.gl_calc.specs.View.{sheet_of}
 use Rattle.gl_run.proofs.Acting.{long_reply, truncated_reply}
 use Rattle.gl_run.proofs.session.Session.answer_in.Goals as goal
 
