@@ -121,7 +121,7 @@ const ROWS: [(&[u8], &[u8], Status); 14] = [
     // a payload is no part of the script
     (
         b"set A1 2\nimport A1 5\nquit\nshow A1\n",
-        b"ok\nok\nquit\n",
+        b"ok\nok\n\"quit\"\n",
         DONE,
     ),
     (b"import A1 6\nquit\n", b"error truncated\n", REFUSED),
@@ -160,7 +160,7 @@ fn every_cut_has_the_same_replies(rt: HostRuntime) -> Result<(), Fail> {
             "{step}"
         );
         let script = b"set A1 2\r\nimport A1 5\r\nquit\nshow A1";
-        let replies = b"ok\nok\nquit\n";
+        let replies = b"ok\nok\n\"quit\"\n";
         assert!(rt;
             ends(rt.alloc(), script, &cut_at(step), DONE, replies)?,
             "{step}"
