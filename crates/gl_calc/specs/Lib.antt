@@ -1,1 +1,11 @@
+pub mod Shown
+pub mod Why
+pub mod View
+pub mod Costs
+pub mod Answers
+pub mod Visits
+pub mod Round
+pub mod Starting
 pub mod Held
+pub mod Ending
+pub mod Single

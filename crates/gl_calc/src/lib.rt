@@ -1,6 +1,18 @@
-//! The calculator: contents, and the answer that is held of them.
+//! The whole calculation of a sheet, round by round, and what is held of it.
 #![tactic(auto)]
 
+mod answers;
 mod calc;
+mod calculating;
+mod collecting;
+mod ending;
+mod reasons;
+mod round;
+mod showing;
+mod starting;
 
+pub use answers::{Answer, SpentKind, Why};
 pub use calc::Calc;
+
+/// The rounds that may be made beyond one for each formula.
+pub const EXTRA_ROUNDS: u32 = 8;

@@ -1,0 +1,7 @@
+pub mod Formulas
+pub mod Finished
+pub mod Arrays
+pub mod Rounds
+pub mod Ended
+pub mod Called
+pub mod Shows

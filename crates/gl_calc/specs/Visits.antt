@@ -1,0 +1,37 @@
+-- What a visit of a formula cell adds to the sizes of a round, by the cell's status in the quiet core.
+use Rattle.std.specs.Prelude.{◌≡◌, List, [], ◌∷◌, ◌++◌, Option, Some, None, Result, Ok, Err}
+use Rattle.std.specs.List.{AllByRecursion}
+use Rattle.gl_query.specs.Machine.{Status, Resolved}
+use Rattle.gl_calculus.specs.Grid.{Addr}
+use Rattle.gl_calculus.specs.Value as V
+use Rattle.gl_calculus.specs.Oracle.{Sizes}
+use Rattle.gl_calculus.specs.Formula.{Version, Cells}
+use Rattle.gl_calculus.specs.Key.{Key, Budget, Outcome, Abort}
+use Rattle.gl_calculus.specs.Calculation.{Arrays, FirstAbort, TopFails, is_abort}
+use Rattle.gl_calc.specs.declared.ending.RoundFault.{RoundFault}
+use Rattle.gl_calc.specs.declared.ending.RoundFault.TheVariants as fault
+
+-- the size of an array
+abbrev pub sizes_by : Addr → Option (Status Key Outcome) → Sizes
+sizes_by a (Some (Resolved (Outcome.Value (V.Array z xs)))) = (a, z) ∷ []
+sizes_by a s = []
+
+-- the budget that was spent
+abbrev pub budget_by : Option (Status Key Outcome) → Option Budget
+budget_by (Some (Resolved (Abort b))) = Some b
+budget_by s = None
+
+abbrev pub Visits : Addr → Option (Status Key Outcome) → Sizes → Result (Unit {0}) RoundFault → Sizes → Type 0
+Visits a s old (Ok u) new = (budget_by s ≡ None) × (new ≡ old ++ sizes_by a s)
+Visits a s old (Err fault.Work) new = ⊥
+Visits a s old (Err (fault.Depth c)) new = (c ≡ a) × (budget_by s ≡ Some Budget.Depth)
+Visits a s old (Err (fault.CopyRounds c)) new = (c ≡ a) × (budget_by s ≡ Some Budget.CopyRounds)
+Visits a s old (Err fault.NoMemory) new = Unit {0}
+
+-- the sizes of the arrays among these formula cells, or the first that ended as spent
+abbrev pub Collects : Version → Cells → V.Oracle → List Addr → Result Sizes RoundFault → Type 0
+Collects version S w places (Ok zs) = Arrays version S w places zs × AllByRecursion (TopFails version S is_abort w) places
+Collects version S w places (Err fault.Work) = ⊥
+Collects version S w places (Err (fault.Depth a)) = FirstAbort version S w places a Budget.Depth
+Collects version S w places (Err (fault.CopyRounds a)) = FirstAbort version S w places a Budget.CopyRounds
+Collects version S w places (Err fault.NoMemory) = Unit {0}

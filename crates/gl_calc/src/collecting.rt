@@ -1,0 +1,81 @@
+//! The sizes of the arrays of a round.
+ghost use Rattle.std.specs.Prelude.{◌++◌, ◌∷◌, [], Some};
+ghost use Rattle.gl_query.specs.Lists.{Member};
+ghost use Rattle.gl_query.specs.Machine as Machine;
+ghost use Rattle.gl_query.specs.Machine.{at};
+ghost use Rattle.gl_calculus.specs.Grid.{Addr as PlainAddr, Size as PlainSize, AreInOrder};
+ghost use Rattle.gl_calculus.specs.Value as V;
+ghost use Rattle.gl_calculus.specs.Key as K;
+ghost use Rattle.gl_calculus.specs.Key.{same_key};
+ghost use Rattle.gl_calculus.specs.Formula.{Version as PlainVersion, Cells as Sheet};
+ghost use Rattle.gl_calculus.specs.Oracle.{AreSizes};
+ghost use Rattle.gl_calculus.specs.Calculation.{DemandedIn};
+ghost use Rattle.gl_value.specs.View.{value_tree};
+ghost use Rattle.gl_demand.specs.View.{outcome_tree};
+ghost use Rattle.gl_core.specs.State.{state_of};
+ghost use Rattle.gl_calc.specs.Shown.{IsRound};
+ghost use Rattle.gl_calc.specs.Visits.{Visits, Collects};
+
+use crate::ending::RoundFault;
+use gl_core::{Quiet, Seen};
+use gl_demand::{Budget, Key, Outcome};
+use gl_plane::{Addr, NoMemory, Sizes};
+use gl_value::{Env, Value};
+use std::alloc::Global;
+
+/// The sizes of the arrays among the values of these formula cells, or the first of them that ended
+/// as spent.
+pub fn collected(alloc: Global, places: &[Addr], quiet: &Quiet) -> Result<Sizes, RoundFault>
+    requires { AreInOrder places.now }
+    ensures { (version : PlainVersion) (S : Sheet) (w : V.Oracle) → IsRound version S w (state_of quiet.now) → ((a : PlainAddr) → Member a places.now → DemandedIn version S w (K.Cell V.Top a)) → Collects version S w places.now result }
+{
+    let mut sizes = Sizes::new(alloc);
+    for a in places {
+        match visit(quiet, *a, &mut sizes) {
+            Ok(()) => {}
+            Err(fault) => return Err(fault),
+        }
+    }
+    Ok(sizes)
+}
+
+/// Adds the size of a formula cell's value, if that is an array.
+#[tactic(auto, using(gl_value::specs::Forms::trees))]
+fn visit(quiet: &Quiet, a: Addr, sizes: &mut Sizes) -> Result<(), RoundFault>
+    requires { (z : PlainSize) → AreSizes (sizes.old ++ (a, z) ∷ []) }
+    ensures { Visits a (at same_key (state_of quiet.now) (K.Cell V.Top a)) sizes.old result sizes.new }
+{
+    match quiet.seen(&Key::Cell(Env::Top, a)) {
+        Some(Seen::Known(outcome)) => add(a, outcome, sizes),
+        Some(Seen::Loops) => Ok(()),
+        None => Ok(()),
+    }
+}
+
+/// Adds the size of an outcome, if it is an array.
+fn add(a: Addr, outcome: &Outcome, sizes: &mut Sizes) -> Result<(), RoundFault>
+    requires { (z : PlainSize) → AreSizes (sizes.old ++ (a, z) ∷ []) }
+    ensures { Visits a (Some (Machine.Resolved (outcome_tree outcome.now))) sizes.old result sizes.new }
+{
+    match outcome {
+        Outcome::Value(value) => add_array(a, value, sizes),
+        Outcome::Settled(_) => Ok(()),
+        Outcome::Abort(Budget::Depth) => Err(RoundFault::Depth(a)),
+        Outcome::Abort(Budget::CopyRounds) => Err(RoundFault::CopyRounds(a)),
+    }
+}
+
+/// Adds the size of a value, if it is an array.
+#[tactic(auto, using(gl_value::specs::Forms::trees))]
+fn add_array(a: Addr, value: &Value, sizes: &mut Sizes) -> Result<(), RoundFault>
+    requires { (z : PlainSize) → AreSizes (sizes.old ++ (a, z) ∷ []) }
+    ensures { Visits a (Some (Machine.Resolved (K.Outcome.Value (value_tree value.now)))) sizes.old result sizes.new }
+{
+    match value {
+        Value::Array(array) => match sizes.push(a, array.size()) {
+            Ok(()) => Ok(()),
+            Err(NoMemory) => Err(RoundFault::NoMemory),
+        },
+        Value::One(_) => Ok(()),
+    }
+}

@@ -1,0 +1,131 @@
+//! What an address of the top sheet shows after a round.
+ghost use Rattle.std.specs.Prelude.{◌≡◌, Some, None, IsTrue, IfOk, option_map};
+ghost use Rattle.gl_language.specs.Content.{IsProperContent};
+ghost use Rattle.gl_calculus.specs.Calculation as C;
+ghost use Rattle.gl_calculus.specs.Calculation.{IsShown, IsUnspent, TopHas};
+ghost use Rattle.gl_calculus.specs.Formula.{Version, Formula, Form, Cells as Sheet, content};
+ghost use Rattle.gl_calculus.specs.Key as K;
+ghost use Rattle.gl_calculus.specs.Reference.{shown, spilled};
+ghost use Rattle.gl_calculus.specs.Sound.{is_sound_outcome};
+ghost use Rattle.gl_calculus.specs.Value as V;
+ghost use Rattle.gl_cells.specs.Content.{content_tree};
+ghost use Rattle.gl_cells.specs.Sheet.{sheet};
+ghost use Rattle.gl_plane.specs.Permit.{permit_tree};
+ghost use Rattle.gl_value.specs.Made.{shown_tree};
+ghost use Rattle.gl_value.specs.View.{scalar_tree};
+ghost use Rattle.gl_demand.specs.View.{outcome_tree};
+ghost use Rattle.gl_core.specs.State.{state_of};
+ghost use Rattle.gl_calc.specs.Shown.{IsRound, is_sound_shown};
+
+use gl_cells::{Cells, Content};
+use gl_core::{Quiet, Seen};
+use gl_demand::{Key, Outcome, shown, spilled};
+use gl_plane::{Addr, NoMemory, Oracle, Permit, Share};
+use gl_value::{Env, Scalar, Shown};
+
+/// What an address shows under the oracle of a round: a formula that loops is a cycle, an array
+/// shows its corner unless it is refused, and an address without content the element of the root
+/// that spills over it, or a blank.
+///
+/// A formula that ended as spent shows nothing, nor does an address under a root without a value;
+/// then the answer is `NoMemory`. A settled calculation has neither.
+pub fn shown_at(cells: &Cells, w: &Oracle, quiet: &Quiet, a: Addr) -> Result<Shown, NoMemory>
+    ensures shown { (version : Version) → IsRound version (sheet cells.now) w.now (state_of quiet.now) → IsUnspent version (sheet cells.now) w.now → IfOk result (λ x. IsShown version (sheet cells.now) w.now a (shown_tree x)) }
+    ensures sound { IfOk result (λ x. IsTrue (is_sound_shown (shown_tree x))) }
+{
+    match cells.content(a) {
+        Some(held) => content_shown(held, w, quiet, a),
+        None => blank_shown(w, quiet, a),
+    }
+}
+
+/// What an address with this content shows.
+fn content_shown(held: &Content, w: &Oracle, quiet: &Quiet, a: Addr) -> Result<Shown, NoMemory>
+    requires { IsProperContent (content_tree held.now) }
+    ensures shown { (version : Version) (S : Sheet) → content S a ≡ Some (content_tree held.now) → IsRound version S w.now (state_of quiet.now) → IfOk result (λ x. IsShown version S w.now a (shown_tree x)) }
+    ensures sound { IfOk result (λ x. IsTrue (is_sound_shown (shown_tree x))) }
+{
+    match held {
+        Content::Const(x) => constant_shown(x),
+        Content::Form(_) => formula_shown(w, quiet, a),
+    }
+}
+
+/// What a constant shows.
+fn constant_shown(x: &Scalar) -> Result<Shown, NoMemory>
+    ensures { IfOk result (λ y. shown_tree y ≡ C.Shown.Value (scalar_tree x.now)) }
+{
+    match x.share() {
+        Ok(x) => Ok(Shown::Value(x)),
+        Err(NoMemory) => Err(NoMemory),
+    }
+}
+
+/// What a formula shows.
+#[tactic(auto, using(gl_value::specs::Forms::trees))]
+fn formula_shown(w: &Oracle, quiet: &Quiet, a: Addr) -> Result<Shown, NoMemory>
+    ensures shown { (version : Version) (S : Sheet) (f : Formula) → content S a ≡ Some (Form f) → IsRound version S w.now (state_of quiet.now) → IfOk result (λ x. IsShown version S w.now a (shown_tree x)) }
+    ensures sound { IfOk result (λ x. IsTrue (is_sound_shown (shown_tree x))) }
+{
+    match quiet.seen(&Key::Cell(Env::Top, a)) {
+        Some(Seen::Known(outcome)) => outcome_shown(w.status(a), outcome),
+        Some(Seen::Loops) => Ok(Shown::Cycle),
+        None => Err(NoMemory),
+    }
+}
+
+/// What a formula with this outcome and this permit shows.
+fn outcome_shown(permit: Option<Permit>, outcome: &Outcome) -> Result<Shown, NoMemory>
+    requires { IsTrue (is_sound_outcome (outcome_tree outcome.now)) }
+    ensures shown { IfOk result (λ x. (v : V.Value) × (outcome_tree outcome.now ≡ K.Outcome.Value v) × (shown_tree x ≡ C.Shown.Value (shown (option_map permit_tree permit) v))) }
+    ensures sound { IfOk result (λ x. IsTrue (is_sound_shown (shown_tree x))) }
+{
+    match outcome {
+        Outcome::Value(v) => match shown(permit, v) {
+            Ok(x) => Ok(Shown::Value(x)),
+            Err(NoMemory) => Err(NoMemory),
+        },
+        Outcome::Settled(_) => Err(NoMemory),
+        Outcome::Abort(_) => Err(NoMemory),
+    }
+}
+
+/// What an address without content shows.
+fn blank_shown(w: &Oracle, quiet: &Quiet, a: Addr) -> Result<Shown, NoMemory>
+    ensures shown { (version : Version) (S : Sheet) → content S a ≡ None → IsRound version S w.now (state_of quiet.now) → IfOk result (λ x. IsShown version S w.now a (shown_tree x)) }
+    ensures sound { IfOk result (λ x. IsTrue (is_sound_shown (shown_tree x))) }
+{
+    match w.cover(a) {
+        Some(cover) => element_shown(quiet, cover),
+        None => Ok(Shown::Value(Scalar::Blank)),
+    }
+}
+
+/// What an address shows by the root that covers it, and its rows and columns from there.
+#[tactic(auto, using(gl_value::specs::Forms::trees))]
+fn element_shown(quiet: &Quiet, cover: (Addr, u16, u16)) -> Result<Shown, NoMemory>
+    ensures shown { (version : Version) (S : Sheet) (w : V.Oracle) → IsRound version S w (state_of quiet.now) → IfOk result (λ x. (v : V.Value) × TopHas version S w cover.0 (K.Outcome.Value v) × (shown_tree x ≡ C.Shown.Value (spilled (Some v) cover.1 cover.2))) }
+    ensures sound { IfOk result (λ x. IsTrue (is_sound_shown (shown_tree x))) }
+{
+    match quiet.seen(&Key::Cell(Env::Top, cover.0)) {
+        Some(Seen::Known(outcome)) => outcome_element(outcome, cover.1, cover.2),
+        Some(Seen::Loops) => Err(NoMemory),
+        None => Err(NoMemory),
+    }
+}
+
+/// The element that a root with this outcome shows at an address.
+fn outcome_element(outcome: &Outcome, rows: u16, cols: u16) -> Result<Shown, NoMemory>
+    requires { IsTrue (is_sound_outcome (outcome_tree outcome.now)) }
+    ensures shown { IfOk result (λ x. (v : V.Value) × (outcome_tree outcome.now ≡ K.Outcome.Value v) × (shown_tree x ≡ C.Shown.Value (spilled (Some v) rows cols))) }
+    ensures sound { IfOk result (λ x. IsTrue (is_sound_shown (shown_tree x))) }
+{
+    match outcome {
+        Outcome::Value(v) => match spilled(v, rows, cols) {
+            Ok(x) => Ok(Shown::Value(x)),
+            Err(NoMemory) => Err(NoMemory),
+        },
+        Outcome::Settled(_) => Err(NoMemory),
+        Outcome::Abort(_) => Err(NoMemory),
+    }
+}
