@@ -1,9 +1,8 @@
 //! The replies to the items of a script.
 ghost use Rattle.std.specs.Prelude.{◌≡◌, ◌≤◌, None, IfOk, OnErr, codes};
-ghost use Rattle.gl_calculus.specs.Formula.{Cells as PlainCells, Version as PlainVersion};
 ghost use Rattle.gl_language.specs.Text.{Bytes};
-ghost use Rattle.gl_protocol.specs.Commands.{Acts};
-ghost use Rattle.gl_protocol.specs.Framing.{Line, Long, Truncated};
+ghost use Rattle.gl_protocol.specs.Commands.{Acts, LineWord, TruncatedWord, error_line};
+ghost use Rattle.gl_protocol.specs.Framing.{Line};
 ghost use Rattle.gl_protocol.specs.Header.{payload_len};
 ghost use Rattle.gl_protocol.specs.Output.{is_line};
 ghost use Rattle.gl_ast.specs.View.{version_tree};
@@ -94,16 +93,14 @@ fn answer_request<F: Fn(u8, u64, u64) -> u64, L: Watch>(
 
 /// Answers a line that is too long.
 pub fn answer_long(alloc: Global) -> Result<Vec<u8>, NoMemory>
-    ensures { IfOk result (λ reply. (version : PlainVersion) (S : PlainCells)
-        → Acts csv_records version S Long S reply.items) }
+    ensures { IfOk result (λ reply. reply.items ≡ error_line LineWord) }
 {
     error_line(alloc, "line")
 }
 
 /// Answers an import whose payload the input ends in.
 pub fn answer_truncated(alloc: Global) -> Result<Vec<u8>, NoMemory>
-    ensures { IfOk result (λ reply. (version : PlainVersion) (S : PlainCells)
-        → Acts csv_records version S Truncated S reply.items) }
+    ensures { IfOk result (λ reply. reply.items ≡ error_line TruncatedWord) }
 {
     error_line(alloc, "truncated")
 }

@@ -1,5 +1,5 @@
 //! Imports.
-ghost use Rattle.std.specs.Prelude.{◌≡◌, ℕ, Some, IfOk, OnErr};
+ghost use Rattle.std.specs.Prelude.{◌≡◌, Some, IfOk, IsSome, OnErr};
 ghost use Rattle.gl_calculus.specs.Formula.{Version as PlainVersion};
 ghost use Rattle.gl_language.specs.Text.{Bytes};
 ghost use Rattle.gl_protocol.specs.Commands.{Acts, allowed, with_contents};
@@ -28,7 +28,7 @@ pub fn answer_import(
     header: &[u8],
     payload: &[u8],
 ) -> Result<Vec<u8>, NoMemory>
-    requires { (n : ℕ) × (payload_len header.now ≡ Some n) }
+    requires { IsSome (payload_len header.now) }
     ensures acts { IfOk result (λ reply. (version : PlainVersion)
         → Acts csv_records version (sheet_of calc.old) (Import header.now payload.now) (sheet_of calc.new) reply.items) }
     ensures err { OnErr result (sheet_of calc.new ≡ sheet_of calc.old) }
