@@ -1,9 +1,10 @@
 //! Imports.
-ghost use Rattle.std.specs.Prelude.{◌≡◌, Some, IfOk, OnErr};
+ghost use Rattle.std.specs.Prelude.{◌≡◌, Some, IfOk, IsSome, OnErr};
 ghost use Rattle.gl_calculus.specs.Formula.{Version as PlainVersion};
 ghost use Rattle.gl_language.specs.Text.{Bytes};
 ghost use Rattle.gl_protocol.specs.Commands.{Acts, allowed, with_contents};
 ghost use Rattle.gl_protocol.specs.Framing.{Import};
+ghost use Rattle.gl_protocol.specs.Header.{payload_len};
 ghost use Rattle.gl_cells.specs.Sheet.{sheet, AreProper};
 ghost use Rattle.gl_calc.specs.View.{sheet_of};
 ghost use Rattle.gl_csvin.specs.Import.{csv_records};
@@ -20,14 +21,14 @@ use gl_script::{Request, command};
 use std::alloc::Global;
 
 /// Answers an import: a header with the payload that follows it, which is taken also where the
-/// header's place is no address. It changes the sheet as a whole or not at all. A line that is no
-/// header is answered with `NoMemory`.
+/// header's place is no address. It changes the sheet as a whole or not at all.
 pub fn answer_import(
     alloc: Global,
     calc: &mut Calc,
     header: &[u8],
     payload: &[u8],
 ) -> Result<Vec<u8>, NoMemory>
+    requires { IsSome (payload_len header.now) }
     ensures acts { IfOk result (λ reply. (version : PlainVersion)
         → Acts csv_records version (sheet_of calc.old) (Import header.now payload.now) (sheet_of calc.new) reply.items) }
     ensures err { OnErr result (sheet_of calc.new ≡ sheet_of calc.old) }
