@@ -591,15 +591,27 @@ fn hostile_lines(rt: HostRuntime) -> Result<(), Fail> {
 #[test]
 fn words_of_calls(rt: HostRuntime) -> Result<(), Fail> {
     let cases: [(&[&str], &[u8], Status); 14] = [
-        (&["--gen", "3"], b"ok\nok\nok\nok\nok\nok\nsettled 2\n36\n256\n1035\nbye\n".as_slice(), Status::Done { refused: false }),
-        (&["--gen", "3", "--order", "turn"], b"ok\nok\nok\nok\nok\nok\nsettled 2\n36\n256\n1035\nbye\n".as_slice(), Status::Done { refused: false }),
+        (
+            &["--gen", "3"],
+            b"ok\nok\nok\nok\nok\nok\nsettled 2\n36\n256\n1035\nbye\n".as_slice(),
+            Status::Done { refused: false },
+        ),
+        (
+            &["--gen", "3", "--order", "turn"],
+            b"ok\nok\nok\nok\nok\nok\nsettled 2\n36\n256\n1035\nbye\n".as_slice(),
+            Status::Done { refused: false },
+        ),
         (&["--gen", "0"], b"".as_slice(), Status::Usage),
         (&["--gen", "1601"], b"".as_slice(), Status::Usage),
         (&["--order", "middle"], b"".as_slice(), Status::Usage),
         (&["--gen", "03"], b"".as_slice(), Status::Usage),
         (&["--gen"], b"".as_slice(), Status::Usage),
         (&["--order"], b"".as_slice(), Status::Usage),
-        (&["--order", "first", "--order", "last"], b"".as_slice(), Status::Usage),
+        (
+            &["--order", "first", "--order", "last"],
+            b"".as_slice(),
+            Status::Usage,
+        ),
         (&["--gen", "3", "--gen", "3"], b"".as_slice(), Status::Usage),
         (&["x"], b"".as_slice(), Status::Usage),
         (&["--gen", "3", "x"], b"".as_slice(), Status::Usage),
