@@ -5,7 +5,7 @@ use Rattle.std.specs.String.{string_bytes}
 use Rattle.gl_protocol.specs.Tables.{line}
 use Rattle.gl_protocol.specs.Output.{generated_payload}
 use Rattle.gl_run.proofs.Generating.{all_parts}
-use Rattle.gl_run.proofs.generated.generated.Goals as goal
+use Rattle.gl_run.proofs.generator.generated.Goals as goal
 
 pub returns : goal.returns
 returns c =

@@ -2,7 +2,7 @@ use Rattle.std.proofs.Common.{◌∙◌, [], ◌∷◌, ◌++◌, ap, codes}
 use Rattle.std.specs.Fmt.{decimal}
 use Rattle.std.specs.String.{string_bytes}
 use Rattle.gl_run.proofs.Generating.{one_number}
-use Rattle.gl_run.proofs.generated.put_copy.Goals as goal
+use Rattle.gl_run.proofs.generator.put_copy.Goals as goal
 
 pub returns : goal.returns
 returns c =

@@ -3,7 +3,7 @@ use Rattle.std.specs.Prelude.{flat_map}
 use Rattle.std.specs.List.{range_with_len}
 use Rattle.std.specs.String.{string_bytes}
 use Rattle.gl_protocol.specs.Output.{row_number, generated_payload}
-use Rattle.gl_run.proofs.generated.payload.Given as goal
+use Rattle.gl_run.proofs.generator.payload.Given as goal
 
 -- the rows so far, and those that are left
 abbrev pub invariant-loop-i : goal.invariant-loop-i
