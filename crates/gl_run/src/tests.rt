@@ -1,6 +1,10 @@
 // Scripts through `run`, over sources and sinks in memory.
+ghost use Rattle.std.specs.Prelude.{◌<◌, ◌≤◌};
+
 use crate::top::INPUT_LIMIT;
 use crate::{Status, run};
+use gl_demand::{Silent, Steps};
+use gl_order::Order;
 use gl_plane::NoMemory;
 use gl_port::{MemSink, MemSource};
 use std::alloc::Global;
@@ -33,6 +37,14 @@ fn cut_at(step: usize) -> Plan<'static> {
     }
 }
 
+// The last.
+fn last(n: u64) -> u64
+    requires { 1 ≤ n }
+    ensures { result < n }
+{
+    n - 1
+}
+
 fn ends(
     alloc: Global,
     script: &[u8],
@@ -45,12 +57,19 @@ fn ends(
     let writes = plan.writes.to_vec(alloc)?;
     let mut source = MemSource::new(script.to_vec(alloc)?, step, reads);
     let mut sink = MemSink::new(alloc, plan.room, step, writes)?;
-    let ended = run(alloc, &[], &mut source, &mut sink);
+    let order = Order::new(
+        |kind: u8, turn: u64, n: u64| -> u64
+            requires { (kind ≤ 2) × (1 ≤ n) }
+            ensures { result < n }
+        { last(n) },
+    );
+    let mut steps = Steps::new(Silent);
+    let ended = run(alloc, &[], &order, &mut source, &mut sink, &mut steps);
     Ok(ended == status && sink.taken() == replies)
 }
 
 // Scripts, their replies, and how they end.
-const ROWS: [(&[u8], &[u8], Status); 12] = [
+const ROWS: [(&[u8], &[u8], Status); 14] = [
     (b"", b"", DONE),
     (SUM, SUM_REPLIES, DONE),
     // a sum that leaves the range of numbers
@@ -65,7 +84,7 @@ const ROWS: [(&[u8], &[u8], Status); 12] = [
     // a cycle, and a cell that is blank
     (
         b"set A1 =B1+1\nset B1 =A1\nshow A1\nshow C1\nset A1 07\nshow B1\nshow A0\nset A1 =(1)\n",
-        b"ok\nok\n#CYCLE!\n.\nok\n7\nerror address\nerror syntax\n",
+        b"ok\nok\n#CYCLE!\n.\nok\n7\nerror address\nok\n",
         REFUSED,
     ),
     // a cell that is not on the ring, and reads a cell of it
@@ -88,15 +107,22 @@ const ROWS: [(&[u8], &[u8], Status); 12] = [
     ),
     // lines that are no command
     (
-        b"show  A1\nshow A1 \nset A1\nset A1 \nset A1 9223372036854775808\nset A0 x\nset A0 =\nset A1 =1 2\nlist\n\xff",
-        b"error command\nerror command\nerror command\nerror command\nerror command\nerror command\nerror address\nerror syntax\nerror command\nerror command\n",
+        b"show  A1\nshow A1 \nset A1\nset A1 \nset A0 x\nset A0 =\nset A1 =1 2\n\xff",
+        b"error command\nerror command\nerror command\nerror command\nerror address\nerror address\nerror syntax\nerror utf8\n",
         REFUSED,
     ),
+    // the version is said in the first line alone
+    (
+        b"gridlet 2\nset A1 1\ngridlet 2\n",
+        b"ok\nok\nerror command\n",
+        REFUSED,
+    ),
+    (b"set A1 1\ngridlet 2\n", b"ok\nerror command\n", REFUSED),
     // a payload is no part of the script
     (
         b"set A1 2\nimport A1 5\nquit\nshow A1\n",
-        b"ok\nerror command\n2\n",
-        REFUSED,
+        b"ok\nok\n\"quit\"\n",
+        DONE,
     ),
     (b"import A1 6\nquit\n", b"error truncated\n", REFUSED),
 ];
@@ -134,9 +160,9 @@ fn every_cut_has_the_same_replies(rt: HostRuntime) -> Result<(), Fail> {
             "{step}"
         );
         let script = b"set A1 2\r\nimport A1 5\r\nquit\nshow A1";
-        let replies = b"ok\nerror command\n2\n";
+        let replies = b"ok\nok\n\"quit\"\n";
         assert!(rt;
-            ends(rt.alloc(), script, &cut_at(step), REFUSED, replies)?,
+            ends(rt.alloc(), script, &cut_at(step), DONE, replies)?,
             "{step}"
         );
     }
@@ -197,7 +223,15 @@ fn words_are_refused(rt: HostRuntime) -> Result<(), Fail> {
     let words = [String::from_str(alloc, "--what")?];
     let mut source = MemSource::new(SUM.to_vec(alloc)?, 1, Vec::new(alloc));
     let mut sink = MemSink::new(alloc, 100, 1, Vec::new(alloc))?;
-    assert!(rt; run(alloc, &words, &mut source, &mut sink) == Status::Usage);
+    let order = Order::new(
+        |kind: u8, turn: u64, n: u64| -> u64
+            requires { (kind ≤ 2) × (1 ≤ n) }
+            ensures { result < n }
+        { last(n) },
+    );
+    let mut steps = Steps::new(Silent);
+    let ended = run(alloc, &words, &order, &mut source, &mut sink, &mut steps);
+    assert!(rt; ended == Status::Usage);
     assert!(rt; sink.taken().is_empty());
     Ok(())
 }

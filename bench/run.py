@@ -1,0 +1,93 @@
+#!/usr/bin/env python3
+"""Times a built gridlet on generated scripts.
+
+  python3 bench/run.py PROGRAM [NAME ..]
+
+PROGRAM is the built gridlet. With NAMEs only these workloads are run. Prints one line for each:
+its name, the bytes in and out, the exit status, and the seconds that it took. Nothing here is
+checked: the replies are those that the contract of the run fixes.
+"""
+import subprocess
+import sys
+import time
+
+
+def column(n):
+    """The letters of column n, from 1."""
+    letters = ''
+    while n:
+        n, rest = divmod(n - 1, 26)
+        letters = chr(65 + rest) + letters
+    return letters
+
+
+def generator():
+    """The generated script of its greatest size."""
+    return ['--gen', '1600'], ''
+
+
+def chain():
+    """A chain of 4,000 formulas, with 200 edits of its beginning."""
+    lines = ['set A1 1']
+    lines += ['set A%d =A%d+1' % (i, i - 1) for i in range(2, 4002)]
+    for i in range(200):
+        lines += ['set A1 %d' % i, 'show A4001']
+    return [], '\n'.join(lines) + '\n'
+
+
+def sums():
+    """60,000 constants under 4,000 sums."""
+    lines = ['set %s%d %d' % (column(c), r, r + c) for r in range(1, 4001) for c in range(1, 16)]
+    lines += ['set P%d =SUM(A%d:O%d)' % (r, r, r) for r in range(1, 4001)]
+    lines += ['show P4000', 'set A1 7', 'show P1']
+    return [], '\n'.join(lines) + '\n'
+
+
+def spills():
+    """500 spills side by side, and sums of what they show."""
+    lines = ['set %s1 =SEQUENCE(20,1)*%d' % (column(c), c) for c in range(1, 501)]
+    lines += ['set %s30 =SUM(%s1#)' % (column(c), column(c)) for c in range(1, 501)]
+    lines += ['calc', 'view A1:T20', 'show A30']
+    return [], '\n'.join(lines) + '\n'
+
+
+def copies():
+    """A recursion that makes 65,536 copies of its sheet."""
+    formula = '=IF(A1>=65536,1,VIEW(UPDATE(SHEET(A1:B1),A1,2*A1),B1)+VIEW(UPDATE(SHEET(A1:B1),A1,2*A1+1),B1))'
+    return [], 'set A1 1\nset B1 %s\nshow B1\n' % formula
+
+
+def table():
+    """An import of one megabyte."""
+    row = ','.join('123456789' for _ in range(10)) + '\n'
+    payload = row * (1000000 // len(row))
+    payload = payload[:1000000]
+    rows = payload.count('\n')
+    return [], 'import A1 %d\n%sset M1 =SUM(A1:A999)\nshow M1\n; %d rows\n' % (len(payload), payload, rows)
+
+
+def commands():
+    """200,000 small commands."""
+    lines = []
+    for i in range(100000):
+        lines += ['set A1 %d' % i, 'get A1']
+    return [], '\n'.join(lines) + '\n'
+
+
+WORKLOADS = [generator, chain, sums, spills, copies, table, commands]
+
+
+def main():
+    program, names = sys.argv[1], sys.argv[2:]
+    print('%-10s %10s %10s %6s %8s' % ('workload', 'in', 'out', 'status', 'seconds'))
+    for workload in WORKLOADS:
+        if names and workload.__name__ not in names:
+            continue
+        words, script = workload()
+        start = time.time()
+        done = subprocess.run([program] + words, input=script.encode(), capture_output=True)
+        print('%-10s %10d %10d %6d %8.2f' % (workload.__name__, len(script), len(done.stdout), done.returncode, time.time() - start))
+
+
+if __name__ == '__main__':
+    main()

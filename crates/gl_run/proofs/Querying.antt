@@ -1,0 +1,71 @@
+-- The replies to what asks for the calculation.
+use Rattle.std.specs.Prelude.{◌++◌, codes}
+use Rattle.std.specs.Fmt.{decimal}
+use Rattle.std.proofs.Common.{◌≡◌, ◌∙◌, ℕ, true, false, Option, Some, None, IsSome, is_some, option_map, ap, refl, sym, subst}
+use Rattle.gl_calculus.specs.Grid.{Addr}
+use Rattle.gl_calculus.specs.Value.{Oracle}
+use Rattle.gl_calculus.specs.Formula.{Version, Cells}
+use Rattle.gl_calculus.specs.Calculation as A
+use Rattle.gl_calculus.specs.Calculation.{why}
+use Rattle.gl_language.specs.Text.{Bytes, shown_text}
+use Rattle.gl_protocol.specs.Commands as C
+use Rattle.gl_protocol.specs.Commands.{Does, SettledReply, why_text, spent_line}
+use Rattle.gl_protocol.specs.Tables.{line, oracle_text}
+use Rattle.gl_calc.specs.View.{View, sheet_of}
+use Rattle.gl_calc.specs.Answers.{Answers, spent_tree}
+use Rattle.gl_calc.specs.declared.answers.Answer.TheVariants.{Settled, Spent}
+use Rattle.gl_calc.specs.declared.answers.SpentKind.{SpentKind}
+use Rattle.gl_csvin.specs.Import.{csv_records}
+use Rattle.gl_run.specs.Replies.{IsShownIn, RepliesBy, query_tree}
+use Rattle.gl_run.specs.declared.queries.Query.{Query}
+use Rattle.gl_run.specs.declared.queries.Query.TheVariants as q
+
+abbrev Held : Type 0
+Held = Option (Version × Oracle)
+
+pub held_some : (version : Version) (S : Cells) (rounds : ℕ) (old new : Held) → Answers version S (Settled rounds) old new → IsSome new
+held_some version S rounds old new h = ap is_some h.2
+
+pub settled_does : (version : Version) (S : Cells) (c : View) (old : Held) (rounds : ℕ) (x : C.Request) (reply : Bytes) → sheet_of c ≡ S
+    → Answers version S (Settled rounds) old c.held → RepliesBy c rounds x reply → Does csv_records version S x (sheet_of c) reply
+settled_does version S c old rounds x reply e h r =
+    let said : SettledReply csv_records version (sheet_of c) h.0 rounds x reply = r version h.0 h.2 in
+    subst (λ T. Does csv_records version S x T reply) (sym e) (C.Does.settled h.1 (subst (λ T. SettledReply csv_records version T h.0 rounds x reply) e said))
+
+all_ask : (version : Version) (S : Cells) (x : Query) → C.asks_calculation csv_records version S (query_tree x) ≡ true
+all_ask version S (q.Show a) = refl
+all_ask version S (q.View r) = refl
+all_ask version S q.Calc = refl
+all_ask version S q.Oracle = refl
+all_ask version S (q.Why a) = refl
+
+pub spent_does : (version : Version) (S T : Cells) (x : Query) (k : SpentKind) (old new : Held) (reply : Bytes) → T ≡ S
+    → Answers version S (Spent k) old new → reply ≡ spent_line (spent_tree k) → Does csv_records version S (query_tree x) T reply
+spent_does version S T x k old new reply e h r =
+    subst (λ U. Does csv_records version S (query_tree x) U reply) (sym e)
+    (subst (λ y. Does csv_records version S (query_tree x) S y) (sym r) (C.Does.spent (all_ask version S x) h.0))
+
+module _ (c : View) (reply : Bytes) where
+  pub show_replies : (a : Addr) (x : A.Shown) → IsShownIn c a x → reply ≡ line (shown_text x) → (rounds : ℕ) → RepliesBy c rounds (C.Request.Show a) reply
+  show_replies a x h r rounds version w e =
+      subst (λ y. SettledReply csv_records version (sheet_of c) w rounds (C.Request.Show a) y) (sym r) (C.SettledReply.show (h version w e))
+
+  pub calc_replies : (rounds : ℕ) → reply ≡ line (codes "settled " ++ decimal rounds) → RepliesBy c rounds C.Request.Calculate reply
+  calc_replies rounds r version w e = subst (λ y. SettledReply csv_records version (sheet_of c) w rounds C.Request.Calculate y) (sym r) C.SettledReply.calc
+
+  pub oracle_replies : (v : Oracle) → Some v ≡ option_map (λ h. h.1) c.held → reply ≡ oracle_text v → (rounds : ℕ) → RepliesBy c rounds C.Request.ShowOracle reply
+  oracle_replies v is r rounds version w e =
+      let both : Some v ≡ Some w = is ∙ ap (option_map (λ h. h.1)) e in
+      let same : v ≡ w = cc in
+      subst (λ y. SettledReply csv_records version (sheet_of c) w rounds C.Request.ShowOracle y) (sym (r ∙ ap oracle_text same)) C.SettledReply.oracle
+
+  pub why_replies : (a : Addr) (x : A.Why) → Some x ≡ option_map (λ h. why (sheet_of c) h.1 a) c.held → reply ≡ line (why_text x) → (rounds : ℕ) → RepliesBy c rounds (C.Request.Why a) reply
+  why_replies a x is r rounds version w e =
+      let both : Some x ≡ Some (why (sheet_of c) w a) = is ∙ ap (option_map (λ h. why (sheet_of c) h.1 a)) e in
+      let same : x ≡ why (sheet_of c) w a = cc in
+      subst (λ y. SettledReply csv_records version (sheet_of c) w rounds (C.Request.Why a) y) (sym (r ∙ ap (λ z. line (why_text z)) same)) C.SettledReply.why_so
+
+-- where an oracle is held, it is there
+pub held_there : {X : Type 0} (f : Version × Oracle → X) (o : Held) → IsSome o → None ≡ option_map f o → ⊥
+held_there f None some e = let no : false ≡ true = some in cc
+held_there f (Some h) some e = let no : None ≡ Some (f h) = e in cc

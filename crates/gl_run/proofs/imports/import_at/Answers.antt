@@ -1,0 +1,29 @@
+use Rattle.std.proofs.Common.{ℕ, List, Vec, Global, Some}
+use Rattle.std.proofs.lemmas.Result.{IfOk-weaker}
+use Rattle.gl_calculus.specs.Formula.{Version}
+use Rattle.gl_protocol.specs.Framing.{Import}
+use Rattle.gl_protocol.specs.Commands.{Acts, allowed, with_contents}
+use Rattle.gl_cells.specs.Sheet.{sheet}
+use Rattle.gl_calc.specs.View.{sheet_of}
+use Rattle.gl_csvin.specs.Import.{csv_records}
+use Rattle.gl_run.specs.Replies.{HasPlace, IsPut, IsRefusal, csv_word}
+use Rattle.gl_run.proofs.Importing.{import_put, import_refused}
+use Rattle.gl_run.proofs.imports.import_at.Goals as goal
+
+pub returns-in-Ok-clause-acts : goal.returns-in-Ok-clause-acts
+returns-in-Ok-clause-acts c =
+    let S = sheet_of c.args.calc.now in
+    let S' = sheet_of c.put_fields.new.calc in
+    let cs = sheet c.in-Ok.list.items in
+    let p = c.args.payload.now in
+    let P : Vec ℕ Global → Type 0 = λ reply. IsPut (allowed (with_contents S cs)) S S' reply.items in
+    let Q : Vec ℕ Global → Type 0 = λ reply. (version : Version) (l : List ℕ) → HasPlace l (Some c.args.at) → Acts csv_records version S (Import l p) S' reply.items in
+    IfOk-weaker c.put_fields.result P Q (λ reply h version l at. import_put version S S' l p reply.items c.args.at cs at c.in-Ok.ensures.answers h) c.put_fields.ensures.puts
+
+pub returns-in-Err-clause-acts : goal.returns-in-Err-clause-acts
+returns-in-Err-clause-acts c =
+    let S = sheet_of c.args.calc.now in
+    let p = c.args.payload.now in
+    let P : Vec ℕ Global → Type 0 = λ reply. IsRefusal (csv_word c.in-Err.fault) reply.items in
+    let Q : Vec ℕ Global → Type 0 = λ reply. (version : Version) (l : List ℕ) → HasPlace l (Some c.args.at) → Acts csv_records version S (Import l p) S reply.items in
+    IfOk-weaker c.csv_refusal.result P Q (λ reply h version l at. import_refused version S l p reply.items c.args.at c.in-Err.fault at c.in-Err.ensures.answers h) c.csv_refusal.ensures

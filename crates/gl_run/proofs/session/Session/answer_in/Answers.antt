@@ -1,0 +1,10 @@
+use Rattle.gl_ast.specs.View.{version_tree}
+use Rattle.gl_calc.specs.View.{sheet_of}
+use Rattle.gl_run.proofs.Acting.{long_reply, truncated_reply}
+use Rattle.gl_run.proofs.session.Session.answer_in.Goals as goal
+
+pub returns-in-Long-clause-acts : goal.returns-in-Long-clause-acts
+returns-in-Long-clause-acts g c = rw c.in-Long.is (long_reply _ (sheet_of c.args.self.now.calc) c.answer_long.result (version_tree c.args.version) c.answer_long.ensures)
+
+pub returns-in-Truncated-clause-acts : goal.returns-in-Truncated-clause-acts
+returns-in-Truncated-clause-acts g c = rw c.in-Truncated.is (truncated_reply _ (sheet_of c.args.self.now.calc) c.answer_truncated.result (version_tree c.args.version) c.answer_truncated.ensures)

@@ -1,0 +1,97 @@
+-- What parts of the replies say.
+use Rattle.std.specs.Prelude.{◌≡◌, ℕ, ◌+◌, ◌<◌, List, [], ◌++◌, length, flat_map, get_or, Option, Some, None, MatchOption, ⊤}
+use Rattle.gl_calculus.specs.Grid.{Addr, Range, addr, extents}
+use Rattle.gl_calculus.specs.Value.{Oracle}
+use Rattle.gl_calculus.specs.Formula.{Version, Cells}
+use Rattle.gl_calculus.specs.Formula as F
+use Rattle.gl_calculus.specs.Calculation as A
+use Rattle.gl_calculus.specs.Calculation.{IsShown}
+use Rattle.gl_language.specs.Text.{Bytes}
+use Rattle.gl_language.specs.Content.{IsProperContent}
+use Rattle.gl_protocol.specs.Commands as C
+use Rattle.gl_protocol.specs.Commands.{Word, Read, Is, Not, ImportWords, IsAddress, NoAddress, words_of, AreShown, SettledReply, error_line, ok_line}
+use Rattle.gl_protocol.specs.Tables.{line, set_text}
+use Rattle.gl_cells.specs.Content.{content_tree}
+use Rattle.gl_cells.specs.declared.fault.PutFault.{PutFault}
+use Rattle.gl_cells.specs.declared.fault.PutFault.TheVariants as put
+use Rattle.gl_calc.specs.View.{View, sheet_of}
+use Rattle.gl_csvin.specs.Import.{csv_records}
+use Rattle.gl_csvin.specs.declared.fault.CsvFault.{CsvFault}
+use Rattle.gl_csvin.specs.declared.fault.CsvFault.TheVariants as csv
+use Rattle.gl_script.specs.declared.requests.Request.{Request}
+use Rattle.gl_script.specs.declared.requests.Request.TheVariants as r
+use Rattle.gl_views.specs.Rows.{in_rows}
+use Rattle.gl_run.specs.declared.queries.Query.{Query}
+use Rattle.gl_run.specs.declared.queries.Query.TheVariants as q
+
+-- ---- refusals
+
+-- the line of this word; a want of memory has none
+abbrev pub IsRefusal : Option Word → Bytes → Type 0
+IsRefusal (Some w) reply = reply ≡ error_line w
+IsRefusal None reply = ⊥
+
+abbrev pub put_word : PutFault → Option Word
+put_word put.Formulas = Some C.FormulasWord
+put_word put.Contents = Some C.ContentsWord
+put_word put.NoMemory = None
+
+abbrev pub csv_word : CsvFault → Option Word
+csv_word csv.Utf8 = Some C.Utf8Word
+csv_word csv.Field = Some C.FieldWord
+csv_word csv.Grid = Some C.GridWord
+csv_word csv.NoMemory = None
+
+-- ---- edits
+
+-- the reply to an edit to this sheet, or to one that is refused by this word
+abbrev pub IsPut : Read Cells → Cells → Cells → Bytes → Type 0
+IsPut (Is goal) old new reply = (new ≡ goal) × (reply ≡ ok_line)
+IsPut (Not w) old new reply = (new ≡ old) × (reply ≡ error_line w)
+
+-- what `set` puts is proper
+abbrev pub IsProperRequest : Request → Type 0
+IsProperRequest (r.Set a c) = IsProperContent (content_tree c)
+IsProperRequest x = ⊤
+
+-- a line with the words of an import, whose place is this address, or none
+abbrev pub HasPlace : Bytes → Option Addr → Type 0
+HasPlace l place_at = (place n : Bytes) × (words_of l ≡ Some (ImportWords place n)) × MatchOption place_at (NoAddress place) (IsAddress place)
+
+-- ---- lists
+
+-- the line that sets a content at an address, where there is one
+abbrev pub set_line : Addr → Option F.Content → Bytes
+set_line a None = []
+set_line a (Some c) = line (set_text (a, c))
+
+abbrev pub set_lines : Cells → Bytes
+set_lines S = flat_map (λ x. line (set_text x)) S
+
+-- ---- queries
+
+abbrev pub query_tree : Query → C.Request
+query_tree (q.Show a) = C.Request.Show a
+query_tree (q.View x) = C.Request.View x
+query_tree q.Calc = C.Request.Calculate
+query_tree q.Oracle = C.Request.ShowOracle
+query_tree (q.Why a) = C.Request.Why a
+
+-- the reply by the oracle that is held, where the calculation took so many rounds
+abbrev pub RepliesBy : View → ℕ → C.Request → Bytes → Type 0
+RepliesBy c rounds x reply = (version : Version) (w : Oracle) → c.held ≡ Some (version, w) → SettledReply csv_records version (sheet_of c) w rounds x reply
+
+-- the address shows this by the oracle that is held
+abbrev pub IsShownIn : View → Addr → A.Shown → Type 0
+IsShownIn c a x = (version : Version) (w : Oracle) → c.held ≡ Some (version, w) → IsShown version (sheet_of c) w a x
+
+-- the addresses of the range show these, in row-major order
+abbrev pub AreShownIn : View → Range → List A.Shown → Type 0
+AreShownIn c r xs =
+    (version : Version) (w : Oracle) → c.held ≡ Some (version, w) → AreShown csv_records version (sheet_of c) w r (extents r).rows (in_rows (extents r).rows (extents r).cols xs)
+
+-- what the addresses of a row of the range show is appended
+abbrev pub IsRowShown : View → Range → ℕ → List A.Shown → List A.Shown → Type 0
+IsRowShown c r i old new =
+    (xs : List A.Shown) × (new ≡ old ++ xs) × (length xs ≡ (extents r).cols)
+    × ((j : ℕ) (d : A.Shown) → j < length xs → IsShownIn c (addr (r.first.col + j) i) (get_or xs j d))
