@@ -59,9 +59,8 @@ def copies():
 
 def table():
     """An import of one megabyte."""
-    row = ','.join('123456789' for _ in range(10)) + '\n'
+    row = ','.join('123456789012345678' for _ in range(10)) + '\n'
     payload = row * (1000000 // len(row))
-    payload = payload[:1000000]
     rows = payload.count('\n')
     return [], 'import A1 %d\n%sset M1 =SUM(A1:A999)\nshow M1\n; %d rows\n' % (len(payload), payload, rows)
 
