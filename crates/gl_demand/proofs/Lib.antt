@@ -23,3 +23,4 @@ pub mod Bindings
 pub mod IsFormula
 pub mod Calling
 pub mod Groups
+pub mod Told

@@ -29,6 +29,8 @@ mod shows;
 mod spills;
 mod stepping;
 mod steps;
+#[cfg(test)]
+mod tests;
 mod trail;
 mod viewing;
 

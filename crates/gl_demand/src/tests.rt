@@ -1,0 +1,10 @@
+//! Evaluations of the formulas of small sheets.
+use std::test::Fail;
+use crate::{Silent, Steps};
+
+#[test]
+fn no_steps(rt: HostRuntime) -> Result<(), Fail> {
+    let steps = Steps::new(Silent);
+    assert_eq!(rt; steps.done(), 0);
+    Ok(())
+}
