@@ -1,6 +1,6 @@
 //! Evaluations of the formulas of small sheets.
-use std::test::Fail;
 use crate::{Silent, Steps};
+use std::test::Fail;
 
 #[test]
 fn no_steps(rt: HostRuntime) -> Result<(), Fail> {
