@@ -156,7 +156,7 @@ impl Calc {
     }
 
     /// What an address shows by the held answer; `None` exactly where none is held.
-    pub fn shown(&self, _alloc: Global, a: Addr) -> Result<Option<Shown>, NoMemory>
+    pub fn shown(&self, a: Addr) -> Result<Option<Shown>, NoMemory>
         ensures { IfOk result (λ o. IsShownBy (sheet_of self.now) self.now.held a o) }
     {
         match &self.held {

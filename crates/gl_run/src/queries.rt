@@ -90,7 +90,7 @@ fn show(alloc: Global, calc: &Calc, a: Addr) -> Result<Vec<u8>, NoMemory>
     requires { IsSome calc.now.held }
     ensures { IfOk result (λ reply. (rounds : ℕ) → RepliesBy calc.now rounds (C.Request.Show a) reply.items) }
 {
-    match shown_at(alloc, calc, a) {
+    match shown_at(calc, a) {
         Ok(shown) => shown_line(alloc, &shown),
         Err(NoMemory) => Err(NoMemory),
     }

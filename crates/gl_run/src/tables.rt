@@ -12,11 +12,11 @@ use gl_views::table;
 use std::alloc::Global;
 
 /// What an address shows by the oracle that is held.
-pub(crate) fn shown_at(alloc: Global, calc: &Calc, a: Addr) -> Result<Shown, NoMemory>
+pub(crate) fn shown_at(calc: &Calc, a: Addr) -> Result<Shown, NoMemory>
     requires { IsSome calc.now.held }
     ensures { IfOk result (λ x. IsShownIn calc.now a (shown_tree x)) }
 {
-    match calc.shown(alloc, a) {
+    match calc.shown(a) {
         Ok(Some(shown)) => Ok(shown),
         Ok(None) => unreachable!(),
         Err(NoMemory) => Err(NoMemory),
@@ -43,26 +43,20 @@ fn shown_in(alloc: Global, calc: &Calc, range: &Range) -> Result<Vec<Shown>, NoM
 {
     let mut items = Vec::new(alloc);
     for row in range.first().row()..range.last().row() + 1 {
-        push_row(alloc, calc, range, row, &mut items)?;
+        push_row(calc, range, row, &mut items)?;
     }
     Ok(items)
 }
 
 /// Appends what the addresses of a row of the range show.
-fn push_row(
-    alloc: Global,
-    calc: &Calc,
-    range: &Range,
-    row: u16,
-    items: &mut Vec<Shown>,
-) -> Result<(), NoMemory>
+fn push_row(calc: &Calc, range: &Range, row: u16, items: &mut Vec<Shown>) -> Result<(), NoMemory>
     requires held { IsSome calc.now.held }
     requires top { range.now.first.row ≤ row }
     requires bottom { row ≤ range.now.last.row }
     ensures { OnOk result (IsRowShown calc.now range.now row (map shown_tree items.old.items) (map shown_tree items.new.items)) }
 {
     for col in range.first().col()..range.last().col() + 1 {
-        items.push(shown_at(alloc, calc, Addr { row, col })?)?;
+        items.push(shown_at(calc, Addr { row, col })?)?;
     }
     Ok(())
 }

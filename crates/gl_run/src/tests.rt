@@ -1,6 +1,8 @@
 // Scripts through `run`, over sources and sinks in memory.
 ghost use Rattle.std.specs.Prelude.{◌<◌, ◌≤◌};
 
+mod cuts;
+
 use crate::top::INPUT_LIMIT;
 use crate::{Status, run};
 use gl_demand::{Silent, Steps};
@@ -139,81 +141,15 @@ fn scripts_are_answered(rt: HostRuntime) -> Result<(), Fail> {
 }
 
 #[test]
-fn long_lines_are_refused(rt: HostRuntime) -> Result<(), Fail> {
-    let alloc = rt.alloc();
-    for (byte, len, replies, status) in [
-        (b'a', 32769usize, b"error line\n".as_slice(), REFUSED),
-        (b';', 32768, b"".as_slice(), DONE),
-    ] {
-        let mut script = vec![in alloc; byte; len]?;
-        script.push(b'\n')?;
-        assert!(rt; ends(alloc, &script, &cut_at(4096), status, replies)?);
-    }
-    Ok(())
-}
-
-#[test]
-fn every_cut_has_the_same_replies(rt: HostRuntime) -> Result<(), Fail> {
+fn cuts_between_a_line_and_its_end(rt: HostRuntime) -> Result<(), Fail> {
+    let script = b"set A1 2\r\nimport A1 5\r\nquit\nshow A1";
+    let replies = b"ok\nok\n\"quit\"\n";
     for step in 1usize..41 {
-        assert!(rt;
-            ends(rt.alloc(), SUM, &cut_at(step), DONE, SUM_REPLIES)?,
-            "{step}"
-        );
-        let script = b"set A1 2\r\nimport A1 5\r\nquit\nshow A1";
-        let replies = b"ok\nok\n\"quit\"\n";
         assert!(rt;
             ends(rt.alloc(), script, &cut_at(step), DONE, replies)?,
             "{step}"
         );
     }
-    Ok(())
-}
-
-#[test]
-fn each_read_fails(rt: HostRuntime) -> Result<(), Fail> {
-    for (numbers, replies) in [
-        (0u64..9, b"".as_slice()),
-        (9..19, b"ok\n".as_slice()),
-        (19..33, b"ok\nok\n".as_slice()),
-        (33..41, b"ok\nok\nok\n".as_slice()),
-        (41..42, SUM_REPLIES),
-    ] {
-        for number in numbers {
-            let plan = Plan {
-                reads: &[number],
-                ..cut_at(1)
-            };
-            assert!(rt;
-                ends(rt.alloc(), SUM, &plan, Status::ReadFault, replies)?,
-                "{number}"
-            );
-        }
-    }
-    Ok(())
-}
-
-#[test]
-fn each_write_fails(rt: HostRuntime) -> Result<(), Fail> {
-    for (number, replies) in [
-        (0u64, b"".as_slice()),
-        (1, b"ok\n".as_slice()),
-        (2, b"ok\nok\n".as_slice()),
-        (3, b"ok\nok\nok\n".as_slice()),
-    ] {
-        let plan = Plan {
-            writes: &[number],
-            ..cut_at(3)
-        };
-        assert!(rt;
-            ends(rt.alloc(), SUM, &plan, Status::WriteFault, replies)?,
-            "{number}"
-        );
-    }
-    let plan = Plan {
-        room: 5,
-        ..cut_at(4096)
-    };
-    assert!(rt; ends(rt.alloc(), SUM, &plan, Status::WriteFault, b"ok\nok")?);
     Ok(())
 }
 
