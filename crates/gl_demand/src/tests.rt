@@ -39,13 +39,15 @@ fn cell(text: &str) -> Result<Key, Fail> {
 }
 
 fn put_line(alloc: Global, cells: &mut Cells, line: &str) -> Result<(), Fail> {
-    match command(alloc, line.as_bytes()) {
-        Ok(Request::Set(a, content)) => {
+    let Ok(request) = command(alloc, line.as_bytes()) else {
+        return Err("refused".into());
+    };
+    match request {
+        Request::Set(a, content) => {
             cells.put(a, content)?;
             Ok(())
         }
-        Ok(_) => Err("no content".into()),
-        Err(_) => Err("refused".into()),
+        _ => Err("no content".into()),
     }
 }
 
