@@ -1,10 +1,205 @@
-//! A calculator without contents.
+//! Sheets that are calculated, by each pick rule.
+ghost use Rattle.std.specs.Prelude.{◌<◌, ◌≤◌, IfOk};
+ghost use Rattle.gl_language.specs.Content.{IsProperContent};
+ghost use Rattle.gl_cells.specs.Content.{content_tree};
+
+mod sheets;
+mod texts;
+
 use crate::Calc;
+use gl_ast::Version;
+use gl_cells::Content;
+use gl_demand::{Silent, Steps};
+use gl_order::Order;
+use gl_plane::{Addr, Share};
+use gl_script::{Request, command};
+use gl_value::Scalar;
+use gl_views::{oracle_text, shown_text};
+use std::alloc::Global;
 use std::test::Fail;
+use texts::{answer_text, why_text};
+
+fn address(text: &str) -> Result<Addr, Fail> {
+    Ok(Addr::read(text.as_bytes()).ok_or("no address")?)
+}
+
+/// Sets a content, or clears a range.
+fn edit(alloc: Global, calc: &mut Calc, line: &str) -> Result<(), Fail> {
+    let Ok(request) = command(alloc, line.as_bytes()) else {
+        return Err("refused".into());
+    };
+    match request {
+        Request::Set(a, content) => {
+            calc.put(a, content)?;
+            Ok(())
+        }
+        Request::Clear(range) => {
+            calc.clear(&range);
+            Ok(())
+        }
+        _ => Err("no edit".into()),
+    }
+}
+
+/// The calculator of a sheet with these edits.
+fn calc_of(alloc: Global, lines: &[&str]) -> Result<Calc, Fail> {
+    let mut calc = Calc::new(alloc);
+    for line in lines {
+        edit(alloc, &mut calc, line)?;
+    }
+    Ok(calc)
+}
+
+/// The first, the last, or each in turn.
+fn pick(kind: u8, turn: u64, n: u64) -> u64
+    requires { 1 ≤ n }
+    ensures { result < n }
+{
+    match kind {
+        0 => 0,
+        1 => n - 1,
+        _ => turn % n,
+    }
+}
+
+/// How the calculation ends, as a text.
+fn refreshed(alloc: Global, calc: &mut Calc, kind: u8, version: Version) -> Result<String, Fail>
+    requires { kind ≤ 2 }
+{
+    let order = Order::new(
+        |kind: u8, turn: u64, n: u64| -> u64
+            requires { (kind ≤ 2) × (1 ≤ n) }
+            ensures { result < n }
+        { pick(kind, turn, n) },
+    );
+    let mut steps = Steps::new(Silent);
+    match calc.refresh(alloc, &order, kind, version, &mut steps) {
+        Ok(answer) => answer_text(alloc, answer),
+        Err(fault) => Err(fault.into()),
+    }
+}
+
+/// The address shows this.
+fn shows(alloc: Global, calc: &Calc, a: &str, text: &str) -> Result<bool, Fail> {
+    match calc.shown(address(a)?)? {
+        Some(shown) => Ok(shown_text(alloc, &shown)?.as_str() == text),
+        None => Ok(false),
+    }
+}
+
+/// The root has its permit for this reason.
+fn has_reason(alloc: Global, calc: &Calc, a: &str, text: &str) -> Result<bool, Fail> {
+    match calc.why(address(a)?) {
+        Some(why) => Ok(why_text(alloc, why)?.as_str() == text),
+        None => Ok(false),
+    }
+}
+
+/// An answer is held: then there is an oracle, and each address shows something for a reason.
+fn is_held(calc: &Calc) -> Result<bool, Fail> {
+    let a = address("A1")?;
+    let held = calc.oracle().is_some();
+    if calc.why(a).is_some() != held || calc.shown(a)?.is_some() != held {
+        return Err("held in part".into());
+    }
+    Ok(held)
+}
 
 #[test]
-fn nothing_is_held_at_first(rt: HostRuntime) -> Result<(), Fail> {
-    let calc = Calc::new(rt.alloc());
-    assert!(rt; calc.oracle().is_none());
+fn versions_have_their_own_answers(rt: HostRuntime) -> Result<(), Fail> {
+    let alloc = rt.alloc();
+    let mut calc = calc_of(alloc, &["set A1 =IF(SEQUENCE(1,2)>0,1,A1)"])?;
+    assert!(rt; !is_held(&calc)?);
+    refreshed(alloc, &mut calc, 0, Version::One)?;
+    assert!(rt; shows(alloc, &calc, "A1", "#VALUE!")?);
+    refreshed(alloc, &mut calc, 0, Version::Two)?;
+    assert!(rt; shows(alloc, &calc, "A1", "#CYCLE!")?);
+    Ok(())
+}
+
+#[test]
+fn an_answer_is_held_until_an_edit(rt: HostRuntime) -> Result<(), Fail> {
+    let alloc = rt.alloc();
+    let mut calc = calc_of(alloc, &["set A1 =SEQUENCE(2,1)"])?;
+    for line in ["set A2 3", "clear A2:B9", "clear C3"] {
+        refreshed(alloc, &mut calc, 0, Version::One)?;
+        assert!(rt; is_held(&calc)?, "{line}");
+        edit(alloc, &mut calc, line)?;
+        assert!(rt; !is_held(&calc)?, "{line}");
+    }
+    refreshed(alloc, &mut calc, 0, Version::One)?;
+    assert!(rt; shows(alloc, &calc, "A2", "2")?);
+    put_two(alloc, &mut calc)?;
+    assert!(rt; !is_held(&calc)?);
+    refreshed(alloc, &mut calc, 0, Version::One)?;
+    assert!(rt; shows(alloc, &calc, "A1", "#SPILL!")?);
+    Ok(())
+}
+
+#[tactic(auto, using(gl_value::specs::Forms::trees))]
+fn number(n: i64) -> Content
+    ensures { IsProperContent (content_tree result) }
+{
+    Content::Const(Scalar::Int(n))
+}
+
+/// Numbers in A2 and B2, put at once.
+fn put_two(alloc: Global, calc: &mut Calc) -> Result<(), Fail> {
+    let mut list = Vec::new(alloc);
+    list.push((address("B2")?, number(5)))?;
+    list.push((address("A2")?, number(6)))?;
+    calc.put_all(alloc, list)?;
+    Ok(())
+}
+
+#[test]
+fn an_oracle_has_its_roots_in_order(rt: HostRuntime) -> Result<(), Fail> {
+    let alloc = rt.alloc();
+    let mut calc = calc_of(alloc, &["set A2 =SEQUENCE(1,3)", "set B1 =SEQUENCE(3,1)"])?;
+    refreshed(alloc, &mut calc, 0, Version::One)?;
+    let oracle = calc.oracle().ok_or("no oracle")?;
+    assert_eq!(rt;
+        oracle_text(alloc, oracle)?.as_str(),
+        "oracle 2\nB1 3x1 permitted\nA2 1x3 refused\n"
+    );
+    Ok(())
+}
+
+/// The content of B1.
+fn copy_of_b1(calc: &Calc) -> Result<Content, Fail>
+    ensures { IfOk result (λ c. IsProperContent (content_tree c)) }
+{
+    match calc.cells().content(address("B1")?) {
+        Some(content) => Ok(content.share()?),
+        None => Err("no content".into()),
+    }
+}
+
+/// The formula of B1 in the second and third columns, and 7 elsewhere.
+fn fill(calc: &mut Calc, col: u16, row: u16) -> Result<(), Fail> {
+    let a = Addr::new(col, row).ok_or("off the grid")?;
+    let content = if col == 2 || col == 3 {
+        copy_of_b1(calc)?
+    } else {
+        number(7)
+    };
+    calc.put(a, content)?;
+    Ok(())
+}
+
+#[test]
+fn a_full_sheet_settles(rt: HostRuntime) -> Result<(), Fail> {
+    let alloc = rt.alloc();
+    let mut calc = calc_of(alloc, &["set B1 =A1+1"])?;
+    for row in 1..8193u16 {
+        for col in 1..9u16 {
+            fill(&mut calc, col, row)?;
+        }
+    }
+    assert_eq!(rt; calc.cells().formulas(), 16384);
+    assert_eq!(rt; calc.cells().contents(), 65536);
+    let answer = refreshed(alloc, &mut calc, 2, Version::One)?;
+    assert_eq!(rt; answer.as_str(), "settled 1");
+    assert!(rt; shows(alloc, &calc, "C8192", "8")?);
     Ok(())
 }
