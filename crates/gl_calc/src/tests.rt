@@ -117,20 +117,39 @@ fn versions_have_their_own_answers(rt: HostRuntime) -> Result<(), Fail> {
     Ok(())
 }
 
+/// An answer is held until the edit, and not behind it.
+fn is_held_until(alloc: Global, calc: &mut Calc, line: &str) -> Result<bool, Fail> {
+    refreshed(alloc, calc, 0, Version::One)?;
+    let before = is_held(calc)?;
+    edit(alloc, calc, line)?;
+    let behind = is_held(calc)?;
+    Ok(before && !behind)
+}
+
 #[test]
 fn an_answer_is_held_until_an_edit(rt: HostRuntime) -> Result<(), Fail> {
     let alloc = rt.alloc();
     let mut calc = calc_of(alloc, &["set A1 =SEQUENCE(2,1)"])?;
     for line in ["set A2 3", "clear A2:B9", "clear C3"] {
-        refreshed(alloc, &mut calc, 0, Version::One)?;
-        assert!(rt; is_held(&calc)?, "{line}");
-        edit(alloc, &mut calc, line)?;
-        assert!(rt; !is_held(&calc)?, "{line}");
+        assert!(rt; is_held_until(alloc, &mut calc, line)?, "{line}");
     }
-    refreshed(alloc, &mut calc, 0, Version::One)?;
-    assert!(rt; shows(alloc, &calc, "A2", "2")?);
-    put_two(alloc, &mut calc)?;
-    assert!(rt; !is_held(&calc)?);
+    Ok(())
+}
+
+/// An answer is held until two contents are put at once, and not behind that.
+fn is_held_until_two(alloc: Global, calc: &mut Calc) -> Result<bool, Fail> {
+    refreshed(alloc, calc, 0, Version::One)?;
+    let before = is_held(calc)?;
+    put_two(alloc, calc)?;
+    let behind = is_held(calc)?;
+    Ok(before && !behind)
+}
+
+#[test]
+fn contents_are_put_at_once(rt: HostRuntime) -> Result<(), Fail> {
+    let alloc = rt.alloc();
+    let mut calc = calc_of(alloc, &["set A1 =SEQUENCE(2,1)"])?;
+    assert!(rt; is_held_until_two(alloc, &mut calc)?);
     refreshed(alloc, &mut calc, 0, Version::One)?;
     assert!(rt; shows(alloc, &calc, "A1", "#SPILL!")?);
     Ok(())
