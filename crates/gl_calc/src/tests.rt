@@ -1,5 +1,5 @@
 //! Sheets that are calculated, by each pick rule.
-ghost use Rattle.std.specs.Prelude.{◌<◌, ◌≤◌, IfOk};
+ghost use Rattle.std.specs.Prelude.{◌≤◌, IfOk};
 ghost use Rattle.gl_language.specs.Content.{IsProperContent};
 ghost use Rattle.gl_cells.specs.Content.{content_tree};
 
@@ -10,7 +10,7 @@ use crate::Calc;
 use gl_ast::Version;
 use gl_cells::Content;
 use gl_demand::{Silent, Steps};
-use gl_order::Order;
+use gl_order::{Order, by_kind};
 use gl_plane::{Addr, Share};
 use gl_script::{Request, command};
 use gl_value::Scalar;
@@ -50,28 +50,11 @@ fn calc_of(alloc: Global, lines: &[&str]) -> Result<Calc, Fail> {
     Ok(calc)
 }
 
-/// The first, the last, or each in turn.
-fn pick(kind: u8, turn: u64, n: u64) -> u64
-    requires { 1 ≤ n }
-    ensures { result < n }
-{
-    match kind {
-        0 => 0,
-        1 => n - 1,
-        _ => turn % n,
-    }
-}
-
 /// How the calculation ends, as a text.
 fn refreshed(alloc: Global, calc: &mut Calc, kind: u8, version: Version) -> Result<String, Fail>
     requires { kind ≤ 2 }
 {
-    let order = Order::new(
-        |kind: u8, turn: u64, n: u64| -> u64
-            requires { (kind ≤ 2) × (1 ≤ n) }
-            ensures { result < n }
-        { pick(kind, turn, n) },
-    );
+    let order = Order::new(by_kind);
     let mut steps = Steps::new(Silent);
     match calc.refresh(alloc, &order, kind, version, &mut steps) {
         Ok(answer) => answer_text(alloc, answer),
@@ -181,6 +164,54 @@ fn an_oracle_has_its_roots_in_order(rt: HostRuntime) -> Result<(), Fail> {
         oracle_text(alloc, oracle)?.as_str(),
         "oracle 2\nB1 3x1 permitted\nA2 1x3 refused\n"
     );
+    Ok(())
+}
+
+/// The row and 3 in the first two columns of a row.
+fn put_row(calc: &mut Calc, row: u16) -> Result<(), Fail> {
+    let first = Addr::new(1, row).ok_or("off the grid")?;
+    let second = Addr::new(2, row).ok_or("off the grid")?;
+    calc.put(first, number(i64::from(row)))?;
+    calc.put(second, number(3))?;
+    Ok(())
+}
+
+/// A table of 500 rows, what is computed of it, and a what-if by a gridlet.
+fn table(alloc: Global) -> Result<Calc, Fail> {
+    let mut calc = calc_of(
+        alloc,
+        &[
+            "set D1 =A1:A500*B1:B500",
+            "set F1 =SUM(D1#)",
+            "set H1 100",
+            "set I1 20",
+            "set J1 =H1-H1*I1/100",
+            "set L1 =G(H1:J1,I1,25)",
+        ],
+    )?;
+    for row in 1..501u16 {
+        put_row(&mut calc, row)?;
+    }
+    Ok(calc)
+}
+
+#[test]
+fn a_table_of_five_hundred_rows(rt: HostRuntime) -> Result<(), Fail> {
+    let alloc = rt.alloc();
+    let mut calc = table(alloc)?;
+    let answer = refreshed(alloc, &mut calc, 2, Version::One)?;
+    assert_eq!(rt; answer.as_str(), "settled 2");
+    let rows = [
+        ("F1", "375750"),
+        ("J1", "80"),
+        ("L1", "100"),
+        ("M1", "25"),
+        ("N1", "75"),
+        ("D500", "1500"),
+    ];
+    for (a, text) in rows {
+        assert!(rt; shows(alloc, &calc, a, text)?, "{a}");
+    }
     Ok(())
 }
 

@@ -1,5 +1,5 @@
 //! Any order of picks over small sheets.
-ghost use Rattle.std.specs.Prelude.{◌≡◌, ◌<◌, ◌≤◌, IfOk, IsTrue, map};
+ghost use Rattle.std.specs.Prelude.{◌≡◌, ◌≤◌, IfOk, IsTrue, map};
 ghost use Rattle.gl_query.specs.Lists.{Member, AreDistinct};
 ghost use Rattle.gl_query.specs.Laws.{IsQuiet};
 ghost use Rattle.gl_query.specs.Remembered.{AreTrue};
@@ -21,7 +21,7 @@ use gl_ast::Version;
 use gl_cells::Cells;
 use gl_demand::{Budget, Key, Outcome, Silent, Steps, proper};
 use gl_memo::Memo;
-use gl_order::Order;
+use gl_order::{Order, by_kind};
 use gl_plane::{Addr, Oracle, Range};
 use gl_script::{Request, command};
 use gl_value::{Env, Scalar, Value};
@@ -154,18 +154,6 @@ fn fresh(at: &Setting<'_>, names: &[&str]) -> Result<Core, Fail>
     started(at, seeds, Memo::new(at.alloc))
 }
 
-/// The first, the last, or each in turn.
-fn pick(kind: u8, turn: u64, n: u64) -> u64
-    requires { 1 ≤ n }
-    ensures { result < n }
-{
-    match kind {
-        0 => 0,
-        1 => n - 1,
-        _ => turn % n,
-    }
-}
-
 /// Runs the core by the pick rule of a kind.
 fn run(
     at: &Setting<'_>,
@@ -179,12 +167,7 @@ fn run(
     ensures seeds { IfOk result (λ q. seeds_of q ≡ seeds_of core) }
     ensures stays { IfOk result (λ q. IsFor (version_tree at.now.version) (sheet at.now.cells.now) at.now.w.now q) }
 {
-    let order = Order::new(
-        |kind: u8, turn: u64, n: u64| -> u64
-            requires { (kind ≤ 2) × (1 ≤ n) }
-            ensures { result < n }
-        { pick(kind, turn, n) },
-    );
+    let order = Order::new(by_kind);
     core.run_all(at.alloc, &order, kind, at.cells, at.w, at.version, steps)
 }
 

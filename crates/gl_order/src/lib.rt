@@ -5,7 +5,7 @@
 mod tests;
 
 ghost use Rattle.std.specs.Prelude.{◌≡◌, ◌<◌, ◌≤◌};
-ghost use Rattle.gl_order.specs.Rule.{PicksBelow, rule_of};
+ghost use Rattle.gl_order.specs.Rule.{PicksBelow, rule_of, place};
 
 /// A pick rule: a closure that is given a kind of rule from 0 to 2, the turn, and how many there
 /// are to pick from.
@@ -36,5 +36,19 @@ impl<F: Fn(u8, u64, u64) -> u64> Order<F> {
         ensures answer { F.post (rule_of self.now) kind turn n result }
     {
         (self.rule)(kind, turn, n)
+    }
+}
+
+/// The place that a kind of rule picks among `n`, from 0: the first for 0, the last for 1, and else
+/// each in turn.
+pub fn by_kind(kind: u8, turn: u64, n: u64) -> u64
+    requires { 1 ≤ n }
+    ensures place { result ≡ place kind turn n }
+    ensures below { result < n }
+{
+    match kind {
+        0 => 0,
+        1 => n - 1,
+        _ => turn % n,
     }
 }

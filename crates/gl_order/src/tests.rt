@@ -1,29 +1,9 @@
-ghost use Rattle.std.specs.Prelude.{◌≡◌, ◌<◌, ◌≤◌};
-
-use crate::Order;
+use crate::{Order, by_kind};
 use std::test::Fail;
-
-/// The first, the last, or each in turn.
-fn by_kind(kind: u8, turn: u64, n: u64) -> u64
-    requires kind { kind ≤ 2 }
-    requires some { 1 ≤ n }
-    ensures { result < n }
-{
-    match kind {
-        0 => 0,
-        1 => n - 1,
-        _ => turn % n,
-    }
-}
 
 #[test]
 fn picks_by_the_rule(rt: HostRuntime) -> Result<(), Fail> {
-    let order = Order::new(
-        |kind: u8, turn: u64, n: u64| -> u64
-            requires { (kind ≤ 2) × (1 ≤ n) }
-            ensures { result < n }
-        { by_kind(kind, turn, n) },
-    );
+    let order = Order::new(by_kind);
     let rows = [
         (0, 7, 5, 0),
         (1, 7, 5, 4),

@@ -1,5 +1,4 @@
 // Whole scripts and their replies, each by every pick rule.
-ghost use Rattle.std.specs.Prelude.{◌<◌, ◌≤◌};
 
 mod functions;
 mod long;
@@ -9,7 +8,7 @@ mod spending;
 
 use crate::{Status, run};
 use gl_demand::{Silent, Steps};
-use gl_order::Order;
+use gl_order::{Order, by_kind};
 use gl_port::{MemSink, MemSource};
 use std::alloc::Global;
 use std::test::Fail;
@@ -20,18 +19,6 @@ struct Row<'a> {
     script: &'a [u8],
     replies: &'a [u8],
     refused: bool,
-}
-
-// The first, the last, or each in turn.
-fn pick(kind: u8, turn: u64, n: u64) -> u64
-    requires { 1 ≤ n }
-    ensures { result < n }
-{
-    match kind {
-        0 => 0,
-        1 => n - 1,
-        _ => turn % n,
-    }
 }
 
 // The run ends so, with these replies.
@@ -48,12 +35,7 @@ fn runs(
     }
     let mut source = MemSource::new(script.to_vec(alloc)?, 4096, Vec::new(alloc));
     let mut sink = MemSink::new(alloc, 100000, 4096, Vec::new(alloc))?;
-    let order = Order::new(
-        |kind: u8, turn: u64, n: u64| -> u64
-            requires { (kind ≤ 2) × (1 ≤ n) }
-            ensures { result < n }
-        { pick(kind, turn, n) },
-    );
+    let order = Order::new(by_kind);
     let mut steps = Steps::new(Silent);
     let ended = run(alloc, &all, &order, &mut source, &mut sink, &mut steps);
     Ok(ended == status && sink.taken() == replies)

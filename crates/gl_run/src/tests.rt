@@ -1,12 +1,11 @@
 // Scripts through `run`, over sources and sinks in memory.
-ghost use Rattle.std.specs.Prelude.{◌<◌, ◌≤◌};
 
 mod cuts;
 
 use crate::top::INPUT_LIMIT;
 use crate::{Status, run};
 use gl_demand::{Silent, Steps};
-use gl_order::Order;
+use gl_order::{Order, by_kind};
 use gl_plane::NoMemory;
 use gl_port::{MemSink, MemSource};
 use std::alloc::Global;
@@ -39,14 +38,6 @@ fn cut_at(step: usize) -> Plan<'static> {
     }
 }
 
-// The last.
-fn last(n: u64) -> u64
-    requires { 1 ≤ n }
-    ensures { result < n }
-{
-    n - 1
-}
-
 fn ends(
     alloc: Global,
     script: &[u8],
@@ -59,12 +50,7 @@ fn ends(
     let writes = plan.writes.to_vec(alloc)?;
     let mut source = MemSource::new(script.to_vec(alloc)?, step, reads);
     let mut sink = MemSink::new(alloc, plan.room, step, writes)?;
-    let order = Order::new(
-        |kind: u8, turn: u64, n: u64| -> u64
-            requires { (kind ≤ 2) × (1 ≤ n) }
-            ensures { result < n }
-        { last(n) },
-    );
+    let order = Order::new(by_kind);
     let mut steps = Steps::new(Silent);
     let ended = run(alloc, &[], &order, &mut source, &mut sink, &mut steps);
     Ok(ended == status && sink.taken() == replies)
@@ -159,12 +145,7 @@ fn words_are_refused(rt: HostRuntime) -> Result<(), Fail> {
     let words = [String::from_str(alloc, "--what")?];
     let mut source = MemSource::new(SUM.to_vec(alloc)?, 1, Vec::new(alloc));
     let mut sink = MemSink::new(alloc, 100, 1, Vec::new(alloc))?;
-    let order = Order::new(
-        |kind: u8, turn: u64, n: u64| -> u64
-            requires { (kind ≤ 2) × (1 ≤ n) }
-            ensures { result < n }
-        { last(n) },
-    );
+    let order = Order::new(by_kind);
     let mut steps = Steps::new(Silent);
     let ended = run(alloc, &words, &order, &mut source, &mut sink, &mut steps);
     assert!(rt; ended == Status::Usage);

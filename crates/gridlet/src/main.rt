@@ -2,10 +2,8 @@
 //! goes out on standard output.
 #![tactic(auto)]
 
-ghost use Rattle.std.specs.Prelude.{◌<◌, ◌≤◌};
-
 use gl_demand::{Silent, Steps};
-use gl_order::Order;
+use gl_order::{Order, by_kind};
 use gl_port::{StdIn, StdOut};
 use gl_run::{Status, run};
 use std::io::{self, ErrorKind};
@@ -31,18 +29,6 @@ fn words(rt: &HostRuntime) -> io::Result<Vec<String>> {
     Ok(all.collect(rt.alloc())?)
 }
 
-// Which of `n` keys is picked: the first, the last, or each in turn.
-fn pick(kind: u8, turn: u64, n: u64) -> u64
-    requires { 1 ≤ n }
-    ensures { result < n }
-{
-    match kind {
-        0 => 0,
-        1 => n - 1,
-        _ => turn % n,
-    }
-}
-
 fn main(rt: HostRuntime) -> ExitCode {
     let words = match words(&rt) {
         Ok(words) => words,
@@ -54,12 +40,7 @@ fn main(rt: HostRuntime) -> ExitCode {
     };
     let mut source = StdIn::new(rt.stdin());
     let mut sink = StdOut::new(rt.stdout());
-    let order = Order::new(
-        |kind: u8, turn: u64, n: u64| -> u64
-            requires { (kind ≤ 2) × (1 ≤ n) }
-            ensures { result < n }
-        { pick(kind, turn, n) },
-    );
+    let order = Order::new(by_kind);
     let mut steps = Steps::new(Silent);
     let status = run(
         rt.alloc(),

@@ -149,6 +149,79 @@ const CELLS: [Sheet; 8] = [
     },
 ];
 
+const LARGE: [Sheet; 6] = [
+    // copies that each make two
+    Sheet {
+        lines: &[
+            "set A1 1",
+            "set B1 =IF(A1>=1024,1,VIEW(UPDATE(SHEET(A1:B1),A1,2*A1),B1)+VIEW(UPDATE(SHEET(A1:B1),A1,2*A1+1),B1))",
+        ],
+        ends: "settled 1",
+        shows: &[("B1", "1024")],
+        whys: &[],
+    },
+    // equal copies are one
+    Sheet {
+        lines: &[
+            "set A1 1",
+            "set B1 =IF(A1>=262144,1,VIEW(UPDATE(SHEET(A1:B1),A1,2*A1),B1)+VIEW(UPDATE(SHEET(A1:B1),A1,2*A1),B1))",
+        ],
+        ends: "settled 1",
+        shows: &[("B1", "262144")],
+        whys: &[],
+    },
+    Sheet {
+        lines: &[
+            "set A1 1",
+            "set B1 =IF(A1>=262144,1,VIEW(UPDATE(SHEET(A1:B1),A1,2*A1),B1)+VIEW(UPDATE(SHEET(A1:B1),A1,2*A1+1),B1))",
+        ],
+        ends: "spent work",
+        shows: &[],
+        whys: &[],
+    },
+    Sheet {
+        lines: &[
+            "set A1 1",
+            "set B1 x",
+            "set A2 2",
+            "set B2 y",
+            "set A3 1",
+            "set B3 z",
+            "set D1 =FILTER(A1:B3,A1:A3=1)",
+            "set G1 =UNIQUE(A1:A3)",
+            "set I1 =LOOKUP(2,A1:A3,B1:B3)",
+        ],
+        ends: "settled 2",
+        shows: &[
+            ("D1", "1"),
+            ("E1", "\"x\""),
+            ("D2", "1"),
+            ("E2", "\"z\""),
+            ("G1", "1"),
+            ("G2", "2"),
+            ("I1", "\"y\""),
+        ],
+        whys: &[("D1", "permitted"), ("I1", "none")],
+    },
+    // a sheet of seven arrays is too large, and one of six has no room for any of them
+    Sheet {
+        lines: &[
+            "set A3 =G(A1:G1,A1,SEQUENCE(100,100),B1,SEQUENCE(100,100),C1,SEQUENCE(100,100),D1,SEQUENCE(100,100),E1,SEQUENCE(100,100),F1,SEQUENCE(100,100),G1,SEQUENCE(100,100))",
+        ],
+        ends: "settled 1",
+        shows: &[("A3", "#SIZE!"), ("B3", ".")],
+        whys: &[("A3", "none")],
+    },
+    Sheet {
+        lines: &[
+            "set A3 =G(A1:F1,A1,SEQUENCE(100,100),B1,SEQUENCE(100,100),C1,SEQUENCE(100,100),D1,SEQUENCE(100,100),E1,SEQUENCE(100,100),F1,SEQUENCE(100,100))",
+        ],
+        ends: "settled 2",
+        shows: &[("A3", "#SPILL!"), ("B3", "#SPILL!"), ("G3", ".")],
+        whys: &[("A3", "permitted")],
+    },
+];
+
 fn all_show(alloc: Global, calc: &Calc, rows: &[(&str, &str)]) -> Result<bool, Fail> {
     for (a, text) in rows {
         if !shows(alloc, calc, a, text)? {
@@ -192,6 +265,16 @@ fn sheets_with_arrays(rt: HostRuntime) -> Result<(), Fail> {
 #[test]
 fn sheets_with_cells(rt: HostRuntime) -> Result<(), Fail> {
     for sheet in &CELLS {
+        for kind in 0u8..3 {
+            assert!(rt; holds(rt.alloc(), sheet, kind)?, "{:?}", sheet.lines);
+        }
+    }
+    Ok(())
+}
+
+#[test]
+fn large_sheets(rt: HostRuntime) -> Result<(), Fail> {
+    for sheet in &LARGE {
         for kind in 0u8..3 {
             assert!(rt; holds(rt.alloc(), sheet, kind)?, "{:?}", sheet.lines);
         }
