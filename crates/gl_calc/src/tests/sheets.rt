@@ -149,7 +149,7 @@ const CELLS: [Sheet; 8] = [
     },
 ];
 
-const LARGE: [Sheet; 6] = [
+const LARGE: [Sheet; 5] = [
     // copies that each make two
     Sheet {
         lines: &[
@@ -168,15 +168,6 @@ const LARGE: [Sheet; 6] = [
         ],
         ends: "settled 1",
         shows: &[("B1", "262144")],
-        whys: &[],
-    },
-    Sheet {
-        lines: &[
-            "set A1 1",
-            "set B1 =IF(A1>=262144,1,VIEW(UPDATE(SHEET(A1:B1),A1,2*A1),B1)+VIEW(UPDATE(SHEET(A1:B1),A1,2*A1+1),B1))",
-        ],
-        ends: "spent work",
-        shows: &[],
         whys: &[],
     },
     Sheet {
@@ -221,6 +212,17 @@ const LARGE: [Sheet; 6] = [
         whys: &[("A3", "permitted")],
     },
 ];
+
+// copies beyond the limit of demanded keys
+const WORK: Sheet = Sheet {
+    lines: &[
+        "set A1 1",
+        "set B1 =IF(A1>=262144,1,VIEW(UPDATE(SHEET(A1:B1),A1,2*A1),B1)+VIEW(UPDATE(SHEET(A1:B1),A1,2*A1+1),B1))",
+    ],
+    ends: "spent work",
+    shows: &[],
+    whys: &[],
+};
 
 fn all_show(alloc: Global, calc: &Calc, rows: &[(&str, &str)]) -> Result<bool, Fail> {
     for (a, text) in rows {
@@ -278,6 +280,14 @@ fn large_sheets(rt: HostRuntime) -> Result<(), Fail> {
         for kind in 0u8..3 {
             assert!(rt; holds(rt.alloc(), sheet, kind)?, "{:?}", sheet.lines);
         }
+    }
+    Ok(())
+}
+
+#[test]
+fn work_is_spent(rt: HostRuntime) -> Result<(), Fail> {
+    for kind in 0u8..3 {
+        assert!(rt; holds(rt.alloc(), &WORK, kind)?, "kind {kind}");
     }
     Ok(())
 }
