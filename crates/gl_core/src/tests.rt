@@ -1,5 +1,5 @@
 //! Any order of picks over small sheets.
-ghost use Rattle.std.specs.Prelude.{◌≡◌, ◌≤◌, IfOk, IsTrue, map};
+ghost use Rattle.std.specs.Prelude.{◌≡◌, ◌<◌, ◌≤◌, IfOk, IsTrue, map};
 ghost use Rattle.gl_query.specs.Lists.{Member, AreDistinct};
 ghost use Rattle.gl_query.specs.Laws.{IsQuiet};
 ghost use Rattle.gl_query.specs.Remembered.{AreTrue};
@@ -27,6 +27,7 @@ use gl_script::{Request, command};
 use gl_value::{Env, Scalar, Value};
 use sheets::{SHEETS, Sheet, Sight};
 use std::alloc::Global;
+use std::cell::Cell;
 use std::test::Fail;
 
 /// What runs go by.
@@ -303,5 +304,39 @@ fn many_keys(rt: HostRuntime) -> Result<(), Fail> {
     let quiet = run(&at, fresh(&at, &["B1", "C1", "D1", "E1"])?, 2, &mut steps)?;
     assert_eq!(rt; (quiet.len(), steps.done()), (200_000, 399_996));
     assert_eq!(rt; seen_as(quiet.seen(&cell("B1")?)), Sight::Number(50_000));
+    Ok(())
+}
+
+/// How often a run over a chain of three cells asks its rule, and its steps.
+fn asked(alloc: Global) -> Result<(u64, u64), Fail> {
+    let w = Oracle::new(alloc);
+    let cells = sheet_of(alloc, &["set A1 =B1+1", "set B1 =C1+1", "set C1 =1"])?;
+    let at = Setting {
+        alloc,
+        cells: &cells,
+        w: &w,
+        version: Version::One,
+    };
+    let core = fresh(&at, &["A1", "B1", "C1"])?;
+    let calls = Cell::new(0u64);
+    let order = Order::new(
+        |kind: u8, turn: u64, n: u64| -> u64
+            requires { (kind ≤ 2) × (1 ≤ n) }
+            ensures { result < n }
+        {
+            calls.set(calls.get().wrapping_add(1));
+            by_kind(kind, turn, n)
+        },
+    );
+    let mut steps = Steps::new(Silent);
+    match core.run_all(alloc, &order, 0, &cells, &w, Version::One, &mut steps) {
+        Ok(_) => Ok((calls.get(), steps.done())),
+        Err(e) => Err(e.into()),
+    }
+}
+
+#[test]
+fn a_rule_is_asked_for_each_pick(rt: HostRuntime) -> Result<(), Fail> {
+    assert_eq!(rt; asked(rt.alloc())?, (5, 5));
     Ok(())
 }
