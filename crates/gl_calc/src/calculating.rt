@@ -8,13 +8,12 @@ ghost use Rattle.gl_calc.specs.Ending.{EndsWith};
 
 use crate::EXTRA_ROUNDS;
 use crate::ending::{Answered, Ending, spent_by};
-use crate::reasons::whole_grid;
 use crate::round::TopRound;
 use gl_ast::Version;
 use gl_cells::Cells;
 use gl_demand::{Steps, TopBlocks, Watch};
 use gl_order::Order;
-use gl_plane::NoMemory;
+use gl_plane::{NoMemory, whole_grid};
 use gl_rounds::iterate;
 use std::alloc::Global;
 use std::marker::PhantomData;

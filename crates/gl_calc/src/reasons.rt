@@ -10,7 +10,7 @@ use crate::Why;
 use gl_cells::Cells;
 use gl_demand::TopBlocks;
 use gl_grant::blocker;
-use gl_plane::{Addr, Oracle, Range};
+use gl_plane::{Addr, Oracle, whole_grid};
 
 /// Why a root of the top sheet has its permit: the first that stands in its way where it is
 /// refused, `NoEntry` where the oracle has no entry of it.
@@ -25,16 +25,4 @@ pub fn why_at(cells: &Cells, w: &Oracle, a: Addr) -> Why
             Some(obstacle) => Why::Blocked(obstacle),
         },
     }
-}
-
-/// The whole grid.
-pub fn whole_grid() -> Range
-    ensures { result ≡ grid }
-{
-    let first = Addr { row: 1, col: 1 };
-    let last = Addr {
-        row: 9999,
-        col: 702,
-    };
-    Range::new(first, last)
 }

@@ -5,11 +5,6 @@ use Rattle.gl_calculus.specs.Value.{Scalar, Int, Text}
 use Rattle.gl_calculus.specs.Operators.{exact, plain}
 use Rattle.gl_calculus.specs.Functions.{first_fault, sum_fault, truth_fault, unless, whole_number, truth, best, truth_of}
 
--- a fault, or else what there is without one
-abbrev pub unless_fault : Option ErrKind → Scalar → Scalar
-unless_fault (Some k) x = Scalar.Err k
-unless_fault None x = x
-
 -- the sum of some elements and of what was added before
 abbrev pub total_from : ℤ → List Scalar → Scalar
 total_from n xs = unless (first_fault sum_fault xs) (exact (fold (λ i j. i +ℤ j) n (filter_map whole_number xs)))

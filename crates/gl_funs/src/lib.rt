@@ -7,7 +7,6 @@
 
 mod elements;
 mod numbers;
-mod operands;
 #[cfg(test)]
 mod tests;
 mod texts;

@@ -9,7 +9,7 @@ ghost use Rattle.gl_funs.specs.Elements.{AreSound, elements_of};
 ghost use Rattle.gl_funs.specs.Rules.{best_from};
 
 use crate::elements::Elements;
-use crate::operands::{amount, fault};
+use gl_scalar::operands::{amount, fault};
 use gl_value::{ErrKind, Scalar, Value};
 
 /// The exact sum of the integers among the elements, or `#NUM!` outside the 64 bits.

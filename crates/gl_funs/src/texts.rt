@@ -8,8 +8,8 @@ ghost use Rattle.gl_calculus.specs.Sound.{is_sound_scalar};
 ghost use Rattle.gl_value.specs.View.{scalar_tree};
 ghost use Rattle.gl_funs.specs.Rules.{natural, part_text};
 
-use crate::operands::{amount, fault};
 use gl_plane::NoMemory;
+use gl_scalar::operands::{amount, fault};
 use gl_value::{ErrKind, Scalar};
 use std::alloc::Global;
 use std::rc::RcStr;

@@ -2,7 +2,6 @@
 ghost use Rattle.std.specs.Prelude.{◌≡◌, ◌++◌, IfOk, OnOk};
 ghost use Rattle.std.specs.String.{string_bytes};
 ghost use Rattle.gl_calculus.specs.Formula.{content};
-ghost use Rattle.gl_calculus.specs.Grid.{grid};
 ghost use Rattle.gl_language.specs.Text as text;
 ghost use Rattle.gl_protocol.specs.Commands.{get_text, list_text, version_lines};
 ghost use Rattle.gl_protocol.specs.Tables.{line, set_text};
@@ -14,7 +13,7 @@ ghost use Rattle.gl_run.specs.Replies.{set_line, set_lines};
 use crate::lines::text_line;
 use gl_ast::{Version, put, put_address, put_number};
 use gl_cells::{Cells, Content};
-use gl_plane::{Addr, NoMemory, Range};
+use gl_plane::{Addr, NoMemory, whole_grid};
 use gl_views::content_text;
 use std::alloc::Global;
 
@@ -75,18 +74,6 @@ fn put_contents(alloc: Global, out: &mut String, cells: &Cells) -> Result<(), No
         next = cells.next_in(&grid, Some(a));
     }
     Ok(())
-}
-
-fn whole_grid() -> Range
-    ensures { result ≡ grid }
-{
-    Range::new(
-        Addr { row: 1, col: 1 },
-        Addr {
-            row: 9999,
-            col: 702,
-        },
-    )
 }
 
 /// The line that sets the content of an address, where it has one.

@@ -5,7 +5,7 @@
 #![tactic(auto)]
 
 mod numbers;
-mod operands;
+pub mod operands;
 mod order;
 #[cfg(test)]
 mod tests;

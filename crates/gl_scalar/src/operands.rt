@@ -1,4 +1,4 @@
-//! What operators read of their operands.
+//! What operators, and functions on scalars, read of their operands.
 ghost use Rattle.std.specs.Prelude.{◌≡◌, option_map};
 ghost use Rattle.gl_calculus.specs.Operators as O;
 ghost use Rattle.gl_calculus.specs.Value as V;
@@ -7,7 +7,7 @@ ghost use Rattle.gl_scalar.specs.Rules.{unless_fault};
 
 use gl_value::{ErrKind, Scalar};
 
-/// What two operands give whatever the operator: an error of the first, else one of the second,
+/// What two operands give whatever the operator or function: an error of the first, else one of the second,
 /// else `#VALUE!` where one of them is a sheet value.
 #[tactic(auto, using(gl_value::specs::Forms::trees))]
 pub fn fault(x: &Scalar, y: &Scalar) -> Option<ErrKind>
