@@ -3,6 +3,7 @@ ghost use Rattle.std.specs.Prelude.{◌≤◌, IfOk};
 ghost use Rattle.gl_language.specs.Content.{IsProperContent};
 ghost use Rattle.gl_cells.specs.Content.{content_tree};
 
+mod histories;
 mod sheets;
 mod texts;
 
@@ -15,6 +16,7 @@ use gl_plane::{Addr, Share};
 use gl_script::{Request, command};
 use gl_value::Scalar;
 use gl_views::{oracle_text, shown_text};
+use sheets::all_show;
 use std::alloc::Global;
 use std::test::Fail;
 use texts::{answer_text, why_text};
@@ -78,6 +80,14 @@ fn has_reason(alloc: Global, calc: &Calc, a: &str, text: &str) -> Result<bool, F
     }
 }
 
+/// The held oracle is this text, which is empty where none is held.
+fn has_oracle(alloc: Global, calc: &Calc, text: &str) -> Result<bool, Fail> {
+    match calc.oracle() {
+        Some(oracle) => Ok(oracle_text(alloc, oracle)?.as_str() == text),
+        None => Ok(text.is_empty() && !is_held(calc)?),
+    }
+}
+
 /// An answer is held: then there is an oracle, and each address shows something for a reason.
 fn is_held(calc: &Calc) -> Result<bool, Fail> {
     let a = address("A1")?;
@@ -88,15 +98,22 @@ fn is_held(calc: &Calc) -> Result<bool, Fail> {
     Ok(held)
 }
 
+/// A condition that is an array is no condition in version 1, and evaluates both values in version 2.
+fn versions_differ(alloc: Global, kind: u8) -> Result<bool, Fail>
+    requires { kind ≤ 2 }
+{
+    let mut calc = calc_of(alloc, &["set A1 =IF(SEQUENCE(1,2)>0,1,A1)"])?;
+    refreshed(alloc, &mut calc, kind, Version::One)?;
+    let one = shows(alloc, &calc, "A1", "#VALUE!")?;
+    refreshed(alloc, &mut calc, kind, Version::Two)?;
+    Ok(one && shows(alloc, &calc, "A1", "#CYCLE!")?)
+}
+
 #[test]
 fn versions_have_their_own_answers(rt: HostRuntime) -> Result<(), Fail> {
-    let alloc = rt.alloc();
-    let mut calc = calc_of(alloc, &["set A1 =IF(SEQUENCE(1,2)>0,1,A1)"])?;
-    assert!(rt; !is_held(&calc)?);
-    refreshed(alloc, &mut calc, 0, Version::One)?;
-    assert!(rt; shows(alloc, &calc, "A1", "#VALUE!")?);
-    refreshed(alloc, &mut calc, 0, Version::Two)?;
-    assert!(rt; shows(alloc, &calc, "A1", "#CYCLE!")?);
+    for kind in 0u8..3 {
+        assert!(rt; versions_differ(rt.alloc(), kind)?, "kind {kind}");
+    }
     Ok(())
 }
 
@@ -154,19 +171,6 @@ fn put_two(alloc: Global, calc: &mut Calc) -> Result<(), Fail> {
     Ok(())
 }
 
-#[test]
-fn an_oracle_has_its_roots_in_order(rt: HostRuntime) -> Result<(), Fail> {
-    let alloc = rt.alloc();
-    let mut calc = calc_of(alloc, &["set A2 =SEQUENCE(1,3)", "set B1 =SEQUENCE(3,1)"])?;
-    refreshed(alloc, &mut calc, 0, Version::One)?;
-    let oracle = calc.oracle().ok_or("no oracle")?;
-    assert_eq!(rt;
-        oracle_text(alloc, oracle)?.as_str(),
-        "oracle 2\nB1 3x1 permitted\nA2 1x3 refused\n"
-    );
-    Ok(())
-}
-
 /// The row and 3 in the first two columns of a row.
 fn put_row(calc: &mut Calc, row: u16) -> Result<(), Fail> {
     let first = Addr::new(1, row).ok_or("off the grid")?;
@@ -195,22 +199,33 @@ fn table(alloc: Global) -> Result<Calc, Fail> {
     Ok(calc)
 }
 
+/// The table by the pick rule of this kind.
+fn table_holds(alloc: Global, kind: u8) -> Result<bool, Fail>
+    requires { kind ≤ 2 }
+{
+    let mut calc = table(alloc)?;
+    let answer = refreshed(alloc, &mut calc, kind, Version::One)?;
+    if answer.as_str() != "settled 2" {
+        return Ok(false);
+    }
+    all_show(
+        alloc,
+        &calc,
+        &[
+            ("F1", "375750"),
+            ("J1", "80"),
+            ("L1", "100"),
+            ("M1", "25"),
+            ("N1", "75"),
+            ("D500", "1500"),
+        ],
+    )
+}
+
 #[test]
 fn a_table_of_five_hundred_rows(rt: HostRuntime) -> Result<(), Fail> {
-    let alloc = rt.alloc();
-    let mut calc = table(alloc)?;
-    let answer = refreshed(alloc, &mut calc, 2, Version::One)?;
-    assert_eq!(rt; answer.as_str(), "settled 2");
-    let rows = [
-        ("F1", "375750"),
-        ("J1", "80"),
-        ("L1", "100"),
-        ("M1", "25"),
-        ("N1", "75"),
-        ("D500", "1500"),
-    ];
-    for (a, text) in rows {
-        assert!(rt; shows(alloc, &calc, a, text)?, "{a}");
+    for kind in 0u8..3 {
+        assert!(rt; table_holds(rt.alloc(), kind)?, "kind {kind}");
     }
     Ok(())
 }

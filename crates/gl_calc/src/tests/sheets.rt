@@ -1,38 +1,28 @@
-//! Tables of sheets: what their calculations come to, what addresses show, and why roots have their
-//! permits.
+//! Tables of sheets: what their calculations come to, their oracles, what addresses show, and why roots
+//! have their permits.
 ghost use Rattle.std.specs.Prelude.{◌≤◌};
 
-use super::{calc_of, has_reason, refreshed, shows};
+use super::{edit, has_oracle, has_reason, refreshed, shows};
 use crate::Calc;
 use gl_ast::Version;
 use std::alloc::Global;
 use std::test::Fail;
 
-/// A sheet by its edits, how its calculation ends, what addresses show then, and why roots have their
-/// permits.
-struct Sheet {
-    lines: &'static [&'static str],
-    ends: &'static str,
-    shows: &'static [(&'static str, &'static str)],
-    whys: &'static [(&'static str, &'static str)],
+/// A sheet by its edits, how its calculation ends, the oracle that is held then (empty where none is),
+/// what addresses show, and why roots have their permits.
+pub struct Sheet {
+    pub lines: &'static [&'static str],
+    pub ends: &'static str,
+    pub oracle: &'static str,
+    pub shows: &'static [(&'static str, &'static str)],
+    pub whys: &'static [(&'static str, &'static str)],
 }
 
-const ARRAYS: [Sheet; 8] = [
-    Sheet {
-        lines: &["set A1 =SEQUENCE(3,1)", "set B1 =A1#*2"],
-        ends: "settled 3",
-        shows: &[("A1", "1"), ("A3", "3"), ("B2", "4"), ("C1", ".")],
-        whys: &[("A1", "permitted"), ("A2", "none")],
-    },
-    Sheet {
-        lines: &["set A1 =SEQUENCE(3,1)", "set B1 =A1#*2", "set A2 5"],
-        ends: "settled 2",
-        shows: &[("A1", "#SPILL!"), ("B1", "#SPILL!"), ("A2", "5")],
-        whys: &[("A1", "content A2"), ("B1", "none")],
-    },
+const ARRAYS: [Sheet; 3] = [
     Sheet {
         lines: &["set A2 =SEQUENCE(1,3)", "set B1 =SEQUENCE(3,1)"],
         ends: "settled 2",
+        oracle: "oracle 2\nB1 3x1 permitted\nA2 1x3 refused\n",
         shows: &[("A2", "#SPILL!"), ("B2", "2"), ("B3", "3")],
         whys: &[("A2", "root B1"), ("B1", "permitted")],
     },
@@ -40,51 +30,33 @@ const ARRAYS: [Sheet; 8] = [
     Sheet {
         lines: &["set B1 =SEQUENCE(3,1)", "set A2 =SEQUENCE(1,2)", "set B3 5"],
         ends: "settled 2",
+        oracle: "oracle 2\nB1 3x1 refused\nA2 1x2 permitted\n",
         shows: &[("B1", "#SPILL!"), ("B2", "2"), ("B3", "5")],
         whys: &[("B1", "content B3"), ("A2", "permitted")],
-    },
-    Sheet {
-        lines: &["set A9998 =SEQUENCE(3,1)", "set B1 =A9999+5"],
-        ends: "settled 2",
-        shows: &[("A9998", "#SPILL!"), ("B1", "5")],
-        whys: &[("A9998", "edge")],
-    },
-    Sheet {
-        lines: &["set A9998 =SEQUENCE(2,1)", "set B1 =A9999+5"],
-        ends: "settled 2",
-        shows: &[("A9999", "2"), ("B1", "7")],
-        whys: &[("A9998", "permitted")],
-    },
-    Sheet {
-        lines: &[
-            "set A1 2",
-            "set B1 =SEQUENCE(A1,1)",
-            "set D1 =G(A1:B3,A1,4)",
-        ],
-        ends: "settled 2",
-        shows: &[("D1", "4"), ("E1", "#SPILL!"), ("E2", "."), ("B2", "2")],
-        whys: &[("D1", "permitted")],
     },
     // the oracle alternates
     Sheet {
         lines: &["set A1 =IF(C1=0,SEQUENCE(1,3),5)"],
         ends: "spent rounds A1",
+        oracle: "",
         shows: &[],
         whys: &[],
     },
 ];
 
-const CELLS: [Sheet; 8] = [
+const CELLS: [Sheet; 10] = [
     // a ring, and a cell that demands it
     Sheet {
         lines: &["set A1 =B1", "set B1 =A1", "set C1 =IFERROR(A1,7)"],
         ends: "settled 1",
+        oracle: "oracle 0\n",
         shows: &[("A1", "#CYCLE!"), ("B1", "#CYCLE!"), ("C1", "#CYCLE!")],
         whys: &[("A1", "none")],
     },
     Sheet {
         lines: &["set A1 =IF(TRUE,1,B1)", "set B1 =A1"],
         ends: "settled 1",
+        oracle: "oracle 0\n",
         shows: &[("A1", "1"), ("B1", "1")],
         whys: &[],
     },
@@ -96,13 +68,26 @@ const CELLS: [Sheet; 8] = [
             "set E1 =G(A1:C1,A1,6)",
         ],
         ends: "settled 2",
+        oracle: "oracle 1\nE1 1x3 permitted\n",
         shows: &[("E1", "6"), ("F1", "4"), ("G1", "52"), ("C1", "25")],
         whys: &[],
     },
     Sheet {
         lines: &["set A1 1", "set B1 =C1+A1", "set C1 =G(A1:B1,A1,5)"],
         ends: "settled 1",
+        oracle: "oracle 0\n",
         shows: &[("A1", "1"), ("B1", "#CYCLE!"), ("C1", "#CYCLE!")],
+        whys: &[],
+    },
+    Sheet {
+        lines: &[
+            "set A1 0",
+            "set B1 =IF(A1=0,0,A1+VIEW(UPDATE(SHEET(A1:B1),A1,A1-1),B1))",
+            "set D1 =VIEW(UPDATE(SHEET(A1:B1),A1,63),B1)",
+        ],
+        ends: "settled 1",
+        oracle: "oracle 0\n",
+        shows: &[("D1", "2016")],
         whys: &[],
     },
     Sheet {
@@ -112,6 +97,7 @@ const CELLS: [Sheet; 8] = [
             "set D1 =VIEW(UPDATE(SHEET(A1:B1),A1,95),B1)",
         ],
         ends: "settled 1",
+        oracle: "oracle 0\n",
         shows: &[("D1", "4560")],
         whys: &[],
     },
@@ -122,6 +108,7 @@ const CELLS: [Sheet; 8] = [
             "set D1 =VIEW(UPDATE(SHEET(A1:B1),A1,96),B1)",
         ],
         ends: "spent depth D1",
+        oracle: "",
         shows: &[],
         whys: &[],
     },
@@ -133,6 +120,19 @@ const CELLS: [Sheet; 8] = [
             "set F1 =G(A1:D3,D1,1)",
         ],
         ends: "spent copyrounds F1",
+        oracle: "",
+        shows: &[],
+        whys: &[],
+    },
+    // the same on the sheet itself
+    Sheet {
+        lines: &[
+            "set D1 1",
+            "set A2 =SEQUENCE(1,3)",
+            "set B1 =IF(D1=0,1,IF(ISERROR(ROWS(A2#)),1,SEQUENCE(3,1)))",
+        ],
+        ends: "spent rounds B1",
+        oracle: "",
         shows: &[],
         whys: &[],
     },
@@ -144,6 +144,7 @@ const CELLS: [Sheet; 8] = [
             "set D1 =VIEW(UPDATE(SHEET(A1:C1),A1,7),C1)",
         ],
         ends: "settled 1",
+        oracle: "oracle 0\n",
         shows: &[("C1", "10"), ("D1", "70")],
         whys: &[],
     },
@@ -157,6 +158,7 @@ const LARGE: [Sheet; 5] = [
             "set B1 =IF(A1>=1024,1,VIEW(UPDATE(SHEET(A1:B1),A1,2*A1),B1)+VIEW(UPDATE(SHEET(A1:B1),A1,2*A1+1),B1))",
         ],
         ends: "settled 1",
+        oracle: "oracle 0\n",
         shows: &[("B1", "1024")],
         whys: &[],
     },
@@ -167,6 +169,7 @@ const LARGE: [Sheet; 5] = [
             "set B1 =IF(A1>=262144,1,VIEW(UPDATE(SHEET(A1:B1),A1,2*A1),B1)+VIEW(UPDATE(SHEET(A1:B1),A1,2*A1),B1))",
         ],
         ends: "settled 1",
+        oracle: "oracle 0\n",
         shows: &[("B1", "262144")],
         whys: &[],
     },
@@ -183,6 +186,7 @@ const LARGE: [Sheet; 5] = [
             "set I1 =LOOKUP(2,A1:A3,B1:B3)",
         ],
         ends: "settled 2",
+        oracle: "oracle 2\nD1 2x2 permitted\nG1 2x1 permitted\n",
         shows: &[
             ("D1", "1"),
             ("E1", "\"x\""),
@@ -200,6 +204,7 @@ const LARGE: [Sheet; 5] = [
             "set A3 =G(A1:G1,A1,SEQUENCE(100,100),B1,SEQUENCE(100,100),C1,SEQUENCE(100,100),D1,SEQUENCE(100,100),E1,SEQUENCE(100,100),F1,SEQUENCE(100,100),G1,SEQUENCE(100,100))",
         ],
         ends: "settled 1",
+        oracle: "oracle 0\n",
         shows: &[("A3", "#SIZE!"), ("B3", ".")],
         whys: &[("A3", "none")],
     },
@@ -208,6 +213,7 @@ const LARGE: [Sheet; 5] = [
             "set A3 =G(A1:F1,A1,SEQUENCE(100,100),B1,SEQUENCE(100,100),C1,SEQUENCE(100,100),D1,SEQUENCE(100,100),E1,SEQUENCE(100,100),F1,SEQUENCE(100,100))",
         ],
         ends: "settled 2",
+        oracle: "oracle 1\nA3 1x6 permitted\n",
         shows: &[("A3", "#SPILL!"), ("B3", "#SPILL!"), ("G3", ".")],
         whys: &[("A3", "permitted")],
     },
@@ -220,11 +226,12 @@ const WORK: Sheet = Sheet {
         "set B1 =IF(A1>=262144,1,VIEW(UPDATE(SHEET(A1:B1),A1,2*A1),B1)+VIEW(UPDATE(SHEET(A1:B1),A1,2*A1+1),B1))",
     ],
     ends: "spent work",
+    oracle: "",
     shows: &[],
     whys: &[],
 };
 
-fn all_show(alloc: Global, calc: &Calc, rows: &[(&str, &str)]) -> Result<bool, Fail> {
+pub fn all_show(alloc: Global, calc: &Calc, rows: &[(&str, &str)]) -> Result<bool, Fail> {
     for (a, text) in rows {
         if !shows(alloc, calc, a, text)? {
             return Ok(false);
@@ -242,16 +249,26 @@ fn all_have_reasons(alloc: Global, calc: &Calc, rows: &[(&str, &str)]) -> Result
     Ok(true)
 }
 
-/// The sheet is as its table says, by the pick rule of this kind.
+/// Behind these edits all is as the row says, by the pick rule of this kind.
+pub fn goes_on(alloc: Global, calc: &mut Calc, sheet: &Sheet, kind: u8) -> Result<bool, Fail>
+    requires { kind ≤ 2 }
+{
+    for line in sheet.lines {
+        edit(alloc, calc, line)?;
+    }
+    let ends = refreshed(alloc, calc, kind, Version::One)?;
+    if ends.as_str() != sheet.ends || !has_oracle(alloc, calc, sheet.oracle)? {
+        return Ok(false);
+    }
+    Ok(all_show(alloc, calc, sheet.shows)? && all_have_reasons(alloc, calc, sheet.whys)?)
+}
+
+/// The sheet is as its row says, by the pick rule of this kind.
 fn holds(alloc: Global, sheet: &Sheet, kind: u8) -> Result<bool, Fail>
     requires { kind ≤ 2 }
 {
-    let mut calc = calc_of(alloc, sheet.lines)?;
-    let ends = refreshed(alloc, &mut calc, kind, Version::One)?;
-    if ends.as_str() != sheet.ends {
-        return Ok(false);
-    }
-    Ok(all_show(alloc, &calc, sheet.shows)? && all_have_reasons(alloc, &calc, sheet.whys)?)
+    let mut calc = Calc::new(alloc);
+    goes_on(alloc, &mut calc, sheet, kind)
 }
 
 #[test]
