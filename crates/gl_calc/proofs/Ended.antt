@@ -4,7 +4,7 @@ use Rattle.gl_calculus.specs.Value.{Oracle}
 use Rattle.gl_calculus.specs.Formula as F
 use Rattle.gl_calculus.specs.Formula.{Cells, IsSheet}
 use Rattle.gl_calculus.specs.Calculation as C
-use Rattle.gl_calculus.specs.Calculation.{has_content, IsUnspent}
+use Rattle.gl_calculus.specs.Calculation.{IsUnspent}
 use Rattle.gl_calculus.proofs.Settles.{settled_consistent}
 use Rattle.gl_calculus.proofs.Something.{settled_shows}
 use Rattle.gl_ast.specs.View.{version_tree}

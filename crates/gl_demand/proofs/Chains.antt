@@ -1,5 +1,5 @@
 -- A chain of operands, taken one after another.
-use Rattle.std.proofs.Common.{◌≡◌, List, [], ◌∷◌, Result, Ok, Err, refl, ap, sym, ◌∙◌}
+use Rattle.std.proofs.Common.{◌≡◌, List, [], ◌∷◌, Ok, Err, ap, sym, ◌∙◌}
 use Rattle.std.specs.declared.alloc.Global.{Global}
 use Rattle.std.specs.declared.boxed.Box.{Box}
 use Rattle.std.specs.declared.vec.Vec.{Vec}
@@ -10,7 +10,7 @@ use Rattle.gl_calculus.specs.Formula as F
 use Rattle.gl_calculus.specs.Formula.{Version}
 use Rattle.gl_calculus.specs.Lift.{lift2}
 use Rattle.gl_calculus.specs.Operators.{operate}
-use Rattle.gl_calculus.specs.Key.{Eval, give, on_result, ◌>>=◌}
+use Rattle.gl_calculus.specs.Key.{Eval, on_result, ◌>>=◌}
 use Rattle.gl_calculus.specs.Evaluation as E
 use Rattle.gl_ast.specs.View.{formula_tree, op_tree, level_tree, operand_trees}
 use Rattle.gl_ast.specs.Forms.{formula_tree-Chain}
@@ -20,7 +20,6 @@ use Rattle.gl_ast.specs.declared.Formula.{Formula}
 use Rattle.gl_ast.specs.declared.Formula.TheVariants as form
 use Rattle.gl_value.specs.View.{value_tree}
 use Rattle.gl_value.specs.declared.Value.{Value}
-use Rattle.gl_demand.specs.View.{key_tree, budget_tree}
 use Rattle.gl_demand.specs.Walk.{World, walk, then_walk}
 use Rattle.gl_demand.specs.Walks.{Walks, trail_tree}
 use Rattle.gl_demand.specs.declared.trail.Trail as Code

@@ -1,13 +1,12 @@
 -- How the evaluation of a key ends, and what `step` says of it.
-use Rattle.std.proofs.Common.{◌≡◌, Bool, true, false, cond, List, [], ◌∷◌, ◌++◌, ◌||◌, Option, Some, None, Result, Ok, Err, inl, inr, ◌⊎◌, fold, IfOk, refl, ap, sym, subst, ◌∙◌}
+use Rattle.std.proofs.Common.{◌≡◌, Bool, true, false, cond, List, [], ◌∷◌, ◌++◌, ◌||◌, Some, None, Result, Ok, Err, inl, inr, IfOk, refl, ap, sym, subst, ◌∙◌}
 use Rattle.std.specs.List.{list_any}
-use Rattle.indexmap.specs.IndexSet.{insert_key}
 use Rattle.gl_query.specs.Lists.{Member, distinct}
 use Rattle.gl_query.specs.Query.{Found, Ready, Need, next, found, asked, looked}
 use Rattle.gl_query.specs.Evaluation.{Evaluation, Done, LookAt, Demand, bind, given}
 use Rattle.gl_calculus.specs.Grid.{Addr, Range, single}
 use Rattle.gl_calculus.specs.Value.{Frame, Value}
-use Rattle.gl_calculus.specs.Facts.{Fact, facts, fact_at}
+use Rattle.gl_calculus.specs.Facts.{Fact, facts}
 use Rattle.gl_calculus.specs.Formula.{Version, content}
 use Rattle.gl_calculus.specs.Key.{Key, Cell, same_key, Outcome, Budget, as_value, Eval}
 use Rattle.gl_demand.specs.Cells.{looked_cell}

@@ -6,8 +6,8 @@ use Rattle.gl_query.specs.Lists.{Member}
 use Rattle.gl_calculus.specs.Grid.{Addr, addr, same_addr, is_before, AreInOrder, Range, extents, addresses, covers}
 use Rattle.gl_calculus.specs.Formula.{Content, Cells, IsSheet, content}
 use Rattle.gl_calculus.proofs.Tests.{both, and_true, addr_exact, addr_same}
-use Rattle.gl_calculus.proofs.Grants.{Before, before_of, of_before, before_trans, not_same, split, clash}
-use Rattle.gl_cells.specs.Search.{comes_after, is_in_play}
+use Rattle.gl_calculus.proofs.Grants.{Before, before_of, of_before, before_trans, not_same, clash}
+use Rattle.gl_cells.specs.Search.{is_in_play}
 use Rattle.gl_demand.specs.Blocks.{has_content}
 use Rattle.gl_demand.proofs.Ordered.{tail, behind, row, member_of, member_first, addresses_order}
 

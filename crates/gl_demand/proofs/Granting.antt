@@ -1,10 +1,10 @@
 -- Permits by what blocks, and the contents of a region by its facts.
-use Rattle.std.proofs.Common.{◌≡◌, ◌⊎◌, inl, inr, ℕ, ◌+◌, Bool, true, false, ◌&&◌, ◌||◌, not, is_some, List, [], ◌∷◌, map, filter, cond, count_by, Option, Some, None, if◌then◌else◌, refl, ap, sym, subst, ◌∙◌, arith}
+use Rattle.std.proofs.Common.{◌≡◌, ◌⊎◌, inl, inr, ◌+◌, Bool, true, false, ◌&&◌, ◌||◌, not, is_some, List, [], ◌∷◌, map, filter, cond, count_by, Option, Some, None, if◌then◌else◌, refl, ap, sym, subst, ◌∙◌, arith}
 use Rattle.std.specs.List.{list_all, list_any}
 use Rattle.std.proofs.lemmas.List.Sums.{sum_by-cons}
 use Rattle.gl_query.specs.Lists.{Member}
 use Rattle.gl_calculus.specs.Grid.{Addr, same_addr, Range, area, addresses, covers, lies_in, meets}
-use Rattle.gl_calculus.specs.Value.{Permitted, Refused, Oracle, SheetValue, sheet_value, In, region}
+use Rattle.gl_calculus.specs.Value.{Permitted, Refused, Oracle, SheetValue, In, region}
 use Rattle.gl_calculus.specs.Formula.{Content, Cells, content}
 use Rattle.gl_calculus.specs.Oracle.{Sizes, is_free, grant_beside, grant}
 use Rattle.gl_calculus.specs.Facts.{Fact, fact, facts, find_fact, or_nothing, fact_at}

@@ -1,5 +1,5 @@
 -- A cell key is proper exactly where its address holds a formula.
-use Rattle.std.proofs.Common.{◌≡◌, Bool, true, false, Option, Some, None, IsTrue, IsFalse, refl, sym, ◌∙◌, subst}
+use Rattle.std.proofs.Common.{◌≡◌, false, Option, Some, None, IsTrue, IsFalse, refl, subst}
 use Rattle.gl_calculus.specs.Formula.{Formula}
 use Rattle.gl_calculus.specs.Reference.{Held, Given, Computed}
 use Rattle.gl_demand.specs.Held.{is_computed}

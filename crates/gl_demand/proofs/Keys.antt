@@ -1,8 +1,7 @@
 -- Keys put into a set by the code's equality, as keys of the calculus.
-use Rattle.std.proofs.Common.{◌≡◌, Bool, true, false, cond, List, [], ◌∷◌, ◌++◌, ◌||◌, map, refl, ap, ◌∙◌, inl, inr, ◌⊎◌, IsTrue, subst, sym}
+use Rattle.std.proofs.Common.{◌≡◌, Bool, true, false, cond, List, [], ◌∷◌, ◌++◌, map, refl, ap, inl, inr, IsTrue, subst, sym}
 use Rattle.std.specs.List.{list_any}
 use Rattle.indexmap.specs.IndexSet.{insert_key}
-use Rattle.gl_query.specs.Lists.{Member}
 use Rattle.gl_calculus.specs.Key as K
 use Rattle.gl_calculus.specs.Key.{same_key}
 use Rattle.gl_calculus.specs.Sound.{is_sound_key}

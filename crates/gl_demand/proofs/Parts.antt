@@ -1,5 +1,5 @@
 -- Evaluations whose parts are walked one after another.
-use Rattle.std.proofs.Common.{◌≡◌, Result, Ok, Err, IfOk, IfErr, refl, ap, sym, subst, ◌∙◌}
+use Rattle.std.proofs.Common.{◌≡◌, Result, Ok, Err, IfOk, IfErr, refl, sym, subst}
 use Rattle.gl_calculus.specs.Key.{Eval, give, ◌>>=◌}
 use Rattle.gl_demand.specs.Walk.{World}
 use Rattle.gl_demand.specs.Walks.{Walks}

@@ -1,15 +1,14 @@
 -- What the parts of a reference answer, put together.
-use Rattle.std.proofs.Common.{◌≡◌, ℕ, List, [], ◌∷◌, Option, Some, None, Result, Ok, Err, IfOk, IfErr, OnOk, option_map, refl, ap, sym, subst, ◌∙◌}
+use Rattle.std.proofs.Common.{◌≡◌, ℕ, List, [], ◌∷◌, Option, Some, None, Result, Ok, Err, IfOk, IfErr, OnOk, option_map, refl, ap, sym, ◌∙◌}
 use Rattle.std.proofs.lemmas.Result.{IfOk-weaker}
 use Rattle.gl_query.specs.Query.{Ready, Need}
-use Rattle.gl_query.specs.Evaluation.{LookAt}
 use Rattle.gl_calculus.specs.Grid.{Addr, single}
 use Rattle.gl_calculus.specs.Value as V
 use Rattle.gl_calculus.specs.Value.{Frame, Permit, One}
 use Rattle.gl_calculus.specs.Oracle.{Cover}
-use Rattle.gl_calculus.specs.Facts.{Fact, fact, facts, find_fact, fact_at}
+use Rattle.gl_calculus.specs.Facts.{Fact, fact, find_fact}
 use Rattle.gl_calculus.specs.Key.{Eval, give, ◌>>=◌}
-use Rattle.gl_calculus.specs.Reference.{Reading, seen_or_looked, own, spilled, shown, shown_by, status_in, cover_in, covered, deref, at_address, home}
+use Rattle.gl_calculus.specs.Reference.{Reading, seen_or_looked, own, spilled, shown, shown_by, status_in, covered, deref, at_address}
 use Rattle.gl_calculus.proofs.Proper.{fact_at_single}
 use Rattle.gl_plane.specs.Entries.{offsets}
 use Rattle.gl_value.specs.View.{scalar_tree, value_tree}

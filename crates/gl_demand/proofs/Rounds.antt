@@ -1,11 +1,10 @@
 -- The rounds of a sheet value, one after another.
-use Rattle.std.proofs.Common.{◌≡◌, ◌≢◌, ◌⊎◌, inl, inr, ℕ, zero, suc, ◌-◌, ◌≤◌, ◌<◌, Bool, true, false, List, [], ◌∷◌, Option, Some, None, Result, Ok, Err, refl, ap, sym, subst, ◌∙◌, arith}
-use Rattle.gl_query.specs.Query.{Ready, Need}
+use Rattle.std.proofs.Common.{◌≡◌, ◌≢◌, ◌⊎◌, inl, inr, ℕ, zero, suc, ◌-◌, ◌≤◌, ◌<◌, Bool, true, false, [], ◌∷◌, Some, None, Result, Ok, Err, refl, ap, sym, subst, ◌∙◌, arith}
+use Rattle.gl_query.specs.Query.{Ready}
 use Rattle.gl_calculus.specs.Grid.{Addr, Range}
-use Rattle.gl_calculus.specs.Value.{Oracle, SheetValue, In, region}
+use Rattle.gl_calculus.specs.Value.{Oracle, SheetValue, region}
 use Rattle.gl_calculus.specs.Same.{same_oracle}
 use Rattle.gl_calculus.specs.Oracle.{Sizes, grant, first_difference}
-use Rattle.gl_calculus.specs.Facts.{Fact}
 use Rattle.gl_calculus.specs.Key.{Eval, CopyRounds}
 use Rattle.gl_calculus.specs.Evaluation.{rounds, settled_or, next_in}
 use Rattle.gl_calculus.proofs.Tests.{oracle_equality, entry_same}
@@ -21,7 +20,6 @@ use Rattle.gl_demand.specs.Blocks.{has_content_in}
 use Rattle.gl_demand.specs.Settling.{region_facts, round_arrays, halt_of}
 use Rattle.gl_demand.specs.declared.trail.Trail as Code
 use Rattle.gl_demand.specs.declared.trail.Halt.{Halt}
-use Rattle.gl_demand.specs.declared.trail.Halt.TheVariants as halt
 use Rattle.gl_demand.proofs.Walking.{walk-on, halts}
 use Rattle.gl_demand.proofs.Walking as walking
 use Rattle.gl_demand.proofs.Granting.{next_granted}

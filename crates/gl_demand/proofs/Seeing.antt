@@ -1,12 +1,10 @@
 -- Roots that are looked at once, and what a reference reads.
-use Rattle.std.proofs.Common.{◌≡◌, Bool, true, false, cond, ◌&&◌, ◌||◌, List, [], ◌∷◌, ◌++◌, Option, Some, None, Result, Ok, Err, if◌then◌else◌, refl, ap, sym, subst, ◌∙◌}
+use Rattle.std.proofs.Common.{◌≡◌, Bool, true, false, cond, ◌||◌, List, [], ◌∷◌, ◌++◌, Option, Some, None, Ok, refl, ap, sym, subst, ◌∙◌}
 use Rattle.std.specs.List.{list_any}
 use Rattle.std.proofs.lemmas.List.Folds.{list_any-append}
 use Rattle.gl_query.specs.Query.{Ready}
-use Rattle.gl_query.specs.Evaluation.{LookAt}
 use Rattle.gl_calculus.specs.Grid.{Addr, same_addr, single}
-use Rattle.gl_calculus.specs.Facts.{Fact, fact, facts, find_fact, fact_at}
-use Rattle.gl_calculus.specs.Key.{Eval, give, ◌>>=◌}
+use Rattle.gl_calculus.specs.Facts.{Fact, fact, find_fact}
 use Rattle.gl_calculus.specs.Reference.{seen_or_looked}
 use Rattle.gl_calculus.proofs.Tests.{addr_exact, addr_same}
 use Rattle.gl_calculus.proofs.Proper.{fact_at_single}

@@ -5,7 +5,7 @@ use Rattle.gl_calculus.specs.ErrKind.{ErrKind}
 use Rattle.gl_calculus.specs.Value as V
 use Rattle.gl_calculus.specs.Value.{Permit, Permitted, Refused}
 use Rattle.gl_calculus.specs.Lift.{item_or}
-use Rattle.gl_calculus.specs.Reference.{shown, spilled}
+use Rattle.gl_calculus.specs.Reference.{shown}
 use Rattle.gl_calculus.specs.Sound.{is_size, is_sound_scalar, are_sound, is_sound_value}
 use Rattle.gl_value.specs.Parts.{element_at}
 use Rattle.gl_value.specs.View.{array_tree, item_trees}

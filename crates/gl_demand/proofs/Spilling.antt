@@ -1,14 +1,12 @@
 -- How a spilled array is read: the parts put together.
 use Rattle.std.proofs.Common.{◌≡◌, Option, Some, None, Result, Ok, Err, IfSome, IsTrue, option_map, refl, ap, sym, subst, ◌∙◌}
 use Rattle.gl_query.specs.Query.{Ready}
-use Rattle.gl_calculus.specs.ErrKind.{ErrKind}
 use Rattle.gl_calculus.specs.Grid.{Addr, single}
 use Rattle.gl_calculus.specs.Value as V
-use Rattle.gl_calculus.specs.Value.{Frame, Permit, Permitted, Refused}
+use Rattle.gl_calculus.specs.Value.{Frame, Permitted}
 use Rattle.gl_calculus.specs.Formula.{content}
-use Rattle.gl_calculus.specs.Facts.{Fact, fact, fact_at}
-use Rattle.gl_calculus.specs.Key.{Eval, give, ◌>>=◌}
-use Rattle.gl_calculus.specs.Reference as R
+use Rattle.gl_calculus.specs.Facts.{Fact, fact}
+use Rattle.gl_calculus.specs.Key.{Eval, give}
 use Rattle.gl_calculus.specs.Reference.{Held, home, own, own_content, status_in, whole, spilling, spill_of}
 use Rattle.gl_calculus.specs.Sound.{is_sound_value}
 use Rattle.gl_calculus.proofs.Proper.{fact_at_single}

@@ -1,17 +1,15 @@
 -- The arrays of a round, found address by address.
-use Rattle.std.proofs.Common.{◌≡◌, Bool, true, false, cond, is_some, List, [], ◌∷◌, ◌++◌, map, filter, drop, Option, Some, None, Result, Ok, Err, OnOk, IfErr, IfOk, refl, ap, sym, subst, ◌∙◌}
-use Rattle.std.proofs.lemmas.List.{append-nil, map-append}
-use Rattle.gl_query.specs.Query.{Found, Ready, Need, found}
-use Rattle.gl_query.specs.Evaluation.{bind, given}
+use Rattle.std.proofs.Common.{◌≡◌, Bool, true, false, cond, is_some, List, [], ◌∷◌, ◌++◌, map, filter, Option, Some, None, Result, Ok, Err, OnOk, IfErr, IfOk, refl, ap, sym, subst, ◌∙◌}
+use Rattle.std.proofs.lemmas.List.{append-nil}
+use Rattle.gl_query.specs.Query.{Ready, Need, found}
 use Rattle.gl_calculus.specs.Grid.{Addr, Size, AreInOrder, addresses}
 use Rattle.gl_calculus.specs.Value.{Value, One, Array, Oracle, SheetValue, sheet_value, Frame, In, region}
 use Rattle.gl_calculus.specs.Oracle.{Sizes, AreSizes}
 use Rattle.gl_calculus.specs.Formula.{Content, content}
-use Rattle.gl_calculus.specs.Facts.{Fact, fact, facts}
-use Rattle.gl_calculus.specs.Key.{Key, Budget, Eval, give, on_result, ◌>>=◌}
+use Rattle.gl_calculus.specs.Facts.{Fact, fact}
+use Rattle.gl_calculus.specs.Key.{Budget, Eval, give, on_result, ◌>>=◌}
 use Rattle.gl_calculus.specs.Reference.{Held, own_content, own, value_of}
 use Rattle.gl_calculus.specs.Evaluation.{array_at, arrays}
-use Rattle.gl_demand.specs.View.{key_tree, budget_tree}
 use Rattle.gl_demand.specs.Walk.{World, Trail, End, walk, then_walk, behind}
 use Rattle.gl_demand.specs.Walks.{Walks, trail_tree}
 use Rattle.gl_demand.specs.Blocks.{has_content_in}

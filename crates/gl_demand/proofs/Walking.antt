@@ -1,16 +1,15 @@
 -- Walks of evaluations one after another, and what a whole walk is.
-use Rattle.std.proofs.Common.{◌≡◌, List, [], ◌∷◌, ◌++◌, Option, Some, None, Result, Ok, Err, Bool, true, false, cond, fold, refl, ap, sym, ◌∙◌, append_assoc, ◌||◌, if◌then◌else◌}
+use Rattle.std.proofs.Common.{◌≡◌, List, [], ◌∷◌, ◌++◌, Some, None, Result, Ok, Err, Bool, true, false, cond, fold, refl, ap, sym, ◌∙◌, append_assoc, ◌||◌, if◌then◌else◌}
 use Rattle.std.proofs.lemmas.List.{append-nil}
 use Rattle.std.proofs.lemmas.List.Folds.{list_any-append}
 use Rattle.std.specs.List.{list_any}
 use Rattle.indexmap.specs.IndexSet.{insert_key}
 use Rattle.gl_query.specs.Lists.{has_member, fresh, distinct}
-use Rattle.gl_query.specs.Query.{Found, Ready, Need, next, found, asked, looked}
+use Rattle.gl_query.specs.Query.{Ready, Need, next, found, asked, looked}
 use Rattle.gl_query.specs.Evaluation.{Evaluation, Done, LookAt, Demand, bind, given}
 use Rattle.gl_calculus.specs.Grid.{Range}
 use Rattle.gl_calculus.specs.Facts.{Fact, facts}
 use Rattle.gl_calculus.specs.Key.{Key, same_key, Outcome, Budget, Eval, give, on_result, ◌>>=◌}
-use Rattle.gl_demand.specs.View.{key_tree, budget_tree}
 use Rattle.gl_demand.specs.Walk.{Trail, World, End, reading, looking, walk, then_walk, behind}
 use Rattle.gl_demand.specs.Walks.{Walks, trail_tree}
 use Rattle.gl_demand.specs.declared.trail.Trail as Code

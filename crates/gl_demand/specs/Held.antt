@@ -5,7 +5,7 @@ use Rattle.gl_calculus.specs.Value as V
 use Rattle.gl_calculus.specs.Value.{Frame, Top, In, sheet_value}
 use Rattle.gl_calculus.specs.Sheet.{override_at}
 use Rattle.gl_calculus.specs.Reference as R
-use Rattle.gl_calculus.specs.Sound.{is_sound_value, is_sound_scalar}
+use Rattle.gl_calculus.specs.Sound.{is_sound_value}
 use Rattle.gl_ast.specs.View.{formula_tree}
 use Rattle.gl_value.specs.View.{value_tree, scalar_tree}
 use Rattle.gl_demand.specs.declared.held.Held.{Held}

@@ -1,5 +1,5 @@
 -- The addresses of a sheet value's region that have content.
-use Rattle.std.specs.Prelude.{ℕ, List, filter}
+use Rattle.std.specs.Prelude.{List, filter}
 use Rattle.gl_calculus.specs.Grid.{Addr, addresses}
 use Rattle.gl_calculus.specs.Value.{SheetValue, region}
 use Rattle.gl_calculus.specs.Formula.{Cells}

@@ -1,5 +1,5 @@
 -- The roots that a reference has looked at: the code keeps their addresses, the calculus their facts.
-use Rattle.std.specs.Prelude.{◌≡◌, List, Option, Some, None, Result, OnOk, [], if◌then◌else◌}
+use Rattle.std.specs.Prelude.{◌≡◌, List, Some, None, Result, OnOk, if◌then◌else◌}
 use Rattle.std.specs.List.{list_any}
 use Rattle.gl_calculus.specs.Grid.{Addr, same_addr}
 use Rattle.gl_calculus.specs.Facts.{Fact, fact, find_fact}

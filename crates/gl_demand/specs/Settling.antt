@@ -1,11 +1,10 @@
 -- The rounds of a sheet value as walks: what a round sees, and what it comes to.
 use Rattle.std.specs.Prelude.{◌≡◌, List, ◌∷◌, [], Result, Ok, Err}
-use Rattle.gl_query.specs.Query.{Found, Ready, Need, found}
+use Rattle.gl_query.specs.Query.{Ready, Need, found}
 use Rattle.gl_query.specs.Evaluation.{given}
-use Rattle.gl_calculus.specs.Grid.{Addr}
 use Rattle.gl_calculus.specs.Value.{Oracle, SheetValue, Frame, In, region}
 use Rattle.gl_calculus.specs.Oracle.{Sizes}
-use Rattle.gl_calculus.specs.Facts.{Fact, fact, facts}
+use Rattle.gl_calculus.specs.Facts.{Fact, facts}
 use Rattle.gl_calculus.specs.Key.{Eval}
 use Rattle.gl_calculus.specs.Evaluation.{arrays, rounds, copy_budget}
 use Rattle.gl_demand.specs.View.{key_tree, budget_tree}

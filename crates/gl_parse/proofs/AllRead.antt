@@ -1,5 +1,5 @@
 -- A whole list of tokens.
-use Rattle.std.proofs.Common.{◌≡◌, ℕ, ◌<◌, List, [], ◌∷◌, length, map, subst, sym, refl, arith}
+use Rattle.std.proofs.Common.{◌≡◌, ◌<◌, List, [], ◌∷◌, length, subst, sym, refl, arith}
 use Rattle.gl_language.specs.Text.{Bytes}
 use Rattle.gl_language.specs.Grammar.{Tokens, Raw, IsExpr}
 use Rattle.gl_lex.specs.declared.Token.{Token}

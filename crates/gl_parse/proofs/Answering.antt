@@ -1,6 +1,6 @@
 -- What the reader answers, and why.
-use Rattle.std.proofs.Common.{◌≡◌, ℕ, ◌<◌, ◌≤◌, Bool, true, false, List, [], length, ap, sym, subst, ◌∙◌, refl}
-use Rattle.std.specs.Prelude.{Some, None, Option, Result, Ok, Err, if◌then◌else◌}
+use Rattle.std.proofs.Common.{◌≡◌, ℕ, ◌<◌, ◌≤◌, true, false, List, [], length, ap, sym, subst, ◌∙◌}
+use Rattle.std.specs.Prelude.{Some, None, Result, Ok, Err, if◌then◌else◌}
 use Rattle.gl_calculus.specs.Limits.{max_formula}
 use Rattle.gl_calculus.specs.Formula as F
 use Rattle.gl_language.specs.Text.{Bytes}

@@ -1,6 +1,5 @@
 -- The arguments of calls.
-use Rattle.std.proofs.Common.{◌≡◌, ℕ, ◌≤◌, List, [], ◌∷◌, map, length, refl, ap, sym, ◌∙◌}
-use Rattle.std.specs.Prelude.{◌&&◌, nat_le}
+use Rattle.std.proofs.Common.{◌≡◌, List, [], ◌∷◌, length, refl, ap}
 use Rattle.std.proofs.lemmas.List.{length-map}
 use Rattle.gl_language.specs.Text.{Bytes}
 use Rattle.gl_language.specs.Grammar as G

@@ -1,5 +1,5 @@
 -- The language's form of each form.
-use Rattle.std.proofs.Common.{◌≡◌, ◌≢◌, ◌<◌, ℕ, ℤ, Bool, List, [], ◌∷◌, ◌++◌, refl, length, map, ap, sym, ◌∙◌, arith}
+use Rattle.std.proofs.Common.{◌≡◌, ◌≢◌, ◌<◌, ℤ, Bool, List, [], ◌∷◌, ◌++◌, refl, length, ap, sym, ◌∙◌, arith}
 use Rattle.std.proofs.lemmas.Simd.{map-map}
 use Rattle.std.specs.declared.alloc.Global.{Global}
 use Rattle.std.specs.declared.boxed.Box.{Box}
@@ -11,7 +11,7 @@ use Rattle.gl_calculus.specs.Formula as F
 use Rattle.gl_language.specs.Text.{Bytes}
 use Rattle.gl_language.specs.Token as T
 use Rattle.gl_language.specs.Token.{Signed}
-use Rattle.gl_language.specs.Grammar.{Tokens, RawOperands, operand_and, chained}
+use Rattle.gl_language.specs.Grammar.{Tokens, chained}
 use Rattle.gl_language.specs.Grammar as G
 use Rattle.gl_lex.specs.declared.Sign.{Sign}
 use Rattle.gl_lex.specs.declared.Sign.TheVariants as s

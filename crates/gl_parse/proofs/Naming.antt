@@ -1,19 +1,17 @@
 -- The names in a form, under those that are bound around it.
-use Rattle.std.proofs.Common.{◌≡◌, ◌≢◌, ℕ, ◌+◌, ◌<◌, ◌≤◌, Bool, true, false, List, [], ◌∷◌, ◌++◌, drop, map, length, get_or, ap, sym, subst, ◌∙◌, refl, arith}
+use Rattle.std.proofs.Common.{◌≡◌, ◌≢◌, ℕ, ◌+◌, ◌<◌, ◌≤◌, Bool, true, false, List, [], ◌∷◌, ◌++◌, drop, length, get_or, ap, sym, subst, ◌∙◌, refl, arith}
 use Rattle.std.specs.Prelude.{◌||◌, not, is_some, Some, None, Result, Ok, Err, IfOk, bytes_eq, if◌then◌else◌}
 use Rattle.std.specs.List.{list_any}
 use Rattle.std.proofs.lemmas.List.{at_drop_more, at_drop_all, length-map}
 use Rattle.std.specs.declared.alloc.Global.{Global}
 use Rattle.std.specs.declared.boxed.Box.{Box}
 use Rattle.std.specs.declared.vec.Vec.{Vec}
-use Rattle.gl_calculus.specs.Formula as F
 use Rattle.gl_language.specs.Text.{Bytes}
-use Rattle.gl_language.specs.Grammar.{RawOperands, Raws, has_bad_name, bad_name_in, bad_name_in_operands, is_let, function_of, is_variable}
+use Rattle.gl_language.specs.Grammar.{Raws, has_bad_name, bad_name_in, bad_name_in_operands, is_let, function_of, is_variable}
 use Rattle.gl_language.specs.Grammar as G
 use Rattle.gl_plane.specs.declared.NoMemory.{NoMemory}
 use Rattle.gl_ast.specs.declared.Level.{Level}
 use Rattle.gl_ast.specs.declared.Op.{Op}
-use Rattle.gl_ast.specs.View.{level_tree, op_tree}
 use Rattle.gl_parse.specs.declared.raw.Span.{Span}
 use Rattle.gl_parse.specs.declared.raw.Raw.{Raw}
 use Rattle.gl_parse.specs.declared.raw.Raw.TheVariants as r

@@ -1,5 +1,5 @@
 -- The functions of words.
-use Rattle.std.proofs.Common.{◌≡◌, ℕ, ◌+◌, ◌<◌, ◌≤◌, Bool, true, false, Option, Some, None, List, [], ◌∷◌, drop, map, length, get_or, ap, sym, ◌∙◌, refl}
+use Rattle.std.proofs.Common.{◌≡◌, ℕ, ◌+◌, ◌<◌, ◌≤◌, false, Option, Some, None, List, drop, map, length, get_or, ap, sym, ◌∙◌}
 use Rattle.std.specs.Prelude.{find, bytes_eq, if◌then◌else◌}
 use Rattle.std.proofs.lemmas.List.{at_drop_more, at_drop_all}
 use Rattle.gl_calculus.specs.Formula as F

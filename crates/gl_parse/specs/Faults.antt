@@ -1,9 +1,8 @@
 -- What is refused of a form, and what is known of one that was read.
-use Rattle.std.specs.Prelude.{◌≡◌, ℕ, ◌^◌, ◌<◌, ◌≤◌, Bool, IsTrue, List, [], ◌∷◌, map, length, Option, Some, None, Result, Ok, Err, ⊤, if◌then◌else◌}
+use Rattle.std.specs.Prelude.{◌≡◌, ◌^◌, ◌<◌, ◌≤◌, Bool, IsTrue, List, [], ◌∷◌, length, Option, Some, None, Result, Ok, Err, ⊤, if◌then◌else◌}
 use Rattle.std.specs.Str.{is_utf8}
 use Rattle.gl_calculus.specs.Limits.{max_text}
 use Rattle.gl_calculus.specs.Grid.{Addr, grid, covers}
-use Rattle.gl_calculus.specs.Formula as F
 use Rattle.gl_language.specs.Text.{Bytes}
 use Rattle.gl_language.specs.Token.{IsRow, is_lower}
 use Rattle.gl_language.specs.Grammar.{RawOperands, no_operand, operand_and, Raws, no_raw, raw_and, is_bad_range, is_bad_call, is_let, form_fault, tree}

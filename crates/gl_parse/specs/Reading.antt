@@ -1,12 +1,9 @@
 -- What a call of the reader answers.
 use Rattle.std.specs.Prelude.{◌≡◌, ℕ, ◌<◌, List, [], ◌∷◌, Option, Some, None, Result, Ok, Err}
-use Rattle.gl_calculus.specs.Grid.{Addr}
 use Rattle.gl_calculus.specs.Formula.{Level, Op}
 use Rattle.gl_calculus.specs.Formula as F
-use Rattle.gl_language.specs.Text.{Bytes}
-use Rattle.gl_language.specs.Token.{Sign, Integer, Quoted, Address, Truth, Word, Variable, Signed}
+use Rattle.gl_language.specs.Token.{Sign, Signed}
 use Rattle.gl_language.specs.Token as T
-use Rattle.gl_language.specs.Grammar as G
 use Rattle.gl_language.specs.Grammar.{Tokens, Raw, RawOperands, Raws, chained, IsExpr, IsChain, IsLinks, IsArguments, IsMore}
 use Rattle.gl_parse.specs.Raws.{onto, before}
 use Rattle.gl_parse.specs.declared.stop.Stop.{Stop}

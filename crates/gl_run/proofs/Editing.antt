@@ -6,7 +6,7 @@ use Rattle.gl_calculus.specs.Grid.{Addr, Range}
 use Rattle.gl_calculus.specs.Formula.{Version, Cells, Content, formula_addresses}
 use Rattle.gl_language.specs.Text.{Bytes}
 use Rattle.gl_protocol.specs.Commands as C
-use Rattle.gl_protocol.specs.Commands.{Read, Is, Not, Word, Does, allowed, with_content, without, error_line, ok_line}
+use Rattle.gl_protocol.specs.Commands.{Read, Is, Not, Does, allowed, with_content, without, error_line, ok_line}
 use Rattle.gl_cells.specs.Sheet.{Answers}
 use Rattle.gl_cells.specs.declared.fault.PutFault.{PutFault}
 use Rattle.gl_cells.specs.declared.fault.PutFault.TheVariants as f

@@ -5,7 +5,7 @@ use Rattle.gl_calculus.specs.Formula.{Version, Cells}
 use Rattle.gl_language.specs.Text.{Bytes}
 use Rattle.gl_protocol.specs.Framing.{Import}
 use Rattle.gl_protocol.specs.Commands as C
-use Rattle.gl_protocol.specs.Commands.{Read, Is, Not, Word, Acts, allowed, imported, with_contents, error_line, ok_line}
+use Rattle.gl_protocol.specs.Commands.{Read, Is, Not, Word, Acts, allowed, imported, with_contents, error_line}
 use Rattle.gl_csvin.specs.Import.{csv_records, records_of, Imports}
 use Rattle.gl_csvin.specs.declared.fault.CsvFault.{CsvFault}
 use Rattle.gl_csvin.specs.declared.fault.CsvFault.TheVariants as f

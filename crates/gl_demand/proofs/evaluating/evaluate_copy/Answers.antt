@@ -1,10 +1,7 @@
-use Rattle.std.proofs.Common.{Ok, ap, sym, ◌∙◌, IfOk, refl}
-use Rattle.gl_query.specs.Query.{Ready}
 use Rattle.gl_ast.specs.View.{version_tree}
 use Rattle.gl_cells.specs.Sheet.{sheet}
 use Rattle.gl_value.specs.View.{sheet_tree}
 use Rattle.gl_demand.specs.Walk.{world}
-use Rattle.gl_demand.specs.Walks.{trail_tree}
 use Rattle.gl_demand.proofs.CopyEnding.{shared_walk, shared_sound, halted_walk, halted_sound}
 use Rattle.gl_demand.proofs.evaluating.evaluate_copy.Goals as goal
 

@@ -1,4 +1,4 @@
-use Rattle.std.proofs.Common.{◌≡◌, map, subst, sym, ap, ◌∙◌}
+use Rattle.std.proofs.Common.{map, subst, sym, ap, ◌∙◌}
 use Rattle.gl_demand.specs.View.{key_tree}
 use Rattle.gl_demand.specs.Sound.{AreSoundKeys}
 use Rattle.gl_demand.proofs.Keys.{insert_key-trees, sound-insert_key}

@@ -1,9 +1,8 @@
-use Rattle.std.proofs.Common.{◌≤◌, length, ◌∙◌, arith}
 use Rattle.gl_calculus.specs.Grid.{addresses}
 use Rattle.gl_cells.specs.Sheet.{sheet}
 use Rattle.gl_value.specs.View.{sheet_tree}
 use Rattle.gl_demand.specs.Blocks.{has_content_in}
-use Rattle.gl_demand.proofs.Counting.{filter_more, filter_all, one_more}
+use Rattle.gl_demand.proofs.Counting.{filter_more, one_more}
 use Rattle.gl_demand.proofs.places.places.Goals as goal
 
 pub loop-i-preserved : goal.loop-i-preserved

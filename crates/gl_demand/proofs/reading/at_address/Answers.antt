@@ -1,9 +1,6 @@
-use Rattle.gl_calculus.specs.Facts.{fact}
 use Rattle.gl_cells.specs.Sheet.{sheet}
-use Rattle.gl_value.specs.View.{scalar_tree, value_tree, frame_tree}
+use Rattle.gl_value.specs.View.{frame_tree}
 use Rattle.gl_demand.specs.Walk.{world}
-use Rattle.std.proofs.Common.{ap, ◌∙◌}
-use Rattle.gl_calculus.specs.Value as V
 use Rattle.gl_value.specs.Forms.{value_tree-One}
 use Rattle.gl_value.specs.declared.Value.{One}
 use Rattle.gl_demand.proofs.References.{address_ok, address_halts}

@@ -1,6 +1,6 @@
 use Rattle.gl_calculus.specs.Facts.{fact}
 use Rattle.gl_cells.specs.Sheet.{sheet}
-use Rattle.gl_value.specs.View.{scalar_tree, value_tree, frame_tree}
+use Rattle.gl_value.specs.View.{frame_tree}
 use Rattle.gl_demand.specs.Walk.{world}
 use Rattle.std.proofs.Common.{subst, ap, sym, Ok}
 use Rattle.gl_query.specs.Query.{Ready}

@@ -1,6 +1,4 @@
-use Rattle.gl_calculus.specs.Facts.{fact}
 use Rattle.gl_cells.specs.Sheet.{sheet}
-use Rattle.gl_value.specs.View.{scalar_tree, value_tree, frame_tree}
 use Rattle.gl_demand.specs.Walk.{world}
 use Rattle.std.proofs.Common.{◌≡◌, [], subst, sym}
 use Rattle.gl_demand.specs.Seen.{AreSeen}

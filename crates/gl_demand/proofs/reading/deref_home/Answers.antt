@@ -1,6 +1,6 @@
 use Rattle.gl_calculus.specs.Facts.{fact}
 use Rattle.gl_cells.specs.Sheet.{sheet}
-use Rattle.gl_value.specs.View.{scalar_tree, value_tree, frame_tree}
+use Rattle.gl_value.specs.View.{frame_tree}
 use Rattle.gl_demand.specs.Walk.{world}
 use Rattle.gl_demand.proofs.References.{deref_on, deref_halts}
 use Rattle.gl_demand.proofs.reading.deref_home.Goals as goal

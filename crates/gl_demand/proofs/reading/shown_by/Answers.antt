@@ -1,6 +1,6 @@
 use Rattle.gl_calculus.specs.Facts.{fact}
 use Rattle.gl_cells.specs.Sheet.{sheet}
-use Rattle.gl_value.specs.View.{scalar_tree, value_tree, frame_tree}
+use Rattle.gl_value.specs.View.{value_tree, frame_tree}
 use Rattle.gl_demand.specs.Walk.{world}
 use Rattle.std.proofs.Common.{option_map, subst, sym}
 use Rattle.gl_calculus.specs.Reference.{shown_by}

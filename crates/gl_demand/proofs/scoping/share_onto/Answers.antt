@@ -1,5 +1,4 @@
 use Rattle.std.proofs.Common.{◌∙◌, arith, sym}
-use Rattle.gl_demand.specs.Scope.{bindings_of}
 use Rattle.gl_demand.proofs.Bindings.{push_step, done_step}
 use Rattle.gl_demand.proofs.scoping.share_onto.Goals as goal
 

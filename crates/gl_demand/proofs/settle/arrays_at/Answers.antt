@@ -7,7 +7,7 @@ use Rattle.gl_value.specs.View.{frame_tree}
 use Rattle.gl_demand.specs.Walk.{world, walk, behind}
 use Rattle.gl_demand.specs.Walks.{trail_tree}
 use Rattle.gl_demand.proofs.Counting.{drop_item}
-use Rattle.gl_demand.proofs.Visiting.{last_in_order, all_halt, all_visited}
+use Rattle.gl_demand.proofs.Visiting.{last_in_order, all_halt}
 use Rattle.gl_demand.proofs.settle.arrays_at.Goals as goal
 
 pub visit-requires-clause-last : goal.visit-requires-clause-last

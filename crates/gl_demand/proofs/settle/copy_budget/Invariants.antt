@@ -1,4 +1,4 @@
-use Rattle.std.proofs.Common.{◌≡◌, ◌+◌, ◌≤◌, count_by, take}
+use Rattle.std.proofs.Common.{◌≡◌, ◌+◌, count_by, take}
 use Rattle.gl_cells.specs.Sheet.{sheet}
 use Rattle.gl_value.specs.View.{sheet_tree}
 use Rattle.gl_demand.proofs.Granting.{takes}

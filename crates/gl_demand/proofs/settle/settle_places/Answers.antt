@@ -1,4 +1,4 @@
-use Rattle.std.proofs.Common.{◌≡◌, ℕ, ◌≤◌, [], Err, ap, sym, subst, ◌∙◌, arith}
+use Rattle.std.proofs.Common.{◌≡◌, [], Err, ap, sym, subst, ◌∙◌, arith}
 use Rattle.gl_calculus.specs.Value.{Oracle, region}
 use Rattle.gl_calculus.specs.Facts.{facts}
 use Rattle.gl_calculus.specs.Evaluation.{rounds, copy_budget}

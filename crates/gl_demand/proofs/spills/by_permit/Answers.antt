@@ -1,4 +1,4 @@
-use Rattle.std.proofs.Common.{subst, sym, option_map, Some}
+use Rattle.std.proofs.Common.{subst, sym, Some}
 use Rattle.gl_calculus.specs.Facts.{fact}
 use Rattle.gl_calculus.specs.Reference.{whole}
 use Rattle.gl_cells.specs.Sheet.{sheet}

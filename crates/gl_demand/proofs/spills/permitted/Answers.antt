@@ -1,15 +1,9 @@
-use Rattle.std.proofs.Common.{◌≡◌, subst, sym, option_map, IsTrue}
-use Rattle.gl_calculus.specs.Facts.{fact}
-use Rattle.gl_calculus.specs.Formula.{content}
-use Rattle.gl_calculus.specs.Reference.{own_content, whole, status_in}
+use Rattle.std.proofs.Common.{subst, sym, IsTrue}
 use Rattle.gl_calculus.specs.Sound.{is_sound_value}
 use Rattle.gl_cells.specs.Sheet.{sheet}
-use Rattle.gl_plane.specs.Permit.{permit_tree}
-use Rattle.gl_value.specs.View.{value_tree, frame_tree}
-use Rattle.gl_demand.specs.Held.{held_tree}
+use Rattle.gl_value.specs.View.{frame_tree}
 use Rattle.gl_demand.specs.Walk.{world}
-use Rattle.gl_demand.specs.Walks.{Walks}
-use Rattle.gl_demand.proofs.Spilling.{spilling_sound, permitted_ok, permitted_halts, spill_on}
+use Rattle.gl_demand.proofs.Spilling.{spilling_sound, permitted_ok, permitted_halts}
 use Rattle.gl_demand.proofs.spills.permitted.Goals as goal
 
 pub returns-in-Ok-clause-walk : goal.returns-in-Ok-clause-walk

@@ -1,9 +1,9 @@
-use Rattle.std.proofs.Common.{◌≡◌, ◌≤◌, length, ◌&&◌, not, sym, ◌∙◌, arith}
+use Rattle.std.proofs.Common.{◌&&◌, not, sym, ◌∙◌}
 use Rattle.gl_calculus.specs.Grid.{same_addr, addresses}
 use Rattle.gl_cells.specs.Sheet.{sheet}
 use Rattle.gl_value.specs.View.{sheet_tree}
 use Rattle.gl_demand.specs.Blocks.{has_content_in}
-use Rattle.gl_demand.proofs.Counting.{found_at, found_behind, found_none}
+use Rattle.gl_demand.proofs.Counting.{found_at, found_behind}
 use Rattle.gl_demand.proofs.blocks.CopyBlocksBlocks.blocked.Goals as goal
 
 pub returns-then-is_other_content : goal.returns-then-is_other_content

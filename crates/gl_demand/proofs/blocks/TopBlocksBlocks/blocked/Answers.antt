@@ -1,5 +1,4 @@
-use Rattle.std.proofs.Common.{◌≡◌, Some, sym, ◌∙◌, ap, subst}
-use Rattle.gl_calculus.specs.Grid.{same_addr}
+use Rattle.std.proofs.Common.{Some, sym, ◌∙◌, ap}
 use Rattle.gl_calculus.proofs.Tests.{addr_exact}
 use Rattle.gl_cells.specs.Sheet.{sheet}
 use Rattle.gl_demand.proofs.Firsts.{empty_top, none_blocks, first_blocks, second_blocks}
