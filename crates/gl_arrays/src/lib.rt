@@ -11,8 +11,6 @@ mod parts;
 mod rows;
 mod sequences;
 mod stacks;
-#[cfg(test)]
-mod tests;
 
 pub use distinct::unique;
 pub use elements::{index, lookup};

@@ -4,8 +4,6 @@
 mod canonical;
 mod literal;
 mod notation;
-#[cfg(test)]
-mod tests;
 mod words;
 
 ghost use Rattle.std.specs.Prelude.{◌≡◌, ◌↔◌, IsTrue};

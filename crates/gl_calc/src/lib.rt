@@ -10,8 +10,6 @@ mod reasons;
 mod round;
 mod showing;
 mod starting;
-#[cfg(test)]
-mod tests;
 
 pub use answers::{Answer, SpentKind, Why};
 pub use calc::Calc;

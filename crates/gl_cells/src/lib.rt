@@ -10,8 +10,6 @@ mod formulas;
 mod plain;
 mod search;
 mod table;
-#[cfg(test)]
-mod tests;
 
 pub use cells::Cells;
 pub use content::Content;

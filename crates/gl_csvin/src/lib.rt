@@ -4,8 +4,6 @@
 mod fault;
 mod fields;
 mod records;
-#[cfg(test)]
-mod tests;
 
 ghost use Rattle.std.specs.Prelude.{IfOk};
 ghost use Rattle.gl_calculus.specs.Formula.{IsSheet};

@@ -29,8 +29,6 @@ mod shows;
 mod spills;
 mod stepping;
 mod steps;
-#[cfg(test)]
-mod tests;
 mod trail;
 mod viewing;
 

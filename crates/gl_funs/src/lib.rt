@@ -7,8 +7,6 @@
 
 mod elements;
 mod numbers;
-#[cfg(test)]
-mod tests;
 mod texts;
 mod truths;
 

@@ -31,5 +31,3 @@ pub fn sizes_fix_permits()
     ensures { SizesFixPermits }
 {}
 
-#[cfg(test)]
-mod tests;

@@ -6,8 +6,6 @@ pub mod laws;
 mod lexer;
 mod quote;
 mod scan;
-#[cfg(test)]
-mod tests;
 mod whole;
 
 pub use fault::LexFault;

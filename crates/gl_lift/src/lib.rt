@@ -4,8 +4,6 @@
 mod build;
 mod elements;
 mod tables;
-#[cfg(test)]
-mod tests;
 
 ghost use Rattle.std.specs.Prelude.{◌≡◌, IsTrue, IfOk};
 ghost use Rattle.gl_calculus.specs.Value as V;

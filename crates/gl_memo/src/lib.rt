@@ -2,7 +2,5 @@
 #![tactic(auto)]
 
 mod memo;
-#[cfg(test)]
-mod tests;
 
 pub use memo::{Memo, Noted};

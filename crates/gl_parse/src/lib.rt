@@ -12,8 +12,6 @@ mod peek;
 mod raw;
 mod reader;
 mod stop;
-#[cfg(test)]
-mod tests;
 mod walk;
 mod whole;
 

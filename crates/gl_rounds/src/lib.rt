@@ -120,5 +120,3 @@ fn next_oracle<R: Round, B: Blocks>(
     }
 }
 
-#[cfg(test)]
-mod tests;

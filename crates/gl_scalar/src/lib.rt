@@ -7,8 +7,6 @@
 mod numbers;
 pub mod operands;
 mod order;
-#[cfg(test)]
-mod tests;
 mod texts;
 
 ghost use Rattle.std.specs.Prelude.{◌≡◌, IsTrue, IfOk};

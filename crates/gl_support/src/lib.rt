@@ -7,8 +7,6 @@ mod nodes;
 mod reach;
 mod site;
 mod support;
-#[cfg(test)]
-mod tests;
 mod triple;
 
 pub use site::Site;

@@ -8,8 +8,6 @@ mod put;
 mod share;
 mod sheets;
 mod sound;
-#[cfg(test)]
-mod tests;
 
 use gl_plane::{Addr, Oracle, Range, Size};
 pub use laws::{structural_equality, structural_hashes};

@@ -3,8 +3,6 @@
 
 mod oracle;
 mod tables;
-#[cfg(test)]
-mod tests;
 mod values;
 
 pub use oracle::oracle_text;
