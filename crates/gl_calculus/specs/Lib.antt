@@ -16,5 +16,8 @@ pub mod Reference
 pub mod Evaluation
 pub mod Calculation
 pub mod Memory
+pub mod Codes
+pub mod Differences
+pub mod Costs
 pub mod Sound
 pub mod Laws
