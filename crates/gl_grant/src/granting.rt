@@ -3,7 +3,7 @@ ghost use Rattle.std.specs.Prelude.{◌≡◌, ◌++◌, ◌∷◌, [], Bool, Is
 ghost use Rattle.std.specs.List.{list_all, list_any};
 ghost use Rattle.gl_calculus.specs.Grid.{area, grid, lies_in, meets};
 ghost use Rattle.gl_calculus.specs.Value.{Permitted, Refused};
-ghost use Rattle.gl_calculus.specs.Oracle.{IsInOrder, is_free, grant};
+ghost use Rattle.gl_calculus.specs.Oracle.{IsInOrder, ArePermits, is_free, grant};
 ghost use Rattle.gl_plane.specs.Permit.{permit_tree};
 ghost use Rattle.gl_grant.specs.Granted.{taken_by, entry_behind, fits_grid};
 
@@ -11,14 +11,17 @@ use crate::Blocks;
 use gl_plane::{Addr, Entry, NoMemory, Oracle, Permit, Range, Size, Sizes};
 use std::alloc::Global;
 
-/// The permits of these arrays: in their order each is permitted where its area lies in the bound, holds no content but its root, and meets no area permitted before.
+/// The permits of these arrays: in their order each is permitted where its area lies in the bound,
+/// holds no content but its root, and meets no area permitted before. So permitted areas are
+/// disjoint.
 pub fn grant<B: Blocks>(
     alloc: Global,
     sizes: &Sizes,
     bound: &Range,
     blocks: &B,
 ) -> Result<Oracle, NoMemory>
-    ensures { IfOk result (λ w. w ≡ grant bound.now (B.held blocks.now) sizes.now) }
+    ensures granted { IfOk result (λ w. w ≡ grant bound.now (B.held blocks.now) sizes.now) }
+    ensures permits { IfOk result (ArePermits bound.now (B.held blocks.now)) }
 {
     let mut granted = Oracle::new(alloc);
     while let Some(array) = sizes.at(granted.len()) {

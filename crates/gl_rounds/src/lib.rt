@@ -1,9 +1,9 @@
 //! Rounds: from the empty oracle to the first that is its own next one, or to a spent budget.
 #![tactic(auto)]
 
-ghost use Rattle.std.specs.Prelude.{◌≡◌, ◌≤◌, ◌↔◌};
+ghost use Rattle.std.specs.Prelude.{◌≡◌, ◌≤◌, ◌↔◌, [], IfOk};
 ghost use Rattle.gl_calculus.specs.Value.{Oracle as Plain};
-ghost use Rattle.gl_calculus.specs.Oracle.{Sizes as Found};
+ghost use Rattle.gl_calculus.specs.Oracle.{Sizes as Found, ArePermits};
 ghost use Rattle.gl_rounds.specs.Answers.{Answers, Once};
 
 use gl_grant::{Blocks, grant};
@@ -25,6 +25,9 @@ pub trait Round {
     /// The sizes may be asked for.
     ghost can: { Self → Type 0 } = { λ s. Unit {0} };
 
+    /// The sizes may be asked for under this oracle.
+    ghost under: { Self → Plain → Type 0 } = { λ s w. Unit {0} };
+
     /// Under the oracle the arrays have these sizes.
     ghost gives: { Self → Plain → Found → Type 0 };
 
@@ -36,8 +39,10 @@ pub trait Round {
 
     /// The sizes of the arrays under an oracle.
     fn sizes(&mut self, w: &Oracle, count: &mut Self::Count) -> Result<Sizes, Self::Fault>
-        requires { can self.old }
+        requires can { can self.old }
+        requires under { under self.old w.now }
         ensures can_again { can self.new }
+        ensures under_kept { (v : Plain) → under self.old v → under self.new v }
         ensures given { IfOk result (λ zs. gives self.old w.now zs) }
         ensures failed { IfErr result (λ e. fails self.old w.now e) }
         ensures called { calls self.old count.old w.now result self.new count.new }
@@ -55,7 +60,8 @@ pub struct Settled {
     pub rounds: u32,
 }
 
-/// Why rounds don't settle: the budget is spent, and the last two oracles differ first at this address; a round failed; or there is no memory.
+/// Why rounds don't settle: the budget is spent, and the last two oracles differ first at this
+/// address; a round failed; or there is no memory.
 #[derive(Drop)]
 pub enum IterFault<E> {
     Rounds(Addr),
@@ -63,7 +69,11 @@ pub enum IterFault<E> {
     NoMemory,
 }
 
-/// Goes through the rounds 0, 1, .. from the empty oracle, each with one call of `sizes`, up to the first oracle that is its own next one: then it is settled, after one round more than its number. Where that doesn't come within the budget, the fault is the first address at which the last two oracles differ; a round's own fault ends the rounds at once.
+/// Goes through the rounds 0, 1, .. from the empty oracle, each with one call of `sizes`, up to the
+/// first oracle that is its own next one: then it is settled, after one round more than its number.
+/// Where that doesn't come within the budget, the fault is the first address at which the last two
+/// oracles differ; a round's own fault ends the rounds at once. A round is asked under the empty
+/// oracle, and under oracles whose permits are as permits must be.
 pub fn iterate<R: Round, B: Blocks>(
     alloc: Global,
     round: &mut R,
@@ -74,6 +84,8 @@ pub fn iterate<R: Round, B: Blocks>(
 ) -> Result<Settled, IterFault<R::Fault>>
     requires budget { 1 ≤ budget }
     requires can { R.can round.old }
+    requires first { R.under round.old [] }
+    requires next { (v : Plain) → ArePermits bound.now (B.held blocks.now) v → R.under round.old v }
     ensures { Answers (R.gives round.old) (R.fails round.old) R.calls bound.now (B.held blocks.now) budget round.old count.old result round.new count.new }
 {
     let mut oracle = Oracle::new(alloc);
@@ -105,8 +117,11 @@ fn next_oracle<R: Round, B: Blocks>(
     blocks: &B,
     count: &mut R::Count,
 ) -> Result<Oracle, IterFault<R::Fault>>
-    requires { R.can round.old }
+    requires can { R.can round.old }
+    requires under { R.under round.old w.now }
     ensures can_again { R.can round.new }
+    ensures under_kept { (v : Plain) → R.under round.old v → R.under round.new v }
+    ensures permits { IfOk result (ArePermits bound.now (B.held blocks.now)) }
     ensures once { Once (R.gives round.old) (R.fails round.old) R.calls bound.now (B.held blocks.now) w.now round.old count.old result round.new count.new }
     ensures gives_kept { (v : Plain) (zs : Found) → R.gives round.new v zs ↔ R.gives round.old v zs }
     ensures fails_kept { (v : Plain) (e : R.Fault) → R.fails round.new v e ↔ R.fails round.old v e }

@@ -1,4 +1,4 @@
-use Rattle.std.proofs.Common.{◌≢◌, ◌+◌, refl, ◌∙◌, sym, arith}
+use Rattle.std.proofs.Common.{◌≢◌, ◌+◌, refl, ◌∙◌, sym, subst, arith}
 use Rattle.gl_rounds.proofs.Steps.{begins, goes_on, settles, runs_out, breaks_off}
 use Rattle.gl_rounds.proofs.iterate.Goals as goal
 
@@ -7,6 +7,8 @@ loop-next-init g c = record {
   reached = begins (g.R.Round.gives c.args.round.now) (g.R.Round.fails c.args.round.now) g.R.Round.calls c.args.bound.now (g.B.Blocks.held c.args.blocks.now) c.args.budget c.args.round.now c.args.count.now c.new-oracle.result c.new-oracle.ensures;
   few = omega arith;
   can = c.requires.can;
+  under = subst (g.R.Round.under c.args.round.now) (sym c.new-oracle.ensures) c.requires.first;
+  under_kept = λ v h. h;
   gives_kept = λ v zs. (λ h. h, λ h. h);
   fails_kept = λ v e. (λ h. h, λ h. h);
 }
@@ -44,6 +46,8 @@ loop-next-preserved g c =
           c.in-Ok.next (c.loop-next.rounds + 1) c.in-Ok.ensures.once moves refl c.if-rounds-budget.false;
       few = omega (arith, c.loop-next.invariant.few, c.if-rounds-budget.false);
       can = c.next_oracle.ensures.can_again;
+      under = c.next_oracle.ensures.under_kept c.in-Ok.next (c.loop-next.invariant.under_kept c.in-Ok.next (c.requires.next c.in-Ok.next c.in-Ok.ensures.permits));
+      under_kept = λ v h. c.next_oracle.ensures.under_kept v (c.loop-next.invariant.under_kept v h);
       gives_kept = λ v zs. (
         λ h. (c.loop-next.invariant.gives_kept v zs).0 ((c.next_oracle.ensures.gives_kept v zs).0 h),
         λ h. (c.next_oracle.ensures.gives_kept v zs).1 ((c.loop-next.invariant.gives_kept v zs).1 h),

@@ -1,7 +1,8 @@
 use Rattle.std.proofs.Common.{◌≡◌, ◌+◌, ◌<◌, ◌++◌, ◌∷◌, [], true, length, take, drop, slice_get, ◌∙◌, ap, sym, subst, arith, length-append}
 use Rattle.std.specs.List.{list_all}
 use Rattle.std.proofs.Math.Seq.{take-length}
-use Rattle.gl_calculus.specs.Oracle.{grant}
+use Rattle.gl_calculus.specs.Oracle.{ArePermits, grant}
+use Rattle.gl_calculus.proofs.Grants.{grant_permits}
 use Rattle.gl_grant.specs.Granted.{entry_behind, fits_grid}
 use Rattle.gl_grant.proofs.Growing.{all_reached, grows, reached, on_ok}
 use Rattle.gl_grant.proofs.granting.grant.Goals as goal
@@ -36,7 +37,15 @@ loop-array-preserved g c =
       fits = subst (λ w. list_all fits_grid w ≡ true) (sym grown) step.fits;
     }
 
-pub returns : goal.returns
-returns g c =
+pub returns-clause-granted : goal.returns-clause-granted
+returns-clause-granted g c =
     all_reached c.args.bound.now (g.B.Blocks.held c.args.blocks.now) c.loop-array.granted c.args.sizes.now (length c.loop-array.granted)
     (ap (slice_get c.args.sizes.now) (sym c.len.ensures.value) ∙ sym c.at.ensures.value ∙ c.in_default.is) c.loop-array.invariant.same
+
+pub returns-clause-permits : goal.returns-clause-permits
+returns-clause-permits g c =
+    let held = g.B.Blocks.held c.args.blocks.now in
+    let all =
+        all_reached c.args.bound.now held c.loop-array.granted c.args.sizes.now (length c.loop-array.granted)
+        (ap (slice_get c.args.sizes.now) (sym c.len.ensures.value) ∙ sym c.at.ensures.value ∙ c.in_default.is) c.loop-array.invariant.same in
+    subst (ArePermits c.args.bound.now held) (sym all) (grant_permits c.args.bound.now held c.args.sizes.now c.at.ensures.ordered).1
