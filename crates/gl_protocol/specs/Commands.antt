@@ -1,5 +1,5 @@
 -- What each line and import of a script does to the sheet, and what it replies.
-use Rattle.std.specs.Prelude.{◌≡◌, ◌≢◌, ℕ, suc, ◌+◌, ◌-◌, ◌*◌, ◌<◌, ◌≤◌, nat_lt, nat_le, ◌==◌, ℤ, pos, neg_ℤ, Bool, true, false, ◌&&◌, not, IsTrue, IsFalse, List, [], ◌∷◌, ◌++◌, length, filter, flat_map, get_or, Option, Some, None, bytes_eq, codes, if◌then◌else◌}
+use Rattle.std.specs.Prelude.{◌≡◌, ◌≢◌, ℕ, suc, ◌+◌, ◌-◌, ◌*◌, ◌<◌, ◌≤◌, nat_lt, nat_le, ◌==◌, ℤ, pos, neg_ℤ, Bool, true, false, ◌&&◌, not, IsTrue, IsFalse, List, [], ◌∷◌, ◌++◌, length, filter, flat_map, get_or, Option, Some, None, bytes_eq, codes, if◌then◌else◌, map}
 use Rattle.std.specs.List.{list_all}
 use Rattle.std.specs.Fmt.{decimal}
 use Rattle.std.specs.Str.{is_utf8}
@@ -194,6 +194,10 @@ with_contents S (x ∷ xs) = with_contents (with_content S x.0 x.1) xs
 
 abbrev pub without : Cells → Range → Cells
 without S r = filter (λ x. not (covers r x.0)) S
+
+-- the addresses of the contents in a range
+abbrev pub places_in : Cells → Range → List Addr
+places_in S r = filter (covers r) (map (λ x. x.0) S)
 
 -- a sheet within the limits, or the word of the refusal
 abbrev pub allowed : Cells → Read Cells
