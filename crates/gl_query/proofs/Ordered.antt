@@ -6,7 +6,7 @@ use Rattle.gl_query.specs.Remembered.{Note, IsDropped, Touched, Reads}
 use Rattle.gl_query.proofs.Quiet.{seen_member}
 use Rattle.gl_query.specs.InOrder.{AreOrdered, note_keys, must_go, kept_after}
 use Rattle.gl_query.specs.Laws.{DropsInOrder}
-use Rattle.gl_query.proofs.Members.{any_member, member_any, either, left, right}
+use Rattle.gl_query.proofs.Members.{any_member, member_any, member_has, either, left, right}
 
 pub key_of : {K O A : Type 0} (notes : List (Note K O A)) (n : Note K O A) → Member n notes → Member n.key (note_keys notes)
 key_of [] n m = absurd m
@@ -22,15 +22,6 @@ single (x ∷ notes) d n m (inr a) (inl b) e = absurd (d.0 (subst (λ k. Member 
 single (x ∷ notes) d n m (inr a) (inr b) e = single notes d.1 n m a b e
 
 module _ {K O A : Type 0} (same : K → K → Bool) (eq : IsEquality same) (touched : A → Bool) (all : List (Note K O A)) (apart : AreDistinct (note_keys all)) where
-  member_has : (ks : List K) (k : K) → Member k ks → has_member same k ks ≡ true
-  member_has [] k m = absurd m
-  member_has (x ∷ ks) k (inl e) = subst (λ u. cond (same k u) true (has_member same k ks) ≡ true) e (ap (λ b. cond b true (has_member same k ks)) (eq.1 k))
-  member_has (x ∷ ks) k (inr m) = by (same k x) (member_has ks k m)
-    where
-      by : (b : Bool) → has_member same k ks ≡ true → cond b true (has_member same k ks) ≡ true
-      by true h = refl
-      by false h = h
-
   -- of the keys before, exactly those are gone that are dropped
   abbrev Right : List K → List K → Type 0
   Right before gone = (k : K) → Member k before → (Member k gone → IsDropped touched all k) × (IsDropped touched all k → Member k gone)
@@ -49,7 +40,7 @@ module _ {K O A : Type 0} (same : K → K → Bool) (eq : IsEquality same) (touc
   dropped_goes before gone n m r h (Reads l j i e p d) =
       let s : n ≡ l = single all apart n l m i e in
       let q = subst (λ u. Member j u.reads) (sym s) p in
-      right (list_any touched n.looked) (list_any (λ j. has_member same j gone) n.reads) (member_any (λ j. has_member same j gone) n.reads j q (member_has gone j ((h j (r j q)).1 d)))
+      right (list_any touched n.looked) (list_any (λ j. has_member same j gone) n.reads) (member_any (λ j. has_member same j gone) n.reads j q (member_has same eq gone j ((h j (r j q)).1 d)))
 
   abbrev Kept : Note K O A → List (Note K O A) → Type 0
   Kept n notes = Member n notes × (IsDropped touched all n.key → ⊥)

@@ -1,6 +1,7 @@
 use Rattle.gl_query.proofs.Ordered.{drops}
 use Rattle.gl_query.proofs.Started.{sound}
 use Rattle.gl_query.proofs.Reached.{reached}
+use Rattle.gl_query.proofs.Orders.{kept_by_gone, kept_stay_ordered, ordered_closed}
 use Rattle.gl_query.proofs.in_order.Goals as goal
 
 pub returns-clause-drops : goal.returns-clause-drops
@@ -11,3 +12,12 @@ returns-clause-start g c = sound _ _ _
 
 pub returns-clause-reached : goal.returns-clause-reached
 returns-clause-reached g c = reached _ _ _
+
+pub returns-clause-by_gone : goal.returns-clause-by_gone
+returns-clause-by_gone g c = kept_by_gone _ _ _
+
+pub returns-clause-order : goal.returns-clause-order
+returns-clause-order g c = kept_stay_ordered _ _ _
+
+pub returns-clause-closed : goal.returns-clause-closed
+returns-clause-closed g c = ordered_closed _ _ _
