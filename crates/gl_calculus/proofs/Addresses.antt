@@ -63,7 +63,8 @@ module _ (r c : Range) (r_ordered : covers r r.first ≡ true) (c_ordered : cove
       let col = greater r.first.col c.first.col in (
         addr col.most row.most,
         covered r (addr col.most row.most) (record { top = row.above; bottom = row.least r.last.row s.bottom b; near = col.above; far = col.least r.last.col s.far f }),
-        covered c (addr col.most row.most) (record { top = row.beyond; bottom = row.least c.last.row a t.bottom; near = col.beyond; far = col.least c.last.col d t.far }))
+        covered c (addr col.most row.most) (record { top = row.beyond; bottom = row.least c.last.row a t.bottom; near = col.beyond; far = col.least c.last.col d t.far }),
+      )
 
   is_found : meets r c ≡ true → list_any (covers c) (addresses r) ≡ true
   is_found e = by (split (list_any (covers c) (addresses r)))

@@ -387,11 +387,11 @@ module _ (w v : Oracle) (p : Addr) (ow : IsInOrder w) (ov : IsInOrder v) (aw : A
     told_status false s l =
         let q = single_only x.root p (one_any (covers (single x.root) p) l) in
         inl (λ h.
-            let a : status w p ≡ Some x.permit = ap (status w) q ∙ ap permit_of (entry_found w ow x m) in
-            let b : status v p ≡ Some y.permit = ap (status v) q ∙ ap permit_of e in
-            let c : Some y.permit ≡ Some x.permit = sym b ∙ sym h ∙ a in
-            let d : y.permit ≡ x.permit = cc c in
-            clash (subst (λ k. same_permit y.permit k ≡ true) d (bool_same (is_permitted y.permit))) s)
+        let a : status w p ≡ Some x.permit = ap (status w) q ∙ ap permit_of (entry_found w ow x m) in
+        let b : status v p ≡ Some y.permit = ap (status v) q ∙ ap permit_of e in
+        let c : Some y.permit ≡ Some x.permit = sym b ∙ sym h ∙ a in
+        let d : y.permit ≡ x.permit = cc c in
+        clash (subst (λ k. same_permit y.permit k ≡ true) d (bool_same (is_permitted y.permit))) s)
 
     told_both : listed p (by_both x y) ≡ true → Differs w v p
     told_both l = by (either (listed p (if same_permit y.permit x.permit then [] else single x.root ∷ [])) (listed p (areas_apart (spills x) (spills y) (area_of x) (area_of y))) (sym (any_append (λ u. covers u p) (if same_permit y.permit x.permit then [] else single x.root ∷ []) (areas_apart (spills x) (spills y) (area_of x) (area_of y))) ∙ l))

@@ -27,7 +27,8 @@ use Rattle.gl_calculus.specs.Memory.{Notes}
 use Rattle.gl_calculus.proofs.Tests.{key_equality}
 use Rattle.gl_demand.specs.Steps.{one_more}
 use Rattle.gl_core.specs.Held.{Held}
-use Rattle.gl_core.specs.State.{State, state_of, seeds_of, notes_in, is_noted, keys_noted, newly_noted, noted_after, IsFor}
+use Rattle.gl_core.specs.State.{State, state_of, seeds_of, notes_in, is_noted, newly_noted, noted_after, IsFor}
+use Rattle.gl_query.specs.InOrder.{note_keys}
 use Rattle.gl_core.specs.Answers.{counted, AllowsDemanded, AllowsKnown}
 use Rattle.gl_core.proofs.Seeing.{none_of}
 
@@ -45,7 +46,7 @@ run_begun version S w c n h = record { for_it = h; seeds = refl; stay = λ k e. 
 
 -- ---- notes by their keys
 
-noted_by_keys : (ns : Notes) (k : K.Key) → is_noted ns k ≡ list_any (same_key k) (keys_noted ns)
+noted_by_keys : (ns : Notes) (k : K.Key) → is_noted ns k ≡ list_any (same_key k) (note_keys ns)
 noted_by_keys [] k = refl
 noted_by_keys (n ∷ ns) k = ap (λ b. same_key k n.key || b) (noted_by_keys ns k)
 
@@ -78,9 +79,9 @@ new_one ns k j Picked.Resolved e = by (is_noted ns k) e
     by true d = absurd (cc d)
     by false d = (one (same_key j k) refl d, refl)
 
-module _ (old new : Notes) (k : K.Key) (a : Picked) (e : keys_noted new ≡ noted_after old (Some k) a) where
+module _ (old new : Notes) (k : K.Key) (a : Picked) (e : note_keys new ≡ noted_after old (Some k) a) where
   split : (j : K.Key) → is_noted new j ≡ (is_noted old j || list_any (same_key j) (newly_noted old k a))
-  split j = noted_by_keys new j ∙ ap (list_any (same_key j)) e ∙ any_append (same_key j) (keys_noted old) (newly_noted old k a) ∙ ap (λ b. b || list_any (same_key j) (newly_noted old k a)) (sym (noted_by_keys old j))
+  split j = noted_by_keys new j ∙ ap (list_any (same_key j)) e ∙ any_append (same_key j) (note_keys old) (newly_noted old k a) ∙ ap (λ b. b || list_any (same_key j) (newly_noted old k a)) (sym (noted_by_keys old j))
 
   kept_noted : (j : K.Key) → is_noted old j ≡ true → is_noted new j ≡ true
   kept_noted j d = split j ∙ or_left (is_noted old j) (list_any (same_key j) (newly_noted old k a)) d
@@ -189,7 +190,7 @@ module _ (version : Version) (S : Cells) (w : Oracle) (first c : Held) (n m : �
   steps_now k e = ap (λ v. counted (is_noted (notes_in c)) v m) e ∙ ap (λ b. cond b m (one_more m)) (same_noted k (idle_there k e))
 
   pub run_goes : (c' : Held) (m' : ℕ) (a : Picked) → state_of c' ≡ pick same_key max_demanded (program version S w) (state_of c) i → a ≡ answer_at same_key max_demanded (program version S w) (state_of c) (nth (idle_keys (state_of c)) i) → (a ≡ Picked.Full → ⊥) →
-      keys_noted (notes_in c') ≡ noted_after (notes_in c) (nth (idle_keys (state_of c)) i) a → IsFor version S w c' → seeds_of c' ≡ seeds_of c → m' ≡ counted (is_noted (notes_in c)) (nth (idle_keys (state_of c)) i) m → IsRun version S w first c' n m'
+      note_keys (notes_in c') ≡ noted_after (notes_in c) (nth (idle_keys (state_of c)) i) a → IsFor version S w c' → seeds_of c' ≡ seeds_of c → m' ≡ counted (is_noted (notes_in c)) (nth (idle_keys (state_of c)) i) m → IsRun version S w first c' n m'
   run_goes c' m' a state answered not_full notes for' seeds' count =
       let (k, ek) = the_key in
       let st = state_of c in
@@ -199,7 +200,7 @@ module _ (version : Version) (S : Cells) (w : Oracle) (first c : Held) (n m : �
       let e = found (table same_key st) (p k) in
       let turned : state_of c' ≡ turn same_key max_demanded st k e = state ∙ ap (picked same_key max_demanded p st) ek in
       let answer_is : a ≡ turn_answer same_key max_demanded st e = answered ∙ ap (answer_at same_key max_demanded p st) ek in
-      let notes' : keys_noted (notes_in c') ≡ noted_after (notes_in c) (Some k) a = notes ∙ ap (λ v. noted_after (notes_in c) v a) ek in
+      let notes' : note_keys (notes_in c') ≡ noted_after (notes_in c) (Some k) a = notes ∙ ap (λ v. noted_after (notes_in c) v a) ek in
       let steps' : m' ≡ cond (noted k) m (one_more m) = count ∙ steps_now k ek in
       let credit = picked_credit same_key key_equality max_demanded p (seeds_of c) noted st i h.for_it.sound (nth (idle_keys st) i) refl (λ f. not_full (answered ∙ f)) in
       let credit' : total same_key p noted st + cond (noted k) 0 1 ≤ total same_key p noted (state_of c') =

@@ -17,7 +17,8 @@ ghost use Rattle.gl_order.specs.Rule.{PicksBelow, rule_of};
 ghost use Rattle.gl_memo.specs.Notes.{notes_of};
 ghost use Rattle.gl_demand.specs.View.{key_tree};
 ghost use Rattle.gl_demand.specs.Sound.{AreSoundKeys};
-ghost use Rattle.gl_core.specs.State.{state_of, seeds_of, notes_in, note_trees, is_noted, keys_noted, noted_after, HaveSoundParts, IsFor};
+ghost use Rattle.gl_core.specs.State.{state_of, seeds_of, notes_in, note_trees, is_noted, noted_after, HaveSoundParts, IsFor};
+ghost use Rattle.gl_query.specs.InOrder.{note_keys};
 ghost use Rattle.gl_core.specs.Table.{table_of, IsTable};
 ghost use Rattle.gl_core.specs.Answers.{picked_tree, counted, AllowsDemanded, AllowsKnown};
 
@@ -147,7 +148,7 @@ impl Core {
         requires for_it { IsFor (version_tree version) (sheet cells.now) w.now self.old }
         ensures state { OnOk result (state_of self.new ≡ Machine.pick same_key max_demanded (program (version_tree version) (sheet cells.now) w.now) (state_of self.old) i) }
         ensures answer { IfOk result (λ picked. picked_tree picked ≡ answer_at same_key max_demanded (program (version_tree version) (sheet cells.now) w.now) (state_of self.old) (nth (idle_keys (state_of self.old)) i)) }
-        ensures notes { IfOk result (λ picked. keys_noted (notes_in self.new) ≡ noted_after (notes_in self.old) (nth (idle_keys (state_of self.old)) i) (picked_tree picked)) }
+        ensures notes { IfOk result (λ picked. note_keys (notes_in self.new) ≡ noted_after (notes_in self.old) (nth (idle_keys (state_of self.old)) i) (picked_tree picked)) }
         ensures err { OnErr result (self.new ≡ self.old) }
         ensures seeds { seeds_of self.new ≡ seeds_of self.old }
         ensures stays { IsFor (version_tree version) (sheet cells.now) w.now self.new }

@@ -30,4 +30,3 @@ pub trait Blocks {
 pub fn sizes_fix_permits()
     ensures { SizesFixPermits }
 {}
-

@@ -134,4 +134,3 @@ fn next_oracle<R: Round, B: Blocks>(
         },
     }
 }
-

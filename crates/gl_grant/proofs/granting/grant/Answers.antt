@@ -46,6 +46,6 @@ pub returns-clause-permits : goal.returns-clause-permits
 returns-clause-permits g c =
     let held = g.B.Blocks.held c.args.blocks.now in
     let all =
-        all_reached c.args.bound.now held c.loop-array.granted c.args.sizes.now (length c.loop-array.granted)
-        (ap (slice_get c.args.sizes.now) (sym c.len.ensures.value) ∙ sym c.at.ensures.value ∙ c.in_default.is) c.loop-array.invariant.same in
+    all_reached c.args.bound.now held c.loop-array.granted c.args.sizes.now (length c.loop-array.granted)
+    (ap (slice_get c.args.sizes.now) (sym c.len.ensures.value) ∙ sym c.at.ensures.value ∙ c.in_default.is) c.loop-array.invariant.same in
     subst (ArePermits c.args.bound.now held) (sym all) (grant_permits c.args.bound.now held c.args.sizes.now c.at.ensures.ordered).1
