@@ -3,4 +3,4 @@
 
 mod memo;
 
-pub use memo::{Memo, Noted};
+pub use memo::{Chosen, Memo, Noted};

@@ -19,6 +19,18 @@ pub struct Noted<K, O, A> {
     pub looked: Vec<A>,
 }
 
+/// Some of the keys.
+pub trait Chosen<K> {
+    ghost use Rattle.std.specs.Prelude.{◌≡◌, Bool};
+
+    /// The key is one of them.
+    ghost chosen: { Self → K → Bool };
+
+    /// Whether the key is one of them.
+    fn has(&self, k: &K) -> bool
+        ensures { result ≡ chosen self.now k.now };
+}
+
 /// A table of results, seen as a list of pairs with distinct keys.
 #[derive(Drop)]
 pub struct Memo<K: Eq + Hash, O, A> {
@@ -70,6 +82,14 @@ impl<K: Eq + Hash + Drop, O: Drop, A: Drop> Memo<K, O, A> {
         keep_others(&mut self.map, gone);
     }
 
+    /// Keeps the notes of these keys, and drops the others in one pass. What is kept stays in order.
+    /// It takes no memory.
+    pub fn keep<T: Chosen<K>>(&mut self, those: &T)
+        ensures { notes_of self.new ≡ filter (λ e. T.chosen those.now e.0) (notes_of self.old) }
+    {
+        keep_chosen(&mut self.map, those);
+    }
+
     /// How many notes there are.
     pub fn len(&self) -> usize
         ensures count { result ≡ length (notes_of self.now) }
@@ -91,4 +111,11 @@ fn keep_others<K: Eq + Hash + Drop, V: Drop>(map: &mut IndexMap<K, V>, gone: &In
     ensures { map.new.entries ≡ filter (λ e. not (contains K.eq gone.now e.0)) map.old.entries }
 {
     map.retain(|k, _| !gone.contains(k));
+}
+
+/// Drops the entries at other keys. The rest keep their order.
+fn keep_chosen<K: Eq + Hash + Drop, V: Drop, T: Chosen<K>>(map: &mut IndexMap<K, V>, those: &T)
+    ensures { map.new.entries ≡ filter (λ e. T.chosen those.now e.0) map.old.entries }
+{
+    map.retain(|k, _| those.has(k));
 }
