@@ -49,6 +49,11 @@ abbrev pub IsSeen : Seen → Option (Machine.Status K.Key K.Outcome) → Type 0
 IsSeen (Known o) s = s ≡ Some (Machine.Resolved (outcome_tree o.now))
 IsSeen Loops s = (j : K.Key) × (s ≡ Some (Machine.Waiting j))
 
+-- what is seen of the key of an entry
+abbrev pub IsSeenAt : Option (Machine.Entry K.Key K.Outcome) → Seen → Type 0
+IsSeenAt None s = ⊥
+IsSeenAt (Some x) s = IsSeen s (Some x.status)
+
 -- an outcome that is seen is sound, and one of the key
 abbrev pub IsSoundSeen : K.Key → Seen → Type 0
 IsSoundSeen k (Known o) = IsTrue (is_sound_outcome (outcome_tree o.now)) × IsTrue (is_outcome_of k (outcome_tree o.now))

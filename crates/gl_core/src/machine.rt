@@ -1,12 +1,14 @@
 //! The core: known keys, each idle, waiting for another or resolved, and what a pick does.
-ghost use Rattle.std.specs.Prelude.{true, false, ◌≡◌, ◌≤◌, ◌<◌, ◌+◌, ◌-◌, ◌^◌, ℕ, length, map, OnOk, OnErr, IfOk, IfErr, vec_len};
+ghost use Rattle.std.specs.Prelude.{[], true, false, ◌≡◌, ◌≤◌, ◌<◌, ◌+◌, ◌-◌, ◌^◌, ℕ, length, map, OnOk, OnErr, IfOk, IfErr, vec_len};
 ghost use Rattle.gl_query.specs.Lists.{Member, AreDistinct, MoreThan};
 ghost use Rattle.gl_query.specs.Laws.{IsQuiet};
 ghost use Rattle.gl_query.specs.Machine as Machine;
 ghost use Rattle.gl_query.specs.Machine.{Demanded, idle_keys, nth};
 ghost use Rattle.gl_query.specs.Costs.{answer_at, settled};
 ghost use Rattle.gl_query.specs.Remembered.{AreTrue};
+ghost use Rattle.gl_query.specs.InOrder.{AreOrdered};
 ghost use Rattle.gl_calculus.specs.Limits.{max_demanded};
+ghost use Rattle.gl_calculus.specs.Value as V;
 ghost use Rattle.gl_calculus.specs.Key as K;
 ghost use Rattle.gl_calculus.specs.Key.{same_key};
 ghost use Rattle.gl_calculus.specs.Evaluation.{program};
@@ -26,12 +28,14 @@ use crate::answers::{CoreFault, Picked};
 use crate::entries::Entries;
 use crate::picking::pick_at;
 use crate::quiet::Quiet;
+use crate::results::Results;
 use gl_ast::Version;
 use gl_cells::Cells;
 use gl_demand::{Key, Outcome, Steps, Watch};
 use gl_memo::Memo;
 use gl_order::Order;
-use gl_plane::{NoMemory, Oracle, Range};
+use gl_plane::{Addr, NoMemory, Oracle, Range};
+use gl_value::Env;
 use std::alloc::Global;
 use std::marker::Model;
 
@@ -93,6 +97,17 @@ fn seeded(alloc: Global, seeds: Vec<Key>) -> Result<Entries, NoMemory>
     Ok(entries)
 }
 
+/// The keys of cells of the sheet.
+fn top_keys(alloc: Global, places: &[Addr]) -> Result<Vec<Key>, NoMemory>
+    ensures { IfOk result (λ keys. map key_tree keys.items ≡ map (K.Cell V.Top) places.now) }
+{
+    let mut keys = Vec::new(alloc);
+    for a in places {
+        keys.push(Key::Cell(Env::Top, *a))?;
+    }
+    Ok(keys)
+}
+
 impl Core {
     /// The seeds, all idle, with the notes that are kept from before.
     pub fn start(
@@ -123,6 +138,34 @@ impl Core {
         })
     }
 
+    /// The cells at these places of the sheet as seeds, with the results that are kept for them.
+    pub fn resume(
+        alloc: Global,
+        places: &[Addr],
+        results: Results,
+        cells: &Cells,
+        w: &Oracle,
+        version: Version,
+    ) -> Result<Core, CoreFault>
+        requires few { length places.now ≤ max_demanded }
+        requires apart { AreDistinct (map (K.Cell V.Top) places.now) }
+        requires proper { (k : K.Key) → Member k (map (K.Cell V.Top) places.now) → IsProperKey (sheet cells.now) k }
+        requires true_notes { AreTrue same_key (program (version_tree version) (sheet cells.now) w.now) results }
+        ensures seeds { IfOk result (λ core. seeds_of core ≡ map (K.Cell V.Top) places.now) }
+        ensures notes { IfOk result (λ core. notes_in core ≡ results) }
+        ensures ordered { IfOk result (λ core. AreOrdered [] (notes_in core)) }
+        ensures for_it { IfOk result (λ core. IsFor (version_tree version) (sheet cells.now) w.now core) }
+        ensures work { IfErr result (λ e. e ≡ CoreFault.Work → MoreThan max_demanded (Demanded (program (version_tree version) (sheet cells.now) w.now) (map (K.Cell V.Top) places.now))) }
+    {
+        let Ok(seeds) = top_keys(alloc, places) else {
+            return Err(CoreFault::NoMemory);
+        };
+        match Core::start(alloc, seeds, results.into_memo(), cells, w, version) {
+            Ok(core) => Ok(core),
+            Err(_) => Err(CoreFault::NoMemory),
+        }
+    }
+
     /// How many keys can be picked.
     pub fn idle(&self) -> u64
         ensures { result ≡ length (idle_keys (state_of self.now)) }
@@ -149,6 +192,7 @@ impl Core {
         ensures state { OnOk result (state_of self.new ≡ Machine.pick same_key max_demanded (program (version_tree version) (sheet cells.now) w.now) (state_of self.old) i) }
         ensures answer { IfOk result (λ picked. picked_tree picked ≡ answer_at same_key max_demanded (program (version_tree version) (sheet cells.now) w.now) (state_of self.old) (nth (idle_keys (state_of self.old)) i)) }
         ensures notes { IfOk result (λ picked. note_keys (notes_in self.new) ≡ noted_after (notes_in self.old) (nth (idle_keys (state_of self.old)) i) (picked_tree picked)) }
+        ensures ordered { AreOrdered [] (notes_in self.old) → AreOrdered [] (notes_in self.new) }
         ensures err { OnErr result (self.new ≡ self.old) }
         ensures seeds { seeds_of self.new ≡ seeds_of self.old }
         ensures stays { IsFor (version_tree version) (sheet cells.now) w.now self.new }
@@ -185,6 +229,7 @@ impl Core {
         ensures quiet { IfOk result (λ q. IsQuiet same_key (program (version_tree version) (sheet cells.now) w.now) (seeds_of self) (state_of q)) }
         ensures seeds { IfOk result (λ q. seeds_of q ≡ seeds_of self) }
         ensures stays { IfOk result (λ q. IsFor (version_tree version) (sheet cells.now) w.now q) }
+        ensures ordered { IfOk result (λ q. AreOrdered [] (notes_in self) → AreOrdered [] (notes_in q)) }
         ensures work { IfErr result (λ e. e ≡ CoreFault.Work → MoreThan max_demanded (Demanded (program (version_tree version) (sheet cells.now) w.now) (seeds_of self))) }
         ensures no_work { IfOk result (λ q. MoreThan max_demanded (Demanded (program (version_tree version) (sheet cells.now) w.now) (seeds_of self)) → ⊥) }
         ensures most { IfOk result (λ q. AllowsKnown (program (version_tree version) (sheet cells.now) w.now) (is_noted (notes_in self)) (state_of q) steps.old steps.new) }
