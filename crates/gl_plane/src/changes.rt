@@ -1,0 +1,124 @@
+//! What changed between two calculations, as ranges.
+ghost use Rattle.std.specs.Prelude.{◌≡◌, ◌++◌, ◌==◌, ◌||◌, [], true, length, OnOk, OnErr};
+ghost use Rattle.std.specs.List.{list_any};
+ghost use Rattle.gl_calculus.specs.Grid.{Addr as PlainAddr, addresses, covers};
+ghost use Rattle.gl_plane.specs.Changes.{is_covered, reaches, hull_covers};
+
+use crate::{Addr, NoMemory, Range};
+use std::alloc::Global;
+use std::marker::Model;
+
+/// Ranges whose addresses changed.
+#[derive(Drop)]
+pub struct Changes {
+    ranges: Vec<Range>,
+    // covers all that the ranges do, so that most places are told by one comparison
+    hull: Option<Range>,
+}
+
+impl Model for Changes {
+    ghost use Rattle.std.specs.Prelude.{List};
+    ghost use Rattle.gl_calculus.specs.Grid.{Range as Plain};
+    ghost use Rattle.gl_plane.specs.Changes.{IsHull};
+
+    ghost Value = { List Plain };
+
+    ghost view = { λ a. a.ranges.items };
+
+    ghost invariant = { λ a. IsHull a.hull a.ranges.items };
+}
+
+impl Changes {
+    /// No changes. It takes no memory yet.
+    pub fn new(alloc: Global) -> Changes
+        ensures { result ≡ [] }
+    {
+        Changes {
+            ranges: Vec::new(alloc),
+            hull: None,
+        }
+    }
+
+    /// Adds ranges; after `NoMemory` the changes are as before.
+    pub fn add(&mut self, more: &[Range]) -> Result<(), NoMemory>
+        ensures ok { OnOk result (self.new ≡ self.old ++ more.now) }
+        ensures err { OnErr result (self.new ≡ self.old) }
+    {
+        self.ranges.extend_from_slice(more)?;
+        self.hull = widened(self.hull, more);
+        Ok(())
+    }
+
+    /// No range was added.
+    pub fn is_empty(&self) -> bool
+        ensures { result ≡ (length self.now == 0) }
+    {
+        self.ranges.is_empty()
+    }
+
+    /// Some address of the range has changed.
+    ///
+    /// The time is that of one comparison where the range lies apart from all changes, and otherwise
+    /// that of one for each range that was added.
+    pub fn touches(&self, r: &Range) -> bool
+        ensures { result ≡ reaches self.now r.now }
+    {
+        match &self.hull {
+            Some(hull) => overlap(r, hull) && overlap_some(r, &self.ranges),
+            None => false,
+        }
+    }
+}
+
+/// Some address of the first range is one of the second.
+fn overlap(r: &Range, c: &Range) -> bool
+    ensures { result ≡ list_any (covers c.now) (addresses r.now) }
+{
+    let _first = (r.first, c.first);
+    r.meets(c)
+}
+
+fn overlap_some(r: &Range, ranges: &[Range]) -> bool
+    ensures { result ≡ list_any (λ c. list_any (covers c) (addresses r.now)) ranges.now }
+{
+    ranges.iter().any(|c| overlap(r, c))
+}
+
+/// The least range that covers both.
+#[tactic(auto, using(crate::proofs::Ranges::around_both))]
+fn hull_of(a: &Range, b: &Range) -> Range
+    ensures { (p : PlainAddr) → (covers a.now p || covers b.now p) ≡ true → covers result p ≡ true }
+{
+    let (first, last) = (a.first, a.last);
+    let (top, bottom) = (b.first, b.last);
+    let corner = Addr {
+        row: first.row.min(top.row),
+        col: first.col.min(top.col),
+    };
+    let end = Addr {
+        row: last.row.max(bottom.row),
+        col: last.col.max(bottom.col),
+    };
+    Range::new(corner, end)
+}
+
+/// A hull that covers the range, too.
+fn around(hull: Option<Range>, r: &Range) -> Range
+    ensures { (a : PlainAddr) → (hull_covers hull a || covers r.now a) ≡ true → covers result a ≡ true }
+{
+    match hull {
+        None => *r,
+        Some(h) => hull_of(&h, r),
+    }
+}
+
+/// A hull that covers the ranges, too.
+fn widened(hull: Option<Range>, more: &[Range]) -> Option<Range>
+    ensures { (a : PlainAddr) → (hull_covers hull a || is_covered more.now a) ≡ true → hull_covers result a ≡ true }
+{
+    let mut wide = hull;
+    for r in more {
+        wide = Some(around(wide, r));
+    }
+    wide
+}
