@@ -28,7 +28,7 @@ use Rattle.gl_calculus.proofs.Tests.{key_equality}
 use Rattle.gl_demand.specs.Steps.{one_more}
 use Rattle.gl_core.specs.Held.{Held}
 use Rattle.gl_core.specs.State.{State, state_of, seeds_of, notes_in, is_noted, newly_noted, noted_after, IsFor}
-use Rattle.gl_query.specs.InOrder.{note_keys}
+use Rattle.gl_query.specs.InOrder.{AreOrdered, note_keys}
 use Rattle.gl_core.specs.Answers.{counted, AllowsDemanded, AllowsKnown}
 use Rattle.gl_core.proofs.Seeing.{none_of}
 
@@ -36,13 +36,14 @@ use Rattle.gl_core.proofs.Seeing.{none_of}
 pub record IsRun (version : Version) (S : Cells) (w : Oracle) (first now : Held) (n m : ℕ) : Type 0 where
   pub for_it : IsFor version S w now
   pub seeds : seeds_of now ≡ seeds_of first
+  pub ordered : AreOrdered [] (notes_in first) → AreOrdered [] (notes_in now)
   pub stay : (k : K.Key) → is_noted (notes_in first) k ≡ true → is_noted (notes_in now) k ≡ true
   pub before : (k : K.Key) → is_noted (notes_in now) k ≡ true → (is_noted (notes_in first) k ≡ true) ⊎ ((o : K.Outcome) × (at same_key (state_of now) k ≡ Some (Resolved o)))
   pub most : m ≤ n + total same_key (program version S w) (is_noted (notes_in first)) (state_of now)
   pub least : m < 2 ^ 64 - 1 → n + settled (is_noted (notes_in first)) (state_of now) ≤ m + settled (is_noted (notes_in first)) (state_of first)
 
 pub run_begun : (version : Version) (S : Cells) (w : Oracle) (c : Held) (n : ℕ) → IsFor version S w c → IsRun version S w c c n n
-run_begun version S w c n h = record { for_it = h; seeds = refl; stay = λ k e. e; before = λ k e. inl e; most = omega arith; least = λ l. omega arith }
+run_begun version S w c n h = record { for_it = h; seeds = refl; ordered = λ o. o; stay = λ k e. e; before = λ k e. inl e; most = omega arith; least = λ l. omega arith }
 
 -- ---- notes by their keys
 
@@ -190,8 +191,8 @@ module _ (version : Version) (S : Cells) (w : Oracle) (first c : Held) (n m : �
   steps_now k e = ap (λ v. counted (is_noted (notes_in c)) v m) e ∙ ap (λ b. cond b m (one_more m)) (same_noted k (idle_there k e))
 
   pub run_goes : (c' : Held) (m' : ℕ) (a : Picked) → state_of c' ≡ pick same_key max_demanded (program version S w) (state_of c) i → a ≡ answer_at same_key max_demanded (program version S w) (state_of c) (nth (idle_keys (state_of c)) i) → (a ≡ Picked.Full → ⊥) →
-      note_keys (notes_in c') ≡ noted_after (notes_in c) (nth (idle_keys (state_of c)) i) a → IsFor version S w c' → seeds_of c' ≡ seeds_of c → m' ≡ counted (is_noted (notes_in c)) (nth (idle_keys (state_of c)) i) m → IsRun version S w first c' n m'
-  run_goes c' m' a state answered not_full notes for' seeds' count =
+      note_keys (notes_in c') ≡ noted_after (notes_in c) (nth (idle_keys (state_of c)) i) a → IsFor version S w c' → seeds_of c' ≡ seeds_of c → (AreOrdered [] (notes_in c) → AreOrdered [] (notes_in c')) → m' ≡ counted (is_noted (notes_in c)) (nth (idle_keys (state_of c)) i) m → IsRun version S w first c' n m'
+  run_goes c' m' a state answered not_full notes for' seeds' ordered count =
       let (k, ek) = the_key in
       let st = state_of c in
       let p = program version S w in
@@ -212,6 +213,7 @@ module _ (version : Version) (S : Cells) (w : Oracle) (first c : Held) (n m : �
       record {
         for_it = for';
         seeds = seeds' ∙ h.seeds;
+        ordered = λ o. ordered (h.ordered o);
         stay = λ j d. kept_noted (notes_in c) (notes_in c') k a notes' j (h.stay j d);
         before = λ j d. noted_from (notes_in c) (notes_in c') k a notes' j d
             (λ x. elim (h.before j x) [

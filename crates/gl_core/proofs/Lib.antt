@@ -11,3 +11,4 @@ pub mod Picks
 pub mod Seeing
 pub mod Ending
 pub mod Kept
+pub mod Found

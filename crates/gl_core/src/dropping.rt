@@ -29,11 +29,18 @@ fn any_touched(changes: &Changes, looked: &[Range]) -> bool
     looked.iter().any(|r| changes.touches(r))
 }
 
+/// The key is in the set.
+fn is_gone(gone: &IndexSet<Key>, k: &Key) -> bool
+    ensures { result ≡ has_member same_key (key_tree k.now) (map key_tree gone.now.keys) }
+{
+    gone.contains(k)
+}
+
 /// Some key of these is in the set.
 fn any_gone(gone: &IndexSet<Key>, reads: &[Key]) -> bool
-    ensures { result ≡ list_any (λ j. has_member same_key j (map key_tree gone.now.keys)) (map key_tree reads.now) }
+    ensures { result ≡ list_any (λ k. has_member same_key (key_tree k) (map key_tree gone.now.keys)) reads.now }
 {
-    reads.iter().any(|k| gone.contains(k))
+    reads.iter().any(|k| is_gone(gone, k))
 }
 
 /// The key's note rests on something that was changed.
@@ -53,7 +60,8 @@ fn add_affected(
     ensures { OnOk result (map key_tree gone.new.keys ≡ cond (must_go same_key (reaches changes.now) (map key_tree gone.old.keys) (note_tree (key.now, note.now))) (insert_key same_key (map key_tree gone.old.keys) (key_tree key.now)) (map key_tree gone.old.keys)) }
 {
     if goes(changes, gone, note) {
-        gone.insert(key.share()?)?;
+        let shared = key.share()?;
+        gone.insert(shared)?;
     }
     Ok(())
 }

@@ -85,7 +85,8 @@ impl<K: Eq + Hash + Drop, O: Drop, A: Drop> Memo<K, O, A> {
     /// Keeps the notes of these keys, and drops the others in one pass. What is kept stays in order.
     /// It takes no memory.
     pub fn keep<T: Chosen<K>>(&mut self, those: &T)
-        ensures { notes_of self.new ≡ filter (λ e. T.chosen those.now e.0) (notes_of self.old) }
+        ensures kept { notes_of self.new ≡ filter (λ e. T.chosen those.now e.0) (notes_of self.old) }
+        ensures distinct { IsDistinct K.eq (keys_of (notes_of self.new)) }
     {
         keep_chosen(&mut self.map, those);
     }
@@ -115,7 +116,8 @@ fn keep_others<K: Eq + Hash + Drop, V: Drop>(map: &mut IndexMap<K, V>, gone: &In
 
 /// Drops the entries at other keys. The rest keep their order.
 fn keep_chosen<K: Eq + Hash + Drop, V: Drop, T: Chosen<K>>(map: &mut IndexMap<K, V>, those: &T)
-    ensures { map.new.entries ≡ filter (λ e. T.chosen those.now e.0) map.old.entries }
+    ensures kept { map.new.entries ≡ filter (λ e. T.chosen those.now e.0) map.old.entries }
+    ensures distinct { IsDistinct K.eq (keys_of map.new.entries) }
 {
     map.retain(|k, _| those.has(k));
 }

@@ -1,6 +1,7 @@
-use Rattle.std.proofs.Common.{rules, ◌≡◌, ◌<◌, ◌^◌, length, ap, sym, subst, arith, ◌∙◌}
+use Rattle.std.proofs.Common.{rules, [], ◌≡◌, ◌<◌, ◌^◌, length, ap, sym, subst, arith, ◌∙◌}
 use Rattle.gl_query.specs.Machine.{idle_keys, nth, pick}
 use Rattle.gl_query.specs.Costs.{answer_at}
+use Rattle.gl_query.specs.InOrder.{AreOrdered}
 use Rattle.gl_calculus.specs.Limits.{max_demanded}
 use Rattle.gl_calculus.specs.Key.{same_key}
 use Rattle.gl_calculus.specs.Evaluation.{program}
@@ -14,7 +15,7 @@ use Rattle.gl_core.specs.Answers.{picked_tree, counted}
 use Rattle.gl_core.proofs.Wakes.{get_there}
 use Rattle.gl_core.proofs.Idle.{at_most_length}
 use Rattle.gl_core.proofs.Places.{length-idle, on_ok, if_ok}
-use Rattle.gl_core.proofs.Picks.{held, there, the_key, proper_there, outcomes_true, picked_state, picked_answer, picked_notes, picked_stays, picked_seeds, picked_sound}
+use Rattle.gl_core.proofs.Picks.{held, there, the_key, proper_there, outcomes_true, picked_state, picked_answer, picked_notes, picked_stays, picked_seeds, picked_sound, picked_order}
 use Rattle.gl_core.proofs.machine.Core.pick.Goals as goal
 
 pub idle_place-p-requires-clause-there : goal.idle_place-p-requires-clause-there
@@ -88,3 +89,8 @@ returns-clause-counted g c =
     let h = subst (IsFor (version_tree c.args.version) (sheet c.args.cells.now) c.args.w.now) (sym c.self.view_is) c.requires.for_it in
     let (k, ek) = get_there c.self.inside.entries.keys.keys c.idle_place-p.result (there (version_tree c.args.version) (sheet c.args.cells.now) c.args.w.now c.self.inside.entries c.self.inside.seeds (notes_of c.self.inside.notes) h c.self.invariant.table c.args.i c.idle_place-p.result c.idle_place-p.ensures.before c.idle_place-p.ensures.idle) in
     c.pick_at.ensures.counted k ek ∙ ap (λ v. counted (is_noted (notes_in (held c.self.inside.entries c.self.inside.seeds (notes_of c.self.inside.notes)))) v c.args.steps.now) (sym (the_key (version_tree c.args.version) (sheet c.args.cells.now) c.args.w.now c.self.inside.entries c.self.inside.seeds (notes_of c.self.inside.notes) h c.self.invariant.table c.args.i c.idle_place-p.result c.idle_place-p.ensures.before c.idle_place-p.ensures.idle k ek)) ∙ ap (λ (x : Held). counted (is_noted (notes_in x)) (nth (idle_keys (state_of x)) c.args.i) c.args.steps.now) c.self.view_is
+
+pub returns-clause-ordered : goal.returns-clause-ordered
+returns-clause-ordered g c o =
+    let h = subst (IsFor (version_tree c.args.version) (sheet c.args.cells.now) c.args.w.now) (sym c.self.view_is) c.requires.for_it in
+    picked_order (version_tree c.args.version) (sheet c.args.cells.now) c.args.w.now c.self.inside.entries c.self.inside.seeds (notes_of c.self.inside.notes) h c.self.invariant.table c.args.i c.idle_place-p.result c.idle_place-p.ensures.before c.idle_place-p.ensures.idle c.pick_at.new.entries (notes_of c.pick_at.new.notes) c.pick_at.result c.pick_at.ensures.state c.pick_at.ensures.answer c.pick_at.ensures.keys_err c.pick_at.ensures.statuses_err c.pick_at.ensures.notes_err (subst (λ (x : Held). AreOrdered [] (notes_in x)) (sym c.self.view_is) o)
