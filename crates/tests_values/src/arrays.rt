@@ -1,84 +1,10 @@
 //! Functions on arrays, by the texts of their arguments and of what they come to.
-use crate::values::{are_sound, argument, told, value, values};
-use gl_arrays::{
-    drop_part, extent_columns, extent_rows, filter, hstack, index, lookup, sequence, take,
-    transpose, unique, vstack,
-};
-use gl_lift::extents;
-use gl_value::Value;
+use crate::calls::assert_calls;
+use crate::values::value;
+use gl_arrays::sequence;
+use gl_value::{Scalar, Value};
 use std::alloc::Global;
-use std::process::Abort;
 use std::test::Fail;
-
-fn of_one(alloc: Global, name: &str, v: &[Value]) -> Result<Value, Fail> {
-    let v = argument(v, 0)?;
-    match name {
-        "ROWS" => Ok(Value::One(extent_rows(v))),
-        "COLUMNS" => Ok(Value::One(extent_columns(v))),
-        "TRANSPOSE" => Ok(transpose(alloc, v)?),
-        "UNIQUE" => Ok(unique(alloc, v)?),
-        _ => Err(Fail::new("no function")),
-    }
-}
-
-fn of_two(alloc: Global, name: &str, v: &[Value]) -> Result<Value, Fail> {
-    let x = argument(v, 0)?;
-    let y = argument(v, 1)?;
-    match name {
-        "SEQUENCE" => Ok(sequence(alloc, x, y)?),
-        "FILTER" => Ok(filter(alloc, x, y)?),
-        _ => of_one(alloc, name, v),
-    }
-}
-
-fn of_three(alloc: Global, name: &str, v: &[Value]) -> Result<Value, Fail> {
-    let x = argument(v, 0)?;
-    let y = argument(v, 1)?;
-    let z = argument(v, 2)?;
-    match name {
-        "INDEX" => Ok(Value::One(index(alloc, x, y, z)?)),
-        "LOOKUP" => Ok(Value::One(lookup(alloc, x, y, z)?)),
-        "TAKE" => Ok(take(alloc, x, y, z)?),
-        "DROP" => Ok(drop_part(alloc, x, y, z)?),
-        _ => Err(Fail::new("no function")),
-    }
-}
-
-fn stacked(alloc: Global, name: &str, parts: &[Value]) -> Result<Value, Fail> {
-    if parts.is_empty() || parts.len() > 16 || !are_sound(parts) {
-        return Err(Fail::new("no arguments"));
-    }
-    match name {
-        "HSTACK" => Ok(hstack(alloc, parts)?),
-        _ => Ok(vstack(alloc, parts)?),
-    }
-}
-
-fn answer(alloc: Global, name: &str, v: &[Value]) -> Result<Value, Fail> {
-    if name.ends_with("STACK") {
-        return stacked(alloc, name, v);
-    }
-    match v.len() {
-        1 => of_one(alloc, name, v),
-        2 => of_two(alloc, name, v),
-        _ => of_three(alloc, name, v),
-    }
-}
-
-/// What a call comes to: a function's name, and behind a space its arguments.
-fn called(alloc: Global, call: &str) -> Result<String, Fail> {
-    let Some((name, arguments)) = call.split_once(' ') else {
-        return Err(Fail::new("no call"));
-    };
-    told(alloc, &answer(alloc, name, &values(alloc, arguments)?)?)
-}
-
-fn assert_calls(rt: &impl Abort, alloc: Global, rows: &[(&str, &str)]) -> Result<(), Fail> {
-    for (call, want) in rows {
-        assert_eq!(rt; called(alloc, call)?.as_str(), *want, "{call}");
-    }
-    Ok(())
-}
 
 #[test]
 fn sequences(rt: HostRuntime) -> Result<(), Fail> {
@@ -101,10 +27,18 @@ fn sequences(rt: HostRuntime) -> Result<(), Fail> {
     )
 }
 
-/// How many rows and columns a sequence has.
+/// How many rows and columns a sequence has, where its first element is 1.
 fn outline(alloc: Global, rows: &str, cols: &str) -> Result<(u16, u16), Fail> {
-    let v = sequence(alloc, &value(alloc, rows)?, &value(alloc, cols)?)?;
-    Ok(extents(&v))
+    match sequence(alloc, &value(alloc, rows)?, &value(alloc, cols)?)? {
+        Value::One(_) => Err(Fail::new("no array")),
+        Value::Array(a) => {
+            if a.item(0, 0) == Some(&Scalar::Int(1)) {
+                Ok((a.size().rows(), a.size().cols()))
+            } else {
+                Err(Fail::new("another beginning"))
+            }
+        }
+    }
 }
 
 #[test]

@@ -4,6 +4,8 @@
 #[cfg(test)]
 mod arrays;
 #[cfg(test)]
+mod calls;
+#[cfg(test)]
 mod funs;
 #[cfg(test)]
 mod lift;

@@ -71,7 +71,15 @@ fn arithmetic_at_each_kind(rt: HostRuntime) -> Result<(), Fail> {
     Ok(())
 }
 
-/// A letter for each truth value: a line of the four second operands for each first one.
+fn letter(word: &str) -> &'static str {
+    match word {
+        "TRUE" => "T",
+        "FALSE" => "F",
+        _ => "?",
+    }
+}
+
+/// A letter for each truth value: a word of the four second operands for each first one.
 fn truths(alloc: Global, op: Op) -> Result<String, Fail> {
     let mut out = String::new(alloc);
     for x in PLAIN {
@@ -80,7 +88,7 @@ fn truths(alloc: Global, op: Op) -> Result<String, Fail> {
         }
         let row = beside(alloc, op, x, &PLAIN)?;
         for word in row.split(' ') {
-            out.push_str(if word == "TRUE" { "T" } else { "F" })?;
+            out.push_str(letter(word))?;
         }
     }
     Ok(out)
@@ -98,10 +106,6 @@ fn comparisons_at_each_kind(rt: HostRuntime) -> Result<(), Fail> {
     ] {
         assert_eq!(rt; truths(rt.alloc(), op)?.as_str(), want, "{op:?}");
     }
-    assert_eq!(rt;
-        beside(rt.alloc(), Op::Ne, "7", &PLAIN)?.as_str(),
-        "TRUE FALSE TRUE TRUE"
-    );
     Ok(())
 }
 
