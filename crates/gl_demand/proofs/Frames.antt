@@ -2,7 +2,7 @@
 use Rattle.std.proofs.Common.{◌≡◌, Bool, true, false, IsTrue, cond, Option, Some, None, IfSome, option_map, refl, ap, sym, subst, ◌∙◌}
 use Rattle.std.proofs.lemmas.Bool.{and_parts}
 use Rattle.gl_calculus.specs.Grid.{Addr, same_addr, covers}
-use Rattle.gl_calculus.specs.Value.{Value, Overrides, no_override, override_and, sheet_value, Frame, Top, In, region}
+use Rattle.gl_calculus.specs.Value.{Value, Overrides, no_override, override_and, sheet_value, Frame, Top, In}
 use Rattle.gl_calculus.specs.Sheet.{override_at}
 use Rattle.gl_calculus.specs.Formula.{Content}
 use Rattle.gl_calculus.specs.Reference.{Held, Given, held_top, override_or, content_in, own_content, in_region, home}

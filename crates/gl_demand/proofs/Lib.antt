@@ -17,7 +17,6 @@ pub mod Firsts
 pub mod Granting
 pub mod Visiting
 pub mod Rounds
-pub mod Copying
 pub mod Chains
 pub mod Bindings
 pub mod IsFormula

@@ -1,7 +1,7 @@
 -- The arrays of a round, found address by address.
 use Rattle.std.proofs.Common.{◌≡◌, Bool, true, false, cond, is_some, List, [], ◌∷◌, ◌++◌, map, filter, Option, Some, None, Result, Ok, Err, OnOk, IfErr, IfOk, refl, ap, sym, subst, ◌∙◌}
 use Rattle.std.proofs.lemmas.List.{append-nil}
-use Rattle.gl_query.specs.Query.{Ready, Need, found}
+use Rattle.gl_query.specs.Query.{Ready, Need}
 use Rattle.gl_calculus.specs.Grid.{Addr, Size, AreInOrder, addresses}
 use Rattle.gl_calculus.specs.Value.{Value, One, Array, Oracle, SheetValue, sheet_value, Frame, In, region}
 use Rattle.gl_calculus.specs.Oracle.{Sizes, AreSizes}

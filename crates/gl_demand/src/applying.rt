@@ -10,7 +10,6 @@ ghost use Rattle.gl_value.specs.View.{value_tree};
 ghost use Rattle.gl_demand.specs.Arity.{takes_any};
 ghost use Rattle.gl_demand.specs.declared.trail.Halt.{Halt};
 
-
 use crate::trail::Halt;
 use gl_arrays::{
     drop_part, extent_columns, extent_rows, filter, hstack, index, lookup, sequence, take,

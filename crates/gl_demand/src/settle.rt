@@ -175,21 +175,7 @@ impl<K: Known> Round for CopyRound<'_, '_, K> {
 fn frame(alloc: Global, s: &Rc<SheetVal>, w: &Oracle) -> Result<Env, NoMemory>
     ensures { IfOk result (λ e. frame_tree e ≡ In (sheet_tree s.now.value) w.now) }
 {
-    Ok(Env::In(s.clone()?, Rc::new(alloc, copied(alloc, w)?)?))
-}
-
-/// The same entries once more.
-fn copied(alloc: Global, w: &Oracle) -> Result<Oracle, NoMemory>
-    ensures { IfOk result (λ v. v ≡ w.now) }
-{
-    let mut copy = Oracle::new(alloc);
-    while let Some(entry) = w.at(copy.len()) {
-        match copy.push(entry) {
-            Ok(()) => {}
-            Err(NoMemory) => return Err(NoMemory),
-        }
-    }
-    Ok(copy)
+    Ok(Env::In(s.clone()?, Rc::new(alloc, w.copy(alloc)?)?))
 }
 
 /// The sizes of the arrays among the own values of some addresses, which are in row-major order.

@@ -6,18 +6,18 @@ use Rattle.std.specs.Prelude.{Vec, []}
 use Rattle.std.specs.declared.alloc.Global.{Global}
 use Rattle.indexmap.specs.IndexSet.{insert_all}
 use Rattle.gl_query.specs.Lists.{Member, has_member, distinct}
-use Rattle.gl_support.specs.Affected.{Triple, is_touched, IsClosed, AreAffected}
+use Rattle.gl_query.proofs.Members.{any_member, member_any}
+use Rattle.gl_support.specs.Affected.{Triple, is_touched, IsClosed, IsAffected, Looked, Read, AreAffected}
 use Rattle.gl_support.specs.Nodes.{stands_at, reads_at, marked_keys}
-use Rattle.gl_support.specs.Reach as numbers
-use Rattle.gl_support.specs.Reach.{is_marked, has, row_of, IsLeast}
-use Rattle.gl_support.proofs.Keys.{any_member, some_member, has_member-any, any_alike, any_congr, AllZip-trans, filter_alike, any_insert_all, distinct-insert_all}
-use Rattle.gl_support.proofs.Places.{at_node, and_true, stands_somewhere, marked_there, marked_place, stands_test, stands_self, stands_once, filter-marked}
+use Rattle.gl_support.specs.Reach.{is_marked, has, row_of, IsFollowed, Seed, Edge, IsLeast}
+use Rattle.gl_support.proofs.Keys.{has_member-any, any_alike, any_congr, AllZip-trans, filter_alike, any_insert_all, distinct-insert_all}
+use Rattle.gl_support.proofs.Places.{and_true, stands_somewhere, marked_there, marked_place, stand_alike, stands_self, stands_once, filter-marked}
 
 and_both : (a b : Bool) → a ≡ true → b ≡ true → (a && b) ≡ true
 and_both true b h g = g
 and_both false b h g = let no : false ≡ true = h in cc
 
-iff : (a b : Bool) → (a ≡ true → b ≡ true) → (b ≡ true → a ≡ true) → a ≡ b
+pub iff : (a b : Bool) → (a ≡ true → b ≡ true) → (b ≡ true → a ≡ true) → a ≡ b
 iff true b f g = sym (f refl)
 iff false true f g = g refl
 iff false false f g = refl
@@ -52,34 +52,32 @@ module _ {K A : Type 0} {same : K → K → Bool} (laws : IsEquivalence same) (t
     alike = λ x y h. has_member-any same x found ∙ any_congr laws x y found h ∙ sym (has_member-any same y found);
     touched = λ t m h.
         let p = place_of t m in
-        let seed : is_marked seeds p.0 ≡ true = seeded p.0 ∙ any_member (λ u. is_touched touches u.looked changed && stands_at same ks u.by p.0) ts t m (and_both _ _ h p.1) in
+        let seed : is_marked seeds p.0 ≡ true = seeded p.0 ∙ member_any (λ u. is_touched touches u.looked changed && stands_at same ks u.by p.0) ts t m (and_both _ _ h p.1) in
         there t.by ∙ marked_there same marks ks t.by p.0 p.1 (least.closed.seeded p.0 seed);
     read = λ t k m r h.
         let p = place_of t m in
         let q = marked_place laws marks ks k apart (sym (there k) ∙ h) in
-        let reads : reads_at same ks t.reads q.0 ≡ true = any_member (λ u. stands_at same ks u q.0) t.reads k r q.1 in
-        let edge : has (row_of graph q.0) p.0 ≡ true = edges q.0 p.0 ∙ any_member (λ u. reads_at same ks u.reads q.0 && stands_at same ks u.by p.0) ts t m (and_both _ _ reads p.1) in
+        let reads : reads_at same ks t.reads q.0 ≡ true = member_any (λ u. stands_at same ks u q.0) t.reads k r q.1 in
+        let edge : has (row_of graph q.0) p.0 ≡ true = edges q.0 p.0 ∙ member_any (λ u. reads_at same ks u.reads q.0 && stands_at same ks u.by p.0) ts t m (and_both _ _ reads p.1) in
         there t.by ∙ marked_there same marks ks t.by p.0 p.1 (least.closed.edges q.0 p.0 edge q.2);
   }
 
-  -- a closed set of keys is one of places
-  at_nodes : (test : K → Bool) → IsClosed same touches ts changed test → numbers.IsClosed graph seeds (at_node test ks)
-  at_nodes test c = record {
-    seeded = λ i h.
-        let w = some_member (λ t. is_touched touches t.looked changed && stands_at same ks t.by i) ts (sym (seeded i) ∙ h) in
-        let b = and_true (is_touched touches w.0.looked changed) (stands_at same ks w.0.by i) w.2 in
-        stands_test laws test c.alike ks w.0.by i b.1 ∙ c.touched w.0 w.1 b.0;
-    edges = λ i j h at.
-        let w = some_member (λ t. reads_at same ks t.reads i && stands_at same ks t.by j) ts (sym (edges i j) ∙ h) in
-        let b = and_true (reads_at same ks w.0.reads i) (stands_at same ks w.0.by j) w.2 in
-        let r = some_member (λ k. stands_at same ks k i) w.0.reads b.0 in
-        stands_test laws test c.alike ks w.0.by j b.1 ∙ c.read w.0 r.0 w.1 r.1 (sym (stands_test laws test c.alike ks r.0 i r.2) ∙ at);
-  }
+  -- what keys stand at a node that is reached are affected
+  at_node : (i : ℕ) → IsFollowed graph seeds i → (k : K) → stands_at same ks k i ≡ true → IsAffected same touches ts changed k
+  at_node i (Seed h) k at =
+      let w = any_member (λ t. is_touched touches t.looked changed && stands_at same ks t.by i) ts (sym (seeded i) ∙ h) in
+      let b = and_true (is_touched touches w.0.looked changed) (stands_at same ks w.0.by i) w.2 in
+      Looked w.0 w.1 (stand_alike laws ks k w.0.by i at b.1) b.0
+  at_node i (Edge a e f) k at =
+      let w = any_member (λ t. reads_at same ks t.reads a && stands_at same ks t.by i) ts (sym (edges a i) ∙ e) in
+      let b = and_true (reads_at same ks w.0.reads a) (stands_at same ks w.0.by i) w.2 in
+      let r = any_member (λ j. stands_at same ks j a) w.0.reads b.0 in
+      Read w.0 r.0 w.1 (stand_alike laws ks k w.0.by i at b.1) r.1 (at_node a f r.0 r.2)
 
-  smallest : (test : K → Bool) → IsClosed same touches ts changed test → (k : K) → has_member same k found ≡ true → test k ≡ true
-  smallest test c k h =
+  smallest : (k : K) → has_member same k found ≡ true → IsAffected same touches ts changed k
+  smallest k h =
       let p = marked_place laws marks ks k apart (sym (there k) ∙ h) in
-      sym (stands_test laws test c.alike ks k p.0 p.1) ∙ least.least (at_node test ks) (at_nodes test c) p.0 p.2
+      at_node p.0 (least.least p.0 p.2) k p.1
 
   -- a key is found exactly where its place is marked
   at_place : (j : ℕ) (d : K) → j < length ks → has_member same (get_or ks j d) found ≡ is_marked marks j

@@ -1,5 +1,5 @@
 -- Lists of keys that are equal place by place.
-use Rattle.std.proofs.Common.{◌≡◌, ◌∙◌, Bool, true, false, cond, ◌||◌, List, [], ◌∷◌, ◌++◌, refl, sym, ap, subst, inl, inr, append_assoc, filter, if◌then◌else◌}
+use Rattle.std.proofs.Common.{◌≡◌, ◌∙◌, Bool, true, false, cond, ◌||◌, List, [], ◌∷◌, ◌++◌, refl, sym, ap, subst, append_assoc, filter, if◌then◌else◌}
 use Rattle.std.proofs.lemmas.List.{append-nil}
 use Rattle.std.proofs.lemmas.List.Elements.{AllZip-push}
 use Rattle.std.proofs.lemmas.List.Folds.{list_any-append}
@@ -7,7 +7,7 @@ use Rattle.std.proofs.lemmas.List.Sums.{fold-append}
 use Rattle.std.specs.Cmp.{IsEquivalence}
 use Rattle.std.specs.List.{list_any, AllZip}
 use Rattle.indexmap.specs.IndexSet.{insert_key, insert_all}
-use Rattle.gl_query.specs.Lists.{Member, has_member, fresh, distinct}
+use Rattle.gl_query.specs.Lists.{has_member, fresh, distinct}
 
 pub or_false : (b : Bool) → (b || false) ≡ b
 or_false true = refl
@@ -16,24 +16,6 @@ or_false false = refl
 or_right : (b : Bool) → (b || true) ≡ true
 or_right true = refl
 or_right false = refl
-
--- a member that passes
-pub any_member : {X : Type 0} (p : X → Bool) (xs : List X) (x : X) → Member x xs → p x ≡ true → list_any p xs ≡ true
-any_member p [] x h e = absurd h
-any_member p (y ∷ ys) x h e =
-    elim h as (λ _. (p y || list_any p ys) ≡ true) [
-      | inl same ↦ ap (λ b. b || list_any p ys) (ap p (sym same) ∙ e)
-      | inr later ↦ ap (λ b. p y || b) (any_member p ys x later e) ∙ or_right (p y)
-    ]
-
--- what passes is a member
-pub some_member : {X : Type 0} (p : X → Bool) (xs : List X) → list_any p xs ≡ true → (x : X) × (Member x xs) × (p x ≡ true)
-some_member p [] h = let no : false ≡ true = h in cc
-some_member {X} p (y ∷ ys) h =
-    elim (p y) as (λ b. p y ≡ b → (b || list_any p ys) ≡ true → (x : X) × (Member x (y ∷ ys)) × (p x ≡ true)) [
-      | true ↦ λ e _. (y, inl refl, e)
-      | false ↦ λ e rest. let w = some_member p ys rest in (w.0, inr w.1, w.2)
-    ] refl h
 
 pub has_member-any : {K : Type 0} (same : K → K → Bool) (k : K) (ks : List K) → has_member same k ks ≡ list_any (same k) ks
 has_member-any same k [] = refl

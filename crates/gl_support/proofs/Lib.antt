@@ -4,3 +4,5 @@ pub mod Keys
 pub mod Places
 pub mod Closure
 pub mod Views
+pub mod Gone
+pub mod Following

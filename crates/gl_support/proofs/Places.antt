@@ -9,12 +9,6 @@ use Rattle.std.proofs.lemmas.Map.Keys.{IsDistinct-head, IsDistinct-tail}
 use Rattle.gl_support.specs.Nodes.{stands_at, marked_keys}
 use Rattle.gl_support.specs.Reach.{is_marked}
 
--- the test of the key at a place
-abbrev pub at_node : {K : Type 0} → (K → Bool) → List K → ℕ → Bool
-at_node test [] i = false
-at_node test (x ∷ xs) zero = test x
-at_node test (x ∷ xs) (suc i) = at_node test xs i
-
 pub and_true : (a b : Bool) → (a && b) ≡ true → (a ≡ true) × (b ≡ true)
 and_true true b h = (refl, h)
 and_true false b h = let no : false ≡ true = h in cc
@@ -110,11 +104,11 @@ module _ {K : Type 0} {same : K → K → Bool} (laws : IsEquivalence same) wher
       by true e w = let no : true ≡ false = sym (marked_any same ms xs k h) ∙ none_of x k xs (IsDistinct-head same x xs d) e in cc
       by false e w = (suc w.0, ap (λ b. not b && stands_at same xs k w.0) e ∙ w.1, w.2)
 
-  -- a test that tells no equal keys apart says of a key what it says of its place
-  pub stands_test : (test : K → Bool) → ((x y : K) → same x y ≡ true → test x ≡ test y) → (ks : List K) (k : K) (i : ℕ) → stands_at same ks k i ≡ true → at_node test ks i ≡ test k
-  stands_test test alike [] k i h = let no : false ≡ true = h in cc
-  stands_test test alike (x ∷ xs) k zero h = sym (alike k x h)
-  stands_test test alike (x ∷ xs) k (suc i) h = stands_test test alike xs k i (and_true (not (same k x)) (stands_at same xs k i) h).1
+  -- keys that stand at one place are equal
+  pub stand_alike : (ks : List K) (k j : K) (i : ℕ) → stands_at same ks k i ≡ true → stands_at same ks j i ≡ true → same k j ≡ true
+  stand_alike [] k j i h g = let no : false ≡ true = h in cc
+  stand_alike (x ∷ xs) k j zero h g = laws.congr k x j h ∙ laws.symm x j ∙ g
+  stand_alike (x ∷ xs) k j (suc i) h g = stand_alike xs k j i (and_true (not (same k x)) (stands_at same xs k i) h).1 (and_true (not (same j x)) (stands_at same xs j i) g).1
 
   -- each of distinct keys stands at its own place
   pub stands_self : (ks : List K) (j : ℕ) (d : K) → IsDistinct same ks → j < length ks → stands_at same ks (get_or ks j d) j ≡ true

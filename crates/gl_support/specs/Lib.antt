@@ -2,3 +2,4 @@ pub mod Reach
 pub mod Affected
 pub mod Nodes
 pub mod Triples
+pub mod Rows

@@ -38,6 +38,7 @@ fn marked(alloc: Global, marks: &[bool]) -> Result<Vec<usize>, AllocError>
 }
 
 /// The least set of nodes that has the seeds and is closed under edges. Each node is visited once.
+#[tactic(auto, using(crate::proofs::Steps::starts_least))]
 pub fn reached(alloc: Global, graph: &[Vec<usize>], seeds: &[bool]) -> Result<Vec<bool>, AllocError>
     requires size { length seeds.now ≡ length graph.now }
     requires graph { IsGraph graph.now }

@@ -8,7 +8,7 @@ use Rattle.gl_value.specs.Forms.{sheet_tree_is}
 use Rattle.gl_demand.specs.Blocks.{has_content_in}
 use Rattle.gl_demand.specs.Walk.{world, walk}
 use Rattle.gl_demand.specs.Walks.{Walks, trail_tree}
-use Rattle.gl_demand.specs.Settling.{region_facts, halt_of}
+use Rattle.gl_demand.specs.Settling.{region_facts}
 use Rattle.gl_demand.proofs.Rounds.{all_settle, all_halt}
 use Rattle.gl_demand.proofs.settle.settle_places.Goals as goal
 

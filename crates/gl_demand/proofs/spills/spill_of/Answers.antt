@@ -1,4 +1,3 @@
-use Rattle.gl_calculus.specs.Reference.{whole}
 use Rattle.gl_cells.specs.Sheet.{sheet}
 use Rattle.gl_value.specs.View.{frame_tree}
 use Rattle.gl_demand.specs.Walk.{world}

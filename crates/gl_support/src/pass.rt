@@ -1,0 +1,84 @@
+//! One pass over rows in the order of noting.
+ghost use Rattle.std.specs.Prelude.{◌≡◌, ◌<◌, ◌||◌, ◌&&◌, ℕ, true, [], nat_eq, All, IfOk, vec_len};
+ghost use Rattle.std.specs.List.{list_any};
+ghost use Rattle.gl_query.specs.Lists.{Member, AreDistinct, has_member};
+ghost use Rattle.gl_query.specs.Remembered.{Note, IsReached};
+ghost use Rattle.gl_query.specs.InOrder.{AreOrdered, note_keys, must_go, gone_after};
+ghost use Rattle.gl_support.specs.Reach.{is_marked, has};
+ghost use Rattle.gl_support.specs.Rows.{note_of, notes_of, AreMarked, AreBelow};
+
+use crate::row::{Row, is_marked, mark_all};
+use crate::touched::{Touched, any_touched};
+use gl_plane::NoMemory;
+use std::alloc::Global;
+
+/// Marks the numbers of the rows to drop: those that looked at what changed, and those that read a
+/// number marked before. Where rows are in the order of noting, these are the rows that rest on
+/// what changed, and no others.
+pub fn mark<O, A, T: Touched<A>>(
+    alloc: Global,
+    rows: &[Row<O, A>],
+    numbers: usize,
+    changed: &T,
+) -> Result<Vec<bool>, NoMemory>
+    requires { AreBelow numbers rows.now }
+    ensures { IfOk result (λ m. (k : ℕ) → is_marked m.items k ≡ has_member nat_eq k (gone_after nat_eq (T.touches changed.now) [] (notes_of rows.now))) }
+{
+    let mut gone = vec![in alloc; false; numbers]?;
+    for row in rows {
+        if goes(changed, &gone, row) {
+            gone[row.by as usize] = true;
+        }
+    }
+    Ok(gone)
+}
+
+fn any_marked(marks: &[bool], reads: &[u32]) -> bool
+    ensures { result ≡ list_any (is_marked marks.now) reads.now }
+{
+    reads.iter().any(|k| is_marked(marks, *k))
+}
+
+/// Whether the row goes.
+fn goes<O, A, T: Touched<A>>(changed: &T, gone: &[bool], row: &Row<O, A>) -> bool
+    ensures { (ks : _) → AreMarked gone.now ks → result ≡ must_go nat_eq (T.touches changed.now) ks (note_of row.now) }
+{
+    any_touched(changed, &row.looked) || any_marked(gone, &row.reads)
+}
+
+/// Marks the seeds, and all numbers that they reach through the reads of rows, from the last row to
+/// the first.
+pub fn wanted<O, A>(
+    alloc: Global,
+    rows: &[Row<O, A>],
+    numbers: usize,
+    seeds: &[u32],
+) -> Result<Vec<bool>, NoMemory>
+    requires below { AreBelow numbers rows.now }
+    requires seeds_below { All (λ s. s < numbers) seeds.now }
+    requires ordered { AreOrdered [] (notes_of rows.now) }
+    requires apart { AreDistinct (note_keys (notes_of rows.now)) }
+    ensures seeds { IfOk result (λ m. (s : ℕ) → Member s seeds.now → is_marked m.items s ≡ true) }
+    ensures closed { IfOk result (λ m. (n : Note ℕ O A) → Member n (notes_of rows.now) → is_marked m.items n.key ≡ true → (j : ℕ) → Member j n.reads → is_marked m.items j ≡ true) }
+    ensures reached { IfOk result (λ m. (k : ℕ) → is_marked m.items k ≡ true → (s : ℕ) × Member s seeds.now × IsReached (notes_of rows.now) s k) }
+{
+    let mut marks = vec![in alloc; false; numbers]?;
+    mark_all(&mut marks, seeds);
+    let mut i = rows.len();
+    while i > 0 {
+        i -= 1;
+        follow(&mut marks, &rows[i]);
+    }
+    Ok(marks)
+}
+
+/// Marks what the row read, if it is marked itself.
+fn follow<O, A>(marks: &mut Vec<bool>, row: &Row<O, A>)
+    requires { All (λ k. k < vec_len marks.old) row.now.reads.items }
+    ensures marks { (k : ℕ) → is_marked marks.new.items k ≡ (is_marked marks.old.items k || (is_marked marks.old.items row.now.by && has row.now.reads.items k)) }
+    ensures size { vec_len marks.new ≡ vec_len marks.old }
+{
+    if is_marked(marks, row.by) {
+        mark_all(marks, &row.reads);
+    }
+}
