@@ -111,8 +111,9 @@ impl Calc {
         ensures count { result + length (sheet_of self.new) ≡ length (sheet_of self.old) }
         ensures held { self.new.held ≡ None }
     {
+        let count = self.cells.clear(r);
         self.held = None;
-        self.cells.clear(r)
+        count
     }
 
     /// Calculates the sheet: goes through the rounds from the empty oracle to the first that is its

@@ -99,6 +99,13 @@ impl Results {
         Ok(Results { notes })
     }
 
+    /// Gives back room that notes which are gone have left, as far as there is memory to do so.
+    pub fn tidy(&mut self, _alloc: Global)
+        ensures { self.new ≡ self.old }
+    {
+        self.notes.shrink();
+    }
+
     /// Drops the notes that rest on something that was changed: each that looked at a changed
     /// address, and each that read a key whose note goes. After `NoMemory` the results are as
     /// before.
