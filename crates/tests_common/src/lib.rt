@@ -1,0 +1,12 @@
+//! What the tests of several crates share: addresses, values and sheets that are written as texts, and their texts.
+#![tactic(auto)]
+
+mod addresses;
+mod scalars;
+mod sheets;
+mod texts;
+
+pub use addresses::{address, range, size};
+pub use scalars::{copy, number, scalar, text};
+pub use sheets::{content_of, put_line, sheet_of};
+pub use texts::{scalar_text, value_text};

@@ -1,0 +1,3 @@
+pub mod After
+pub mod OneContent
+pub mod Nothing

@@ -1,0 +1,124 @@
+//! Permits beside content and beside other arrays, and what is in the way of those that are refused.
+use gl_grant::{Blocks, Obstacle, blocker, grant, is_consistent};
+use gl_plane::{Addr, Oracle, Permit, Range, Sizes, whole_grid};
+use std::alloc::Global;
+use std::test::Fail;
+use tests_common::{address, size};
+
+// One address has content.
+#[derive(Clone, Copy)]
+struct OneContent {
+    at: Addr,
+}
+
+impl Blocks for OneContent {
+    ghost use Rattle.gl_calculus.specs.Grid.{same_addr};
+
+    ghost held = { λ s a. same_addr a s.at };
+
+    fn blocked(&self, root: Addr, area: &Range) -> Option<Addr> {
+        if !area.covers(self.at) {
+            return None;
+        }
+        if self.at == root {
+            return None;
+        }
+        Some(self.at)
+    }
+}
+
+// Appends an array whose address is after the last.
+#[tactic(auto, using(crate::proofs::After::in_order_after, crate::proofs::After::in_order_alone))]
+fn append(sizes: &mut Sizes, root: Addr, rows: u16, cols: u16) -> Result<(), Fail> {
+    let count = sizes.len();
+    if count > 0 {
+        let last = sizes.at(count - 1).ok_or("last")?;
+        if !last.0.is_before(root) {
+            return Err("order".into());
+        }
+    }
+    sizes.push(root, size(rows, cols)?)?;
+    Ok(())
+}
+
+// What stands in the way of a root that has an entry.
+fn obstacle_of(
+    w: &Oracle,
+    sizes: &Sizes,
+    root: Addr,
+    blocks: &OneContent,
+) -> Result<Option<Obstacle>, Fail> {
+    let bound = whole_grid();
+    if !is_consistent(w, sizes, &bound, blocks) {
+        return Err("not consistent".into());
+    }
+    if w.entry(root).is_none() {
+        return Err("no entry".into());
+    }
+    Ok(blocker(w, root, &bound, blocks))
+}
+
+// The permits of two arrays beside content, and what is in the way of one of them.
+#[test]
+fn permits_and_obstacles(rt: HostRuntime) -> Result<(), Fail> {
+    let met = Some(Obstacle::Root(address("B1")?));
+    let content = Some(Obstacle::Content(address("A2")?));
+    let edge = Some(Obstacle::Edge);
+    for (held, first, root, rows, cols, asked, want) in [
+        ("D1", "B1", "A2", 1, 3, "B1", None),
+        ("D1", "B1", "A2", 1, 3, "A2", met),
+        ("A2", "B1", "A2", 1, 1, "A2", None),
+        ("A2", "A1", "B1", 3, 1, "A1", content),
+        ("A2", "A1", "B1", 3, 1, "B1", None),
+        ("D1", "B1", "A9998", 3, 1, "A9998", edge),
+        ("D1", "B1", "A9998", 2, 1, "A9998", None),
+        ("D1", "B1", "ZY2", 1, 3, "ZY2", edge),
+    ] {
+        let blocks = OneContent { at: address(held)? };
+        let mut sizes = Sizes::new(rt.alloc());
+        append(&mut sizes, address(first)?, 3, 1)?;
+        append(&mut sizes, address(root)?, rows, cols)?;
+        let w = granted(rt.alloc(), &sizes, &blocks)?;
+        let found = obstacle_of(&w, &sizes, address(asked)?, &blocks)?;
+        assert_eq!(rt; found, want, "at {asked} beside {root}");
+    }
+    Ok(())
+}
+
+fn granted(alloc: Global, sizes: &Sizes, blocks: &OneContent) -> Result<Oracle, Fail> {
+    match grant(alloc, sizes, &whole_grid(), blocks) {
+        Ok(w) => Ok(w),
+        Err(_) => Err("memory".into()),
+    }
+}
+
+// Four thousand arrays of two rows and three columns, one below the other.
+fn many_arrays(alloc: Global) -> Result<Sizes, Fail> {
+    let mut sizes = Sizes::new(alloc);
+    for i in 0..4000 {
+        let root = Addr::new(1, 2 * i + 1).ok_or("root")?;
+        append(&mut sizes, root, 2, 3)?;
+    }
+    Ok(sizes)
+}
+
+#[test]
+fn many_roots_are_looked_up(rt: HostRuntime) -> Result<(), Fail> {
+    let blocks = OneContent { at: address("D1")? };
+    let w = granted(rt.alloc(), &many_arrays(rt.alloc())?, &blocks)?;
+    assert_eq!(rt; w.len(), 4000);
+    for i in 0..10000 {
+        let below = i % 8000;
+        let right = i % 3;
+        let a = Addr::new(right + 1, below + 1).ok_or("address")?;
+        let root = Addr::new(1, below - below % 2 + 1).ok_or("root")?;
+        let permit = if a == root {
+            Some(Permit::Permitted)
+        } else {
+            None
+        };
+        assert_eq!(rt; w.status(a), permit, "at {i}");
+        assert_eq!(rt; w.cover(a), Some((root, below % 2, right)), "at {i}");
+    }
+    Ok(())
+}

@@ -1,0 +1,17 @@
+//! Tests of the grid, the outside, permits, rounds, pick rules, notes and what an edit affects.
+#![tactic(auto)]
+
+#[cfg(test)]
+mod grant;
+#[cfg(test)]
+mod memo;
+#[cfg(test)]
+mod order;
+#[cfg(test)]
+mod plane;
+#[cfg(test)]
+mod port;
+#[cfg(test)]
+mod rounds;
+#[cfg(test)]
+mod support;
