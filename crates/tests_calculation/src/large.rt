@@ -1,0 +1,150 @@
+//! Sheets of many copies and of large arrays, and a sheet that is full.
+ghost use Rattle.std.specs.Prelude.{IfOk};
+ghost use Rattle.gl_language.specs.Content.{IsProperContent};
+ghost use Rattle.gl_cells.specs.Content.{content_tree};
+
+use crate::calculations::{Sheet, calc_of, holds, number, refreshed, shows};
+use gl_ast::Version;
+use gl_calc::Calc;
+use gl_cells::Content;
+use gl_plane::{Addr, Share};
+use std::test::Fail;
+use tests_common::address;
+
+const LARGE: [Sheet; 5] = [
+    // copies that each make two
+    Sheet {
+        lines: &[
+            "set A1 1",
+            "set B1 =IF(A1>=1024,1,VIEW(UPDATE(SHEET(A1:B1),A1,2*A1),B1)+VIEW(UPDATE(SHEET(A1:B1),A1,2*A1+1),B1))",
+        ],
+        ends: "settled 1",
+        oracle: "oracle 0\n",
+        shows: &[("B1", "1024")],
+        whys: &[],
+    },
+    // equal copies are one
+    Sheet {
+        lines: &[
+            "set A1 1",
+            "set B1 =IF(A1>=262144,1,VIEW(UPDATE(SHEET(A1:B1),A1,2*A1),B1)+VIEW(UPDATE(SHEET(A1:B1),A1,2*A1),B1))",
+        ],
+        ends: "settled 1",
+        oracle: "oracle 0\n",
+        shows: &[("B1", "262144")],
+        whys: &[],
+    },
+    Sheet {
+        lines: &[
+            "set A1 1",
+            "set B1 x",
+            "set A2 2",
+            "set B2 y",
+            "set A3 1",
+            "set B3 z",
+            "set D1 =FILTER(A1:B3,A1:A3=1)",
+            "set G1 =UNIQUE(A1:A3)",
+            "set I1 =LOOKUP(2,A1:A3,B1:B3)",
+        ],
+        ends: "settled 2",
+        oracle: "oracle 2\nD1 2x2 permitted\nG1 2x1 permitted\n",
+        shows: &[
+            ("D1", "1"),
+            ("E1", "\"x\""),
+            ("D2", "1"),
+            ("E2", "\"z\""),
+            ("G1", "1"),
+            ("G2", "2"),
+            ("I1", "\"y\""),
+        ],
+        whys: &[("D1", "permitted"), ("I1", "none")],
+    },
+    // a sheet of seven arrays is too large, and one of six has no room for any of them
+    Sheet {
+        lines: &[
+            "set A3 =G(A1:G1,A1,SEQUENCE(100,100),B1,SEQUENCE(100,100),C1,SEQUENCE(100,100),D1,SEQUENCE(100,100),E1,SEQUENCE(100,100),F1,SEQUENCE(100,100),G1,SEQUENCE(100,100))",
+        ],
+        ends: "settled 1",
+        oracle: "oracle 0\n",
+        shows: &[("A3", "#SIZE!"), ("B3", ".")],
+        whys: &[("A3", "none")],
+    },
+    Sheet {
+        lines: &[
+            "set A3 =G(A1:F1,A1,SEQUENCE(100,100),B1,SEQUENCE(100,100),C1,SEQUENCE(100,100),D1,SEQUENCE(100,100),E1,SEQUENCE(100,100),F1,SEQUENCE(100,100))",
+        ],
+        ends: "settled 2",
+        oracle: "oracle 1\nA3 1x6 permitted\n",
+        shows: &[("A3", "#SPILL!"), ("B3", "#SPILL!"), ("G3", ".")],
+        whys: &[("A3", "permitted")],
+    },
+];
+
+/// Copies beyond the limit of demanded keys
+const WORK: Sheet = Sheet {
+    lines: &[
+        "set A1 1",
+        "set B1 =IF(A1>=262144,1,VIEW(UPDATE(SHEET(A1:B1),A1,2*A1),B1)+VIEW(UPDATE(SHEET(A1:B1),A1,2*A1+1),B1))",
+    ],
+    ends: "spent work",
+    oracle: "",
+    shows: &[],
+    whys: &[],
+};
+
+#[test]
+fn large_sheets(rt: HostRuntime) -> Result<(), Fail> {
+    for sheet in &LARGE {
+        for kind in 0u8..3 {
+            assert!(rt; holds(rt.alloc(), sheet, kind)?, "{:?}", sheet.lines);
+        }
+    }
+    Ok(())
+}
+
+#[test]
+fn work_is_spent(rt: HostRuntime) -> Result<(), Fail> {
+    for kind in 0u8..3 {
+        assert!(rt; holds(rt.alloc(), &WORK, kind)?, "kind {kind}");
+    }
+    Ok(())
+}
+
+/// The content of B1.
+fn copy_of_b1(calc: &Calc) -> Result<Content, Fail>
+    ensures { IfOk result (λ c. IsProperContent (content_tree c)) }
+{
+    match calc.cells().content(address("B1")?) {
+        Some(content) => Ok(content.share()?),
+        None => Err("no content".into()),
+    }
+}
+
+/// The formula of B1 in the second and third columns, and 7 elsewhere.
+fn fill(calc: &mut Calc, col: u16, row: u16) -> Result<(), Fail> {
+    let a = Addr::new(col, row).ok_or("off the grid")?;
+    let content = if col == 2 || col == 3 {
+        copy_of_b1(calc)?
+    } else {
+        number(7)
+    };
+    calc.put(a, content)?;
+    Ok(())
+}
+
+#[test]
+fn a_full_sheet_settles(rt: HostRuntime) -> Result<(), Fail> {
+    let alloc = rt.alloc();
+    let mut calc = calc_of(alloc, &["set B1 =A1+1"])?;
+    for row in 1..8193u16 {
+        for col in 1..9u16 {
+            fill(&mut calc, col, row)?;
+        }
+    }
+    assert_eq!(rt; calc.cells().formulas(), 16384);
+    assert_eq!(rt; calc.cells().contents(), 65536);
+    let answer = refreshed(alloc, &mut calc, 2, Version::One)?;
+    assert_eq!(rt; answer.as_str(), "settled 1");
+    assert!(rt; shows(alloc, &calc, "C8192", "8")?);
+    Ok(())
+}
