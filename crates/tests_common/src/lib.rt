@@ -9,4 +9,4 @@ mod texts;
 pub use addresses::{address, range, size};
 pub use scalars::{copy, number, scalar, text};
 pub use sheets::{content_of, put_line, sheet_of};
-pub use texts::{scalar_text, value_text};
+pub use texts::{formula_word, push_times, scalar_text, value_text};

@@ -1,4 +1,6 @@
-//! The texts of values: each scalar as a cell shows it.
+//! The texts of values, each scalar as a cell shows it, and the words for formulas that are refused.
+use gl_lex::LexFault;
+use gl_parse::ParseFault;
 use gl_plane::{NoMemory, Share};
 use gl_value::{Array, Scalar, Shown, Value};
 use gl_views::shown_text;
@@ -36,6 +38,37 @@ fn put_row(alloc: Global, out: &mut String, a: &Array, row: u16) -> Result<(), N
         if let Some(x) = a.item(row, col) {
             out.push_str(scalar_text(alloc, x)?.as_str())?;
         }
+    }
+    Ok(())
+}
+
+/// Why a text is no formula, in a word.
+pub fn formula_word(fault: &ParseFault) -> &'static str {
+    match fault {
+        ParseFault::Long => "long",
+        ParseFault::Lex(fault) => token_word(fault),
+        ParseFault::Deep => "deep",
+        ParseFault::Syntax => "syntax",
+        ParseFault::Range => "range",
+        ParseFault::Name => "name",
+        ParseFault::Arity => "arity",
+        ParseFault::NoMemory => "no memory",
+    }
+}
+
+fn token_word(fault: &LexFault) -> &'static str {
+    match fault {
+        LexFault::Token { at: _ } => "token",
+        LexFault::Number { at: _ } => "number",
+        LexFault::Text { at: _ } => "text",
+        LexFault::NoMemory => "no memory",
+    }
+}
+
+/// The piece so many times.
+pub fn push_times(out: &mut String, piece: &str, count: u32) -> Result<(), NoMemory> {
+    for _ in 0..count {
+        out.push_str(piece)?;
     }
     Ok(())
 }

@@ -1,0 +1,9 @@
+//! Tests of tokens, of formulas and their canonical texts, and of the reader of formulas.
+#![tactic(auto)]
+
+#[cfg(test)]
+mod ast;
+#[cfg(test)]
+mod lex;
+#[cfg(test)]
+mod parse;

@@ -1,0 +1,164 @@
+//! A sheet that is full, contents put at once, and plain texts.
+ghost use Rattle.std.specs.Prelude.{IfOk};
+ghost use Rattle.gl_language.specs.Content.{IsProperContent};
+ghost use Rattle.gl_cells.specs.Content.{content_tree};
+
+use gl_cells::{Cells, Content, MAX_CONTENTS, MAX_FORMULAS, PutFault, plain_scalar};
+use gl_plane::{Addr, Range, whole_grid};
+use gl_value::Scalar;
+use std::alloc::Global;
+use std::test::Fail;
+use tests_common::{address, content_of, range, scalar_text};
+
+fn at(col: u16, row: u16) -> Result<Addr, Fail> {
+    Addr::new(col, row).ok_or_else(|| Fail::new("off the grid"))
+}
+
+#[tactic(auto, using(gl_value::specs::Forms::trees))]
+fn number(n: i64) -> Content
+    ensures { IsProperContent (content_tree result) }
+{
+    Content::Const(Scalar::Int(n))
+}
+
+/// The formula `1`.
+fn formula(alloc: Global) -> Result<Content, Fail>
+    ensures { IfOk result (λ c. IsProperContent (content_tree c)) }
+{
+    let (_, content) = content_of(alloc, "set A1 =1")?;
+    Ok(content)
+}
+
+/// Puts formulas as long as there is room for them, then numbers.
+fn put_next(cells: &mut Cells, alloc: Global, a: Addr) -> Result<(), Fail> {
+    if (cells.formulas() as usize) < MAX_FORMULAS {
+        cells.put(a, formula(alloc)?)?;
+    } else {
+        cells.put(a, number(7))?;
+    }
+    Ok(())
+}
+
+fn put_row(cells: &mut Cells, alloc: Global, row: u16) -> Result<(), Fail> {
+    for col in 1..8 {
+        put_next(cells, alloc, at(col, row)?)?;
+    }
+    Ok(())
+}
+
+/// As many contents and formulas as there may be: rows of seven columns.
+fn full(alloc: Global) -> Result<Cells, Fail> {
+    let mut cells = Cells::new(alloc);
+    for row in 1..9363 {
+        put_row(&mut cells, alloc, row)?;
+    }
+    put_next(&mut cells, alloc, at(1, 9363)?)?;
+    put_next(&mut cells, alloc, at(2, 9363)?)?;
+    Ok(cells)
+}
+
+/// Each of the first 9,362 rows of the column is next in turn, and no other.
+fn is_walked(cells: &Cells, column: &Range, col: u16) -> Result<bool, Fail> {
+    let mut after = None;
+    for row in 1..9363 {
+        let a = at(col, row)?;
+        if cells.next_in(column, after) != Some(a) {
+            return Ok(false);
+        }
+        after = Some(a);
+    }
+    Ok(cells.next_in(column, after).is_none())
+}
+
+#[test]
+fn a_full_sheet_is_walked_and_cleared(rt: HostRuntime) -> Result<(), Fail> {
+    let mut cells = full(rt.alloc())?;
+    let column = range("G1:G9999")?;
+    assert!(rt; is_walked(&cells, &column, 7)?);
+    assert_eq!(rt; cells.next_in(&range("H1:H9999")?, None), None);
+    assert_eq!(rt; cells.clear(&column), 9362);
+    assert_eq!(rt; cells.clear(&whole_grid()) as usize, MAX_CONTENTS - 9362);
+    assert_eq!(rt; (cells.contents(), cells.formulas()), (0, 0));
+    Ok(())
+}
+
+#[test]
+fn a_full_sheet_refuses_one_more(rt: HostRuntime) -> Result<(), Fail> {
+    let mut cells = full(rt.alloc())?;
+    let next = address("H1")?;
+    assert_eq!(rt;
+        cells.put(next, formula(rt.alloc())?),
+        Err(PutFault::Formulas)
+    );
+    assert_eq!(rt; cells.put(next, number(7)), Err(PutFault::Contents));
+    assert_eq!(rt; cells.contents() as usize, MAX_CONTENTS);
+    assert_eq!(rt; cells.formulas() as usize, MAX_FORMULAS);
+    assert!(rt; cells.content(next).is_none());
+    Ok(())
+}
+
+/// Puts numbers at two addresses at once.
+fn put_two(alloc: Global, cells: &mut Cells, a: &str, b: &str) -> Result<bool, Fail> {
+    let mut list = Vec::new(alloc);
+    list.push((address(a)?, number(5)))?;
+    list.push((address(b)?, number(6)))?;
+    match cells.put_all(alloc, list) {
+        Ok(()) => Ok(true),
+        Err(PutFault::Contents) => Ok(false),
+        Err(fault) => Err(fault.into()),
+    }
+}
+
+/// The address has this number.
+fn has_number(cells: &Cells, a: &str, n: i64) -> Result<bool, Fail> {
+    match cells.content(address(a)?) {
+        Some(Content::Const(Scalar::Int(m))) => Ok(*m == n),
+        _ => Ok(false),
+    }
+}
+
+#[test]
+fn a_full_sheet_refuses_several(rt: HostRuntime) -> Result<(), Fail> {
+    let mut cells = full(rt.alloc())?;
+    assert!(rt; !put_two(rt.alloc(), &mut cells, "A1", "H1")?);
+    assert_eq!(rt; cells.contents() as usize, MAX_CONTENTS);
+    assert_eq!(rt; cells.formulas() as usize, MAX_FORMULAS);
+    assert!(rt; matches!(cells.content(address("A1")?), Some(Content::Form(_))));
+    assert!(rt; cells.content(address("H1")?).is_none());
+    Ok(())
+}
+
+#[test]
+fn several_at_once(rt: HostRuntime) -> Result<(), Fail> {
+    let mut cells = Cells::new(rt.alloc());
+    assert!(rt; put_two(rt.alloc(), &mut cells, "B1", "A1")?);
+    assert_eq!(rt; cells.contents(), 2);
+    assert!(rt; has_number(&cells, "B1", 5)? && has_number(&cells, "A1", 6)?);
+    Ok(())
+}
+
+/// What a plain text is, as a cell shows it.
+fn told(alloc: Global, text: &str) -> Result<String, Fail> {
+    Ok(scalar_text(alloc, &plain_scalar(alloc, text)?)?)
+}
+
+#[test]
+fn plain_texts(rt: HostRuntime) -> Result<(), Fail> {
+    for (text, want) in [
+        ("007", "7"),
+        ("-0", "0"),
+        ("9223372036854775807", "9223372036854775807"),
+        ("-9223372036854775808", "-9223372036854775808"),
+        ("9223372036854775808", "\"9223372036854775808\""),
+        ("-9223372036854775809", "\"-9223372036854775809\""),
+        ("-", "\"-\""),
+        ("+1", "\"+1\""),
+        ("1.0", "\"1.0\""),
+        ("TRUE", "TRUE"),
+        ("FALSE", "FALSE"),
+        ("true", "\"true\""),
+    ] {
+        assert_eq!(rt; told(rt.alloc(), text)?.as_str(), want, "{text}");
+    }
+    Ok(())
+}

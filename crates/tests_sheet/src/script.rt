@@ -1,0 +1,377 @@
+//! Scripts as lines and payloads, and lines as requests.
+use gl_cells::Content;
+use gl_plane::NoMemory;
+use gl_script::{CommandFault, Ended, Event, Feed, Framer, Request, command};
+use gl_value::Scalar;
+use std::alloc::Global;
+use std::process::Abort;
+use std::test::Fail;
+use tests_common::{formula_word, push_times};
+
+fn content_kind(content: &Content) -> &'static str {
+    match content {
+        Content::Form(_) => "set formula",
+        Content::Const(Scalar::Int(_)) => "set number",
+        Content::Const(Scalar::Bool(_)) => "set truth",
+        Content::Const(Scalar::Text(_)) => "set text",
+        Content::Const(_) => "?",
+    }
+}
+
+fn asked(request: &Request) -> &'static str {
+    match request {
+        Request::Nothing => "",
+        Request::Set(_, content) => content_kind(content),
+        Request::Clear(_) => "clear",
+        Request::Show(_) => "show",
+        Request::View(_) => "view",
+        Request::Get(_) => "get",
+        Request::List => "list",
+        Request::Calc => "calc",
+        Request::Oracle => "oracle",
+        Request::Why(_) => "why",
+        Request::Import { at, .. } => {
+            if at.is_some() {
+                "import"
+            } else {
+                "import nowhere"
+            }
+        }
+        Request::Version => "version",
+        Request::Quit => "quit",
+    }
+}
+
+fn refused(fault: &CommandFault) -> &'static str {
+    match fault {
+        CommandFault::Utf8 => "error utf8",
+        CommandFault::Word => "error command",
+        CommandFault::Payload => "error payload",
+        CommandFault::Address => "error address",
+        CommandFault::Range => "error range",
+        CommandFault::Parse(fault) => formula_word(fault),
+        CommandFault::Text => "error text",
+        CommandFault::Field => "error field",
+        CommandFault::NoMemory => "no memory",
+    }
+}
+
+/// What the line asks, or why it is refused.
+fn told(alloc: Global, line: &[u8]) -> &'static str {
+    match command(alloc, line) {
+        Ok(request) => asked(&request),
+        Err(fault) => refused(&fault),
+    }
+}
+
+fn assert_told(rt: &impl Abort, alloc: Global, rows: &[(&str, &str)]) {
+    for (line, want) in rows {
+        assert_eq!(rt; told(alloc, line.as_bytes()), *want, "{line}");
+    }
+}
+
+/// Of each of the lines the same is told.
+fn assert_all_told(rt: &impl Abort, alloc: Global, lines: &[&str], want: &str) {
+    for line in lines {
+        assert_eq!(rt; told(alloc, line.as_bytes()), want, "{line}");
+    }
+}
+
+#[test]
+fn contents_that_are_set(rt: HostRuntime) {
+    assert_told(
+        &rt,
+        rt.alloc(),
+        &[
+            ("set A1 5", "set number"),
+            ("set A1 -007", "set number"),
+            ("set A1 TRUE", "set truth"),
+            ("set A1 true", "set text"),
+            ("set A1  5", "set text"),
+            ("set A1 x y ", "set text"),
+            ("set A1 9223372036854775808", "set text"),
+            ("set A1 \"a b\"", "set text"),
+            ("set ZZ9999 \"\"", "set text"),
+        ],
+    );
+}
+
+#[test]
+fn queries_and_imports(rt: HostRuntime) {
+    assert_told(
+        &rt,
+        rt.alloc(),
+        &[
+            ("", ""),
+            ("; show A0", ""),
+            ("clear A1", "clear"),
+            ("clear A1:ZZ9999", "clear"),
+            ("show ZZ9999", "show"),
+            ("view A1:B5000", "view"),
+            ("view B2:B2", "view"),
+            ("get A1", "get"),
+            ("list", "list"),
+            ("calc", "calc"),
+            ("oracle", "oracle"),
+            ("why A1", "why"),
+            ("import A1 0", "import"),
+            ("import A1 1048576", "import"),
+            ("import ZZZ1 2", "import nowhere"),
+            ("gridlet 2", "version"),
+            ("quit", "quit"),
+        ],
+    );
+}
+
+#[test]
+fn arguments_that_are_refused(rt: HostRuntime) {
+    assert_told(
+        &rt,
+        rt.alloc(),
+        &[
+            ("view B2:A1", "error range"),
+            ("view A1:B5001", "error range"),
+            ("clear B1:A2", "error range"),
+            ("import A1 1048577", "error payload"),
+            ("import ZZZ1 99999999999999999999", "error payload"),
+            ("set A1 \"a", "error text"),
+            ("set A1 \"a\"b", "error text"),
+            ("set A1 \"\\q\"", "error text"),
+            ("set A1 \"", "error text"),
+        ],
+    );
+}
+
+#[test]
+fn words_that_are_no_command(rt: HostRuntime) {
+    assert_all_told(
+        &rt,
+        rt.alloc(),
+        &[
+            "foo",
+            " ",
+            "Show A1",
+            "LIST",
+            " list",
+            "list ",
+            "list x",
+            "quit ",
+            "show",
+            "show ",
+            "show  A1",
+            "show A1 ",
+            "show A1 B1",
+            "show\tA1",
+            "why",
+            "get A1 =",
+            "view A1 : B2",
+        ],
+        "error command",
+    );
+}
+
+#[test]
+fn arguments_that_are_missing_or_too_many(rt: HostRuntime) {
+    assert_all_told(
+        &rt,
+        rt.alloc(),
+        &[
+            "clear",
+            "set",
+            "set ",
+            "set A1",
+            "set A1 ",
+            "set  5",
+            "Set A1 5",
+            "import A1",
+            "import A1 ",
+            "import  1",
+            "import A1 07",
+            "import A1 -1",
+            "import A1 1 ",
+            "import A1 +1",
+            "gridlet",
+            "gridlet 1",
+            "gridlet 2 ",
+            "gridlet  2",
+        ],
+        "error command",
+    );
+}
+
+#[test]
+fn no_addresses(rt: HostRuntime) {
+    assert_all_told(
+        &rt,
+        rt.alloc(),
+        &[
+            "show A0",
+            "show A10000",
+            "show AAA1",
+            "show a1",
+            "get A01",
+            "why A1:A1",
+            "view A1:",
+            "view :A1",
+            "view A1:B2:C3",
+            "view B2:A0",
+            "clear A1;B2",
+            "set A0 \"a",
+            "set 1 5",
+        ],
+        "error address",
+    );
+}
+
+#[test]
+fn bytes_that_are_no_text(rt: HostRuntime) {
+    assert_eq!(rt; told(rt.alloc(), b"show \xff"), "error utf8");
+    assert_eq!(rt; told(rt.alloc(), b"foo\xff"), "error utf8");
+    assert_eq!(rt; told(rt.alloc(), b";\xff"), "");
+}
+
+#[test]
+fn formulas_and_tokens_that_are_refused(rt: HostRuntime) {
+    assert_told(
+        &rt,
+        rt.alloc(),
+        &[
+            ("set A1 = 1 + A1 ", "set formula"),
+            ("set A1 =SEQUENCE(3,1)", "set formula"),
+            ("set B1 =A1#*2", "set formula"),
+            ("set A1 =", "syntax"),
+            ("set A1 =$A1", "token"),
+            ("set A1 =A0", "token"),
+            ("set A1 =9223372036854775808", "number"),
+            ("set A1 =\"a", "text"),
+            ("set A1 =\"\\q\"", "text"),
+        ],
+    );
+}
+
+#[test]
+fn formulas_that_are_refused(rt: HostRuntime) {
+    assert_told(
+        &rt,
+        rt.alloc(),
+        &[
+            ("set A1 =---------1", "deep"),
+            ("set A1 =1 2", "syntax"),
+            ("set A1 =1+", "syntax"),
+            ("set A1 =1=2=3", "syntax"),
+            ("set A1 =SUM(A1:ZZ9999)", "range"),
+            ("set A1 =B1:A1", "range"),
+            ("set A1 =FOO(1)", "name"),
+            ("set A1 =x", "name"),
+            ("set A1 =LET(x,x,1)", "name"),
+            ("set A1 =G(A1:B1,A1)", "arity"),
+            ("set A1 =ABS(1,2)", "arity"),
+            ("set A1 =SHEET(1+2)", "arity"),
+            ("set A0 =1+", "error address"),
+        ],
+    );
+}
+
+/// What is told of a line with so many of a piece between its beginning and its end.
+fn told_between(
+    alloc: Global,
+    start: &str,
+    piece: &str,
+    count: u32,
+    end: &str,
+) -> Result<&'static str, Fail> {
+    let mut line = start.to_string(alloc)?;
+    push_times(&mut line, piece, count)?;
+    line.push_str(end)?;
+    Ok(told(alloc, line.as_bytes()))
+}
+
+#[test]
+fn long_lines(rt: HostRuntime) -> Result<(), Fail> {
+    for (start, piece, count, end, want) in [
+        ("set A1 ", "a", 4096, "", "set text"),
+        ("set A1 ", "a", 4097, "", "error field"),
+        ("set A1 -", "0", 5000, "7", "set number"),
+        ("set A1 ", "9", 4097, "", "error field"),
+        ("set A1 \"", "\\\\", 4096, "\"", "set text"),
+        ("set A1 \"", "\\\\", 4097, "\"", "error text"),
+        ("set A1 =1", " ", 8191, "", "set formula"),
+        ("set A1 =1", " ", 8192, "", "long"),
+        ("set A1 =", "(", 65, "1", "deep"),
+        (";", "x", 32767, "", ""),
+    ] {
+        let found = told_between(rt.alloc(), start, piece, count, end)?;
+        assert_eq!(rt; found, want, "{start} and {count} {piece}");
+    }
+    Ok(())
+}
+
+/// What is told of a formula in so many parentheses.
+fn told_within(alloc: Global, count: u32) -> Result<&'static str, Fail> {
+    let mut line = "set A1 =".to_string(alloc)?;
+    push_times(&mut line, "(", count)?;
+    line.push('1')?;
+    push_times(&mut line, ")", count)?;
+    Ok(told(alloc, line.as_bytes()))
+}
+
+#[test]
+fn nested_parentheses(rt: HostRuntime) -> Result<(), Fail> {
+    assert_eq!(rt; told_within(rt.alloc(), 64)?, "set formula");
+    assert_eq!(rt; told_within(rt.alloc(), 65)?, "deep");
+    Ok(())
+}
+
+/// How the lines and payloads of a script end.
+fn ends_of(alloc: Global, script: &[u8]) -> Result<Vec<Ended>, NoMemory> {
+    let mut framer = Framer::new(alloc);
+    let mut ends = Vec::new(alloc);
+    for b in script {
+        match framer.push(*b)? {
+            Ended::Nothing => {}
+            ended => ends.push(ended)?,
+        }
+    }
+    match framer.finish()? {
+        Ended::Nothing => {}
+        ended => ends.push(ended)?,
+    }
+    Ok(ends)
+}
+
+#[test]
+fn scripts_are_framed(rt: HostRuntime) -> Result<(), Fail> {
+    let cases: [(&[u8], &[Ended]); 9] = [
+        (b"", &[]),
+        (b"set A1 2\r\nshow A1", &[Ended::Line, Ended::Line]),
+        (
+            b"import A1 6\n1,\"\n\"\nlist\n",
+            &[Ended::Import, Ended::Line],
+        ),
+        (b"import A1 6\n1,\"\n", &[Ended::Truncated]),
+        (b"import A1 0\r\n\n", &[Ended::Import, Ended::Line]),
+        (b"import A1 1", &[Ended::Truncated]),
+        (b"import A1 01\nx", &[Ended::Line, Ended::Line]),
+        (b"import  1\nx", &[Ended::Line, Ended::Line]),
+        (b"import A1 1048577\nx", &[Ended::Line, Ended::Line]),
+    ];
+    for (script, expected) in cases {
+        let ends = ends_of(rt.alloc(), script)?;
+        assert_eq!(rt; ends.as_slice(), expected);
+    }
+    Ok(())
+}
+
+#[test]
+fn a_feed_takes_a_payload(rt: HostRuntime) -> Result<(), Fail> {
+    let mut feed = Feed::new(rt.alloc());
+    assert_eq!(rt; feed.push(b'x'), Ok(Event::More));
+    assert_eq!(rt; feed.push(b'\n'), Ok(Event::Line));
+    assert_eq!(rt; feed.piece(), b"x".as_slice());
+    feed.expect(2)?;
+    assert_eq!(rt; feed.push(b'\n'), Ok(Event::More));
+    assert_eq!(rt; feed.push(b'y'), Ok(Event::Payload));
+    assert_eq!(rt; feed.piece(), b"\ny".as_slice());
+    assert_eq!(rt; feed.finish(), Event::More);
+    Ok(())
+}

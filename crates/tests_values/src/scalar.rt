@@ -1,0 +1,252 @@
+//! Operators on scalars: at each pair of kinds, at the limits of numbers, and on texts.
+use gl_ast::Op;
+use gl_plane::NoMemory;
+use gl_scalar::{arith, compare, join_text, negate};
+use gl_value::{MAX_TEXT, Scalar};
+use std::alloc::Global;
+use std::rc::RcStr;
+use std::test::Fail;
+use tests_common::{scalar, scalar_text, text};
+
+fn operate(alloc: Global, op: Op, x: &Scalar, y: &Scalar) -> Result<Scalar, NoMemory> {
+    match op {
+        Op::Add => Ok(arith(Op::Add, x, y)),
+        Op::Sub => Ok(arith(Op::Sub, x, y)),
+        Op::Mul => Ok(arith(Op::Mul, x, y)),
+        Op::Div => Ok(arith(Op::Div, x, y)),
+        Op::Join => join_text(alloc, x, y),
+        _ => Ok(compare(op, x, y)),
+    }
+}
+
+/// What an operator gives, where operands and result are written as cells show them.
+fn told(alloc: Global, op: Op, x: &str, y: &str) -> Result<String, Fail> {
+    let result = operate(alloc, op, &scalar(alloc, x)?, &scalar(alloc, y)?)?;
+    Ok(scalar_text(alloc, &result)?)
+}
+
+/// The kinds that an operator computes with.
+const PLAIN: [&str; 4] = [".", "7", "\"a\"", "TRUE"];
+
+/// What an operator gives at a first operand and each of these second ones.
+fn beside(alloc: Global, op: Op, x: &str, others: &[&str]) -> Result<String, Fail> {
+    let mut out = String::new(alloc);
+    for y in others {
+        if !out.is_empty() {
+            out.push(' ')?;
+        }
+        out.push_str(told(alloc, op, x, y)?.as_str())?;
+    }
+    Ok(out)
+}
+
+#[test]
+fn arithmetic_at_each_kind(rt: HostRuntime) -> Result<(), Fail> {
+    for (op, x, want) in [
+        (Op::Add, ".", "0 7 #VALUE! #VALUE!"),
+        (Op::Add, "7", "7 14 #VALUE! #VALUE!"),
+        (Op::Sub, ".", "0 -7 #VALUE! #VALUE!"),
+        (Op::Sub, "7", "7 0 #VALUE! #VALUE!"),
+        (Op::Mul, ".", "0 0 #VALUE! #VALUE!"),
+        (Op::Mul, "7", "0 49 #VALUE! #VALUE!"),
+        (Op::Div, ".", "#DIV/0! 0 #VALUE! #VALUE!"),
+        (Op::Div, "7", "#DIV/0! 1 #VALUE! #VALUE!"),
+    ] {
+        assert_eq!(rt;
+            beside(rt.alloc(), op, x, &PLAIN)?.as_str(),
+            want,
+            "{op:?} {x}"
+        );
+    }
+    for op in [Op::Add, Op::Sub, Op::Mul, Op::Div] {
+        for x in ["\"a\"", "TRUE"] {
+            let found = beside(rt.alloc(), op, x, &PLAIN)?;
+            assert_eq!(rt;
+                found.as_str(),
+                "#VALUE! #VALUE! #VALUE! #VALUE!",
+                "{op:?} {x}"
+            );
+        }
+    }
+    Ok(())
+}
+
+fn letter(word: &str) -> &'static str {
+    match word {
+        "TRUE" => "T",
+        "FALSE" => "F",
+        _ => "?",
+    }
+}
+
+/// A letter for each truth value: a word of the four second operands for each first one.
+fn truths(alloc: Global, op: Op) -> Result<String, Fail> {
+    let mut out = String::new(alloc);
+    for x in PLAIN {
+        if !out.is_empty() {
+            out.push(' ')?;
+        }
+        let row = beside(alloc, op, x, &PLAIN)?;
+        for word in row.split(' ') {
+            out.push_str(letter(word))?;
+        }
+    }
+    Ok(out)
+}
+
+#[test]
+fn comparisons_at_each_kind(rt: HostRuntime) -> Result<(), Fail> {
+    for (op, want) in [
+        (Op::Eq, "TFFF FTFF FFTF FFFT"),
+        (Op::Ne, "FTTT TFTT TTFT TTTF"),
+        (Op::Lt, "FTTT FFTT FFFT FFFF"),
+        (Op::Le, "TTTT FTTT FFTT FFFT"),
+        (Op::Gt, "FFFF TFFF TTFF TTTF"),
+        (Op::Ge, "TFFF TTFF TTTF TTTT"),
+    ] {
+        assert_eq!(rt; truths(rt.alloc(), op)?.as_str(), want, "{op:?}");
+    }
+    Ok(())
+}
+
+#[test]
+fn texts_joined_at_each_kind(rt: HostRuntime) -> Result<(), Fail> {
+    for (x, want) in [
+        (".", "\"\" \"7\" \"a\" \"TRUE\""),
+        ("7", "\"7\" \"77\" \"7a\" \"7TRUE\""),
+        ("\"a\"", "\"a\" \"a7\" \"aa\" \"aTRUE\""),
+        ("TRUE", "\"TRUE\" \"TRUE7\" \"TRUEa\" \"TRUETRUE\""),
+    ] {
+        assert_eq!(rt;
+            beside(rt.alloc(), Op::Join, x, &PLAIN)?.as_str(),
+            want,
+            "{x}"
+        );
+    }
+    Ok(())
+}
+
+/// An error or a sheet value beside each kind, and each kind beside these.
+fn faults(alloc: Global, op: Op) -> Result<bool, Fail> {
+    let faulty = ["#N/A", "sheet(A1:A1)"];
+    for x in PLAIN {
+        if beside(alloc, op, x, &faulty)?.as_str() != "#N/A #VALUE!" {
+            return Ok(false);
+        }
+    }
+    let error = beside(alloc, op, "#REF!", &PLAIN)?;
+    let sheet = beside(alloc, op, "sheet(A1:A1)", &PLAIN)?;
+    let errors = beside(alloc, op, "#REF!", &faulty)?;
+    let sheets = beside(alloc, op, "sheet(A1:A1)", &faulty)?;
+    Ok(
+        error.as_str() == "#REF! #REF! #REF! #REF!"
+            && sheet.as_str() == "#VALUE! #VALUE! #VALUE! #VALUE!"
+            && errors.as_str() == "#REF! #REF!"
+            && sheets.as_str() == "#N/A #VALUE!",
+    )
+}
+
+#[test]
+fn faults_at_each_kind(rt: HostRuntime) -> Result<(), Fail> {
+    for op in [
+        Op::Add,
+        Op::Sub,
+        Op::Mul,
+        Op::Div,
+        Op::Eq,
+        Op::Ne,
+        Op::Lt,
+        Op::Le,
+        Op::Gt,
+        Op::Ge,
+        Op::Join,
+    ] {
+        assert!(rt; faults(rt.alloc(), op)?, "{op:?}");
+    }
+    Ok(())
+}
+
+fn negated(alloc: Global, x: &str) -> Result<String, Fail> {
+    Ok(scalar_text(alloc, &negate(&scalar(alloc, x)?))?)
+}
+
+#[test]
+fn the_sign_of_every_kind(rt: HostRuntime) -> Result<(), Fail> {
+    for (x, want) in [
+        (".", "0"),
+        ("7", "-7"),
+        ("\"a\"", "#VALUE!"),
+        ("TRUE", "#VALUE!"),
+        ("#N/A", "#N/A"),
+        ("sheet(A1:A1)", "#VALUE!"),
+        ("-9223372036854775808", "#NUM!"),
+    ] {
+        assert_eq!(rt; negated(rt.alloc(), x)?.as_str(), want, "{x}");
+    }
+    Ok(())
+}
+
+#[test]
+fn numbers_at_their_limits(rt: HostRuntime) -> Result<(), Fail> {
+    for (op, m, n, want) in [
+        (Op::Add, "9223372036854775807", "1", "#NUM!"),
+        (Op::Add, "9223372036854775807", "0", "9223372036854775807"),
+        (Op::Sub, "-9223372036854775808", "1", "#NUM!"),
+        (Op::Mul, "-9223372036854775808", "-1", "#NUM!"),
+        (Op::Mul, "4294967296", "-2147483648", "-9223372036854775808"),
+        (Op::Div, "-9223372036854775808", "-1", "#NUM!"),
+        (Op::Div, "-7", "2", "-3"),
+        (Op::Div, "7", "-2", "-3"),
+        (Op::Div, "1", "0", "#DIV/0!"),
+        (Op::Lt, "-1", "0", "TRUE"),
+    ] {
+        assert_eq!(rt;
+            told(rt.alloc(), op, m, n)?.as_str(),
+            want,
+            "{op:?} {m} {n}"
+        );
+    }
+    Ok(())
+}
+
+#[test]
+fn texts(rt: HostRuntime) -> Result<(), Fail> {
+    for (op, x, y, want) in [
+        (Op::Lt, "\"Z\"", "\"a\"", "TRUE"),
+        (Op::Lt, "\"aa\"", "\"b\"", "TRUE"),
+        (Op::Lt, "\"a\"", "\"aa\"", "TRUE"),
+        (Op::Eq, "\"a\"", "\"A\"", "FALSE"),
+        (Op::Lt, "\"z\"", "\"\u{e9}\"", "TRUE"),
+        (Op::Add, "\"1\"", "\"1\"", "#VALUE!"),
+        (Op::Join, "\"a\"", "\"\u{e9}\"", "\"a\u{e9}\""),
+        (Op::Eq, "1", "\"1\"", "FALSE"),
+        (Op::Eq, "\"\"", ".", "TRUE"),
+        (Op::Join, "\"a1\"", "TRUE", "\"a1TRUE\""),
+    ] {
+        assert_eq!(rt;
+            told(rt.alloc(), op, x, y)?.as_str(),
+            want,
+            "{op:?} {x} {y}"
+        );
+    }
+    Ok(())
+}
+
+/// A text of as many bytes as may be.
+fn longest(alloc: Global) -> Result<Scalar, Fail> {
+    let mut most = String::new(alloc);
+    for _ in 0..MAX_TEXT {
+        most.push('x')?;
+    }
+    Ok(Scalar::Text(RcStr::from_string(most)?))
+}
+
+#[test]
+fn the_longest_text(rt: HostRuntime) -> Result<(), Fail> {
+    let longest = longest(rt.alloc())?;
+    let as_long = join_text(rt.alloc(), &longest, &Scalar::Blank)?;
+    assert!(rt; as_long == longest);
+    let longer = join_text(rt.alloc(), &longest, &text(rt.alloc(), "x")?)?;
+    assert_eq!(rt; scalar_text(rt.alloc(), &longer)?.as_str(), "#SIZE!");
+    Ok(())
+}

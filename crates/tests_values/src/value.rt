@@ -1,0 +1,268 @@
+//! Sheet values and frames: equality, overrides, ranks and weights; elements and texts.
+use crate::values::array;
+use gl_plane::{Addr, Entry, NoMemory, Oracle, Permit, Range, Share};
+use gl_value::{
+    Env, ErrKind, MAX_RANK, MAX_TEXT, Made, Scalar, SheetVal, Shown, Value, sheet, update,
+};
+use std::alloc::Global;
+use std::hash::{DefaultHasher, Hash, Hasher};
+use std::rc::{Rc, RcStr};
+use std::test::Fail;
+use tests_common::{address, number, range, size};
+
+fn hash_of<T: Hash>(x: &T) -> u64 {
+    let mut state = DefaultHasher::new();
+    x.hash(&mut state);
+    state.finish()
+}
+
+fn made(made: Made) -> Result<Rc<SheetVal>, Fail> {
+    match made {
+        Made::Sheet(s) => Ok(s),
+        _ => Err(Fail::new("no sheet value")),
+    }
+}
+
+fn sheet_in(alloc: Global, env: &Env, region: Range) -> Result<Made, Fail> {
+    if env.is_sound() {
+        Ok(sheet(alloc, env, region)?)
+    } else {
+        Err(Fail::new("not sound"))
+    }
+}
+
+fn update_in(alloc: Global, env: &Env, s: &SheetVal, a: Addr, v: Value) -> Result<Made, Fail> {
+    if env.is_sound() && s.is_sound() && v.is_sound() {
+        Ok(update(alloc, env, s, a, v)?)
+    } else {
+        Err(Fail::new("not sound"))
+    }
+}
+
+/// A sheet value of this region, in the sheet itself.
+fn plain(alloc: Global, region: &str) -> Result<Rc<SheetVal>, Fail> {
+    made(sheet_in(alloc, &Env::Top, range(region)?)?)
+}
+
+/// The sheet value with this number at an address.
+fn with(alloc: Global, s: &SheetVal, a: &str, n: i64) -> Result<Rc<SheetVal>, Fail> {
+    made(update_in(alloc, &Env::Top, s, address(a)?, number(n))?)
+}
+
+fn share_sheet(s: &Rc<SheetVal>) -> Result<Rc<SheetVal>, NoMemory> {
+    Ok(s.clone()?)
+}
+
+fn frame(alloc: Global, s: Rc<SheetVal>, oracle: Oracle) -> Result<Env, NoMemory> {
+    Ok(Env::In(s, Rc::new(alloc, oracle)?))
+}
+
+/// A frame of this rank, each level made in the one before.
+fn nest(alloc: Global, rank: u8) -> Result<Env, Fail> {
+    let mut env = Env::Top;
+    for _ in 0..rank {
+        let s = made(sheet_in(alloc, &env, range("A1:B2")?)?)?;
+        env = frame(alloc, s, Oracle::new(alloc))?;
+    }
+    Ok(env)
+}
+
+/// An array of blanks.
+fn blanks(alloc: Global, rows: u16, cols: u16) -> Result<Value, Fail> {
+    let mut items = Vec::new(alloc);
+    for _ in 0..usize::from(rows) * usize::from(cols) {
+        items.push(Scalar::Blank).map_err(NoMemory::from)?;
+    }
+    array(alloc, rows, cols, items)
+}
+
+/// An oracle with one entry.
+fn one_entry(alloc: Global, permit: Permit) -> Result<Oracle, Fail> {
+    let root = address("A1")?;
+    let size = size(1, 2)?;
+    let mut oracle = Oracle::new(alloc);
+    oracle.push(Entry { root, size, permit })?;
+    Ok(oracle)
+}
+
+/// A sheet value with 2x2 cells and a number in B1.
+fn holding(alloc: Global, n: i64) -> Result<Rc<SheetVal>, Fail> {
+    with(alloc, &*plain(alloc, "A1:B2")?, "B1", n)
+}
+
+#[test]
+fn equal_frames_built_apart_are_equal_and_hash_alike(rt: HostRuntime) -> Result<(), Fail> {
+    let alloc = rt.alloc();
+    let a = nest(alloc, MAX_RANK)?;
+    let b = nest(alloc, MAX_RANK)?;
+    assert!(rt; a == b);
+    assert!(rt; hash_of(&a) == hash_of(&b));
+    assert!(rt; a.is_sound());
+    assert_eq!(rt; a.rank(), MAX_RANK);
+    let deep = matches!(sheet_in(alloc, &a, range("A1:B2")?)?, Made::Deep);
+    assert!(rt; deep);
+    assert!(rt; a != nest(alloc, MAX_RANK - 1)?);
+    Ok(())
+}
+
+#[test]
+fn equal_sheets_built_apart_are_equal_and_hash_alike(rt: HostRuntime) -> Result<(), Fail> {
+    let s = holding(rt.alloc(), 1)?;
+    let t = holding(rt.alloc(), 1)?;
+    assert!(rt; s == t);
+    assert!(rt; hash_of(&s) == hash_of(&t));
+    assert!(rt; s != holding(rt.alloc(), 2)?);
+    Ok(())
+}
+
+// The same override, set in a deeper frame: the rank alone differs.
+#[test]
+fn sheets_that_differ_in_their_rank(rt: HostRuntime) -> Result<(), Fail> {
+    let alloc = rt.alloc();
+    let s = holding(alloc, 1)?;
+    let deeper = nest(alloc, 5)?;
+    let t = made(update_in(
+        alloc,
+        &deeper,
+        &*plain(alloc, "A1:B2")?,
+        address("B1")?,
+        number(1),
+    )?)?;
+    assert_eq!(rt; (s.rank, t.rank), (1, 6));
+    assert_eq!(rt; s.weight, t.weight);
+    assert!(rt; s != t);
+    Ok(())
+}
+
+/// A sheet value that is made in a copy whose oracle has one entry.
+fn in_copy(alloc: Global, permit: Permit) -> Result<Rc<SheetVal>, Fail> {
+    let env = frame(alloc, holding(alloc, 1)?, one_entry(alloc, permit)?)?;
+    made(sheet_in(alloc, &env, range("A1:B2")?)?)
+}
+
+#[test]
+fn sheets_that_differ_in_a_permit(rt: HostRuntime) -> Result<(), Fail> {
+    let u = in_copy(rt.alloc(), Permit::Permitted)?;
+    let v = in_copy(rt.alloc(), Permit::Refused)?;
+    assert_eq!(rt; u.weight, 4);
+    assert!(rt; u != v);
+    Ok(())
+}
+
+/// Four numbers put in turn, two of them at one address.
+fn put_in_turn(alloc: Global) -> Result<Rc<SheetVal>, Fail> {
+    let mut s = holding(alloc, 1)?;
+    for (a, n) in [("A2", 3), ("A1", 4), ("A2", 5)] {
+        s = with(alloc, &*s, a, n)?;
+    }
+    Ok(s)
+}
+
+#[test]
+fn overrides_stand_in_row_major_order(rt: HostRuntime) -> Result<(), Fail> {
+    let alloc = rt.alloc();
+    let s = put_in_turn(alloc)?;
+    assert_eq!(rt; (s.overrides.len(), s.weight), (3, 4));
+    assert!(rt; s.is_sound());
+    for (a, n) in [("A1", 4), ("B1", 1), ("A2", 5)] {
+        assert!(rt; s.get_override(address(a)?) == Some(&number(n)), "{a}");
+    }
+    assert!(rt; s.get_override(address("B2")?).is_none());
+    let c1 = update_in(alloc, &Env::Top, &*s, address("C1")?, number(0))?;
+    let outside = matches!(c1, Made::Outside);
+    assert!(rt; outside);
+    Ok(())
+}
+
+// A sheet value counts with its weight, and raises the rank.
+#[test]
+fn sheets_in_sheets(rt: HostRuntime) -> Result<(), Fail> {
+    let alloc = rt.alloc();
+    let s = put_in_turn(alloc)?;
+    let nested = Value::One(Scalar::Sheet(share_sheet(&holding(alloc, 1)?)?));
+    let a = address("B2")?;
+    let t = made(update_in(alloc, &Env::Top, &*s, a, nested.share()?)?)?;
+    assert_eq!(rt; (t.rank, t.weight), (2, 6));
+    assert!(rt; t.is_sound());
+    assert!(rt; t.get_override(a) == Some(&nested));
+    Ok(())
+}
+
+/// A sheet value of seven cells, six of which hold 10,000 blanks each.
+fn six_arrays(alloc: Global) -> Result<Rc<SheetVal>, Fail> {
+    let mut s = plain(alloc, "A1:G1")?;
+    for a in ["A1", "B1", "C1", "D1", "E1", "F1"] {
+        s = made(update_in(alloc, &Env::Top, &*s, address(a)?, blanks(alloc, 100, 100)?)?)?;
+    }
+    Ok(s)
+}
+
+#[test]
+fn seven_large_arrays_are_too_heavy(rt: HostRuntime) -> Result<(), Fail> {
+    let alloc = rt.alloc();
+    let s = six_arrays(alloc)?;
+    assert_eq!(rt; s.weight, 60001);
+    let seventh = update_in(
+        alloc,
+        &Env::Top,
+        &*s,
+        address("G1")?,
+        blanks(alloc, 100, 100)?,
+    )?;
+    let is_heavy = matches!(seventh, Made::Heavy);
+    assert!(rt; is_heavy);
+    Ok(())
+}
+
+#[test]
+fn elements_of_arrays(rt: HostRuntime) -> Result<(), Fail> {
+    match blanks(rt.alloc(), 2, 3)? {
+        Value::One(_) => return Err(Fail::new("no array")),
+        Value::Array(a) => {
+            assert_eq!(rt; (a.size().rows(), a.size().cols()), (2, 3));
+            assert!(rt; a.item(1, 2) == Some(&Scalar::Blank));
+            assert!(rt; a.item(2, 0).is_none());
+            assert!(rt; a.item(0, 3).is_none());
+            assert!(rt; a.is_sound());
+        }
+    }
+    assert!(rt; blanks(rt.alloc(), 2, 3)? != blanks(rt.alloc(), 3, 2)?);
+    Ok(())
+}
+
+/// A text of so many bytes.
+fn long(alloc: Global, bytes: usize) -> Result<Scalar, Fail> {
+    let mut long = String::new(alloc);
+    for _ in 0..bytes {
+        long.push('x')?;
+    }
+    Ok(Scalar::Text(RcStr::from_str(alloc, long.as_str())?))
+}
+
+#[test]
+fn texts_that_are_too_long_are_not_sound(rt: HostRuntime) -> Result<(), Fail> {
+    let fits = long(rt.alloc(), MAX_TEXT)?;
+    let over = long(rt.alloc(), MAX_TEXT + 1)?;
+    assert!(rt; fits.is_sound());
+    assert!(rt; fits.share()? == fits);
+    assert!(rt; !over.is_sound());
+    assert!(rt; !fits.agrees(&over));
+    Ok(())
+}
+
+#[test]
+fn scalars_that_agree(rt: HostRuntime) -> Result<(), Fail> {
+    let empty = Scalar::Text(RcStr::from_str(rt.alloc(), "")?);
+    let zero = Scalar::Int(0);
+    let is_false = Scalar::Bool(false);
+    assert!(rt;
+        Scalar::Blank.agrees(&empty)
+            && zero.agrees(&Scalar::Blank)
+            && is_false.agrees(&Scalar::Blank)
+    );
+    assert!(rt; !zero.agrees(&is_false) && !zero.agrees(&empty));
+    let absent = Scalar::Err(ErrKind::Na);
+    assert!(rt; !absent.agrees(&absent));
+    assert!(rt; Shown::Value(zero) != Shown::Cycle);
+    Ok(())
+}
