@@ -1,16 +1,13 @@
 //! Calculations that follow edits, by the pick rule of a kind, and what is held of them.
 ghost use Rattle.std.specs.Prelude.{◌≤◌};
-ghost use Rattle.gl_language.specs.Content.{IsProperContent};
-ghost use Rattle.gl_cells.specs.Content.{content_tree};
 
-use crate::texts::{answer_text, why_text};
-use gl_ast::Version;
-use gl_calc::Calc;
-use gl_cells::Content;
+use gl_ast::{Version, put_address};
+use gl_calc::{Answer, Calc, SpentKind, Why};
 use gl_demand::{Silent, Steps};
+use gl_grant::Obstacle;
 use gl_order::{Order, by_kind};
+use gl_plane::Addr;
 use gl_script::{Request, command};
-use gl_value::Scalar;
 use gl_views::{oracle_text, shown_text};
 use std::alloc::Global;
 use std::test::Fail;
@@ -24,14 +21,6 @@ pub struct Sheet {
     pub oracle: &'static str,
     pub shows: &'static [(&'static str, &'static str)],
     pub whys: &'static [(&'static str, &'static str)],
-}
-
-/// A number as a content.
-#[tactic(auto, using(gl_value::specs::Forms::trees))]
-pub fn number(n: i64) -> Content
-    ensures { IsProperContent (content_tree result) }
-{
-    Content::Const(Scalar::Int(n))
 }
 
 /// Sets a content, or clears a range.
@@ -59,6 +48,48 @@ pub fn calc_of(alloc: Global, lines: &[&str]) -> Result<Calc, Fail> {
         edit(alloc, &mut calc, line)?;
     }
     Ok(calc)
+}
+
+/// Words, and an address behind them.
+fn words_at(alloc: Global, words: &str, a: Addr) -> Result<String, Fail> {
+    let mut out = String::new(alloc);
+    out.push_str(words)?;
+    put_address(alloc, &mut out, a)?;
+    Ok(out)
+}
+
+/// The rounds of a calculation, or its spent budget.
+fn answer_text(alloc: Global, answer: Answer) -> Result<String, Fail> {
+    match answer {
+        Answer::Settled { rounds } => Ok(format!(in alloc; "settled {rounds}")?),
+        Answer::Spent(spent) => spent_text(alloc, spent),
+    }
+}
+
+fn spent_text(alloc: Global, spent: SpentKind) -> Result<String, Fail> {
+    match spent {
+        SpentKind::Rounds(a) => words_at(alloc, "spent rounds ", a),
+        SpentKind::CopyRounds(a) => words_at(alloc, "spent copyrounds ", a),
+        SpentKind::Depth(a) => words_at(alloc, "spent depth ", a),
+        SpentKind::Work => Ok("spent work".to_string(alloc)?),
+    }
+}
+
+/// Why a root has its permit.
+fn why_text(alloc: Global, why: Why) -> Result<String, Fail> {
+    match why {
+        Why::NoEntry => Ok("none".to_string(alloc)?),
+        Why::Permitted => Ok("permitted".to_string(alloc)?),
+        Why::Blocked(obstacle) => obstacle_text(alloc, obstacle),
+    }
+}
+
+fn obstacle_text(alloc: Global, obstacle: Obstacle) -> Result<String, Fail> {
+    match obstacle {
+        Obstacle::Edge => Ok("edge".to_string(alloc)?),
+        Obstacle::Content(a) => words_at(alloc, "content ", a),
+        Obstacle::Root(a) => words_at(alloc, "root ", a),
+    }
 }
 
 /// How the calculation ends, as a text.

@@ -7,7 +7,7 @@ use gl_calc::Calc;
 use std::alloc::Global;
 use std::test::Fail;
 
-// a content in the way of an array, and no longer
+/// A content in the way of an array, and no longer
 const A_CONTENT_IN_THE_WAY: [Sheet; 3] = [
     Sheet {
         lines: &["set A1 =SEQUENCE(3,1)", "set B1 =A1#*2"],
@@ -77,7 +77,7 @@ const THE_EDGE_IN_THE_WAY: [Sheet; 4] = [
     },
 ];
 
-// an array in a copy, and one that has no room there
+/// An array in a copy, and one that has no room there
 const ARRAYS_IN_A_COPY: [Sheet; 2] = [
     Sheet {
         lines: &[

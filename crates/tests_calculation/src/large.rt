@@ -1,13 +1,14 @@
-//! Sheets of many copies and of large arrays, and a sheet that is full.
-ghost use Rattle.std.specs.Prelude.{IfOk};
+//! Sheets of many copies and of large arrays, a table, and a sheet that is full.
+ghost use Rattle.std.specs.Prelude.{◌≤◌, IfOk};
 ghost use Rattle.gl_language.specs.Content.{IsProperContent};
 ghost use Rattle.gl_cells.specs.Content.{content_tree};
 
-use crate::calculations::{Sheet, calc_of, holds, number, refreshed, shows};
+use crate::calculations::{Sheet, calc_of, edit, goes_on, holds, refreshed, shows};
 use gl_ast::Version;
 use gl_calc::Calc;
 use gl_cells::Content;
 use gl_plane::{Addr, Share};
+use std::alloc::Global;
 use std::test::Fail;
 use tests_common::address;
 
@@ -110,24 +111,75 @@ fn work_is_spent(rt: HostRuntime) -> Result<(), Fail> {
     Ok(())
 }
 
-/// The content of B1.
-fn copy_of_b1(calc: &Calc) -> Result<Content, Fail>
+/// What is computed of the table, and a what-if by a gridlet.
+const OVER_THE_TABLE: Sheet = Sheet {
+    lines: &[
+        "set D1 =A1:A500*B1:B500",
+        "set F1 =SUM(D1#)",
+        "set H1 100",
+        "set I1 20",
+        "set J1 =H1-H1*I1/100",
+        "set L1 =G(H1:J1,I1,25)",
+    ],
+    ends: "settled 2",
+    oracle: "oracle 2\nD1 500x1 permitted\nL1 1x3 permitted\n",
+    shows: &[
+        ("F1", "375750"),
+        ("J1", "80"),
+        ("L1", "100"),
+        ("M1", "25"),
+        ("N1", "75"),
+        ("D500", "1500"),
+    ],
+    whys: &[("D1", "permitted")],
+};
+
+/// The row and 3 in the first two columns of a row.
+fn put_row(alloc: Global, calc: &mut Calc, row: u16) -> Result<(), Fail> {
+    edit(alloc, calc, format!(in alloc; "set A{row} {row}")?.as_str())?;
+    edit(alloc, calc, format!(in alloc; "set B{row} 3")?.as_str())
+}
+
+/// Numbers in two columns of 500 rows.
+fn table(alloc: Global) -> Result<Calc, Fail> {
+    let mut calc = Calc::new(alloc);
+    for row in 1..501u16 {
+        put_row(alloc, &mut calc, row)?;
+    }
+    Ok(calc)
+}
+
+/// What is computed of the table is as it must be, by the pick rule of this kind.
+fn table_holds(alloc: Global, kind: u8) -> Result<bool, Fail>
+    requires { kind ≤ 2 }
+{
+    let mut calc = table(alloc)?;
+    goes_on(alloc, &mut calc, &OVER_THE_TABLE, kind, Version::One)
+}
+
+#[test]
+fn a_table_of_five_hundred_rows(rt: HostRuntime) -> Result<(), Fail> {
+    for kind in 0u8..3 {
+        assert!(rt; table_holds(rt.alloc(), kind)?, "kind {kind}");
+    }
+    Ok(())
+}
+
+/// The content of an address.
+fn copy_of(calc: &Calc, a: &str) -> Result<Content, Fail>
     ensures { IfOk result (λ c. IsProperContent (content_tree c)) }
 {
-    match calc.cells().content(address("B1")?) {
+    match calc.cells().content(address(a)?) {
         Some(content) => Ok(content.share()?),
         None => Err("no content".into()),
     }
 }
 
-/// The formula of B1 in the second and third columns, and 7 elsewhere.
+/// The formula of B1 in the second and third columns, and the number of A1 elsewhere.
 fn fill(calc: &mut Calc, col: u16, row: u16) -> Result<(), Fail> {
     let a = Addr::new(col, row).ok_or("off the grid")?;
-    let content = if col == 2 || col == 3 {
-        copy_of_b1(calc)?
-    } else {
-        number(7)
-    };
+    let model = if col == 2 || col == 3 { "B1" } else { "A1" };
+    let content = copy_of(calc, model)?;
     calc.put(a, content)?;
     Ok(())
 }
@@ -135,7 +187,7 @@ fn fill(calc: &mut Calc, col: u16, row: u16) -> Result<(), Fail> {
 #[test]
 fn a_full_sheet_settles(rt: HostRuntime) -> Result<(), Fail> {
     let alloc = rt.alloc();
-    let mut calc = calc_of(alloc, &["set B1 =A1+1"])?;
+    let mut calc = calc_of(alloc, &["set A1 7", "set B1 =A1+1"])?;
     for row in 1..8193u16 {
         for col in 1..9u16 {
             fill(&mut calc, col, row)?;

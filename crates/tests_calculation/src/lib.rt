@@ -11,9 +11,3 @@ mod histories;
 mod large;
 #[cfg(test)]
 mod sheets;
-#[cfg(test)]
-mod tables;
-#[cfg(test)]
-mod texts;
-#[cfg(test)]
-mod versions;

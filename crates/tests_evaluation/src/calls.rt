@@ -1,6 +1,5 @@
 //! Functions on scalars: the extents of what they come to, and its elements.
-use crate::settings::Setting;
-use crate::turns::last_turn;
+use crate::turns::{Setting, last_turn};
 use gl_ast::Version;
 use gl_demand::{Found, Outcome};
 use gl_plane::Oracle;

@@ -1,7 +1,6 @@
 //! What cells come to, many of them through copies.
-use crate::settings::{Setting, cell};
 use crate::texts::found_text;
-use crate::turns::{first_turn, last_turn};
+use crate::turns::{Setting, cell, first_turn, last_turn};
 use gl_ast::Version;
 use gl_plane::Oracle;
 use std::alloc::Global;

@@ -3,9 +3,8 @@ ghost use Rattle.std.specs.Prelude.{IfSome, IsTrue};
 ghost use Rattle.gl_calculus.specs.Sound.{is_sound_value};
 ghost use Rattle.gl_value.specs.View.{value_tree};
 
-use crate::settings::{Setting, cell};
 use crate::table::Table;
-use crate::turns::{first_turn, turn};
+use crate::turns::{Setting, cell, first_turn, turn};
 use gl_ast::Version;
 use gl_demand::{Found, Key, Outcome, Steps, Watch, shown, spilled};
 use gl_plane::{Oracle, Permit, Share};

@@ -2,7 +2,7 @@
 ghost use Rattle.std.specs.Prelude.{◌≤◌, ◌<◌};
 
 use crate::runs::{Sight, fresh, run, seen_as};
-use crate::settings::{Setting, cell};
+use crate::turns::{Setting, cell};
 use gl_ast::{Version, put, put_number};
 use gl_cells::Cells;
 use gl_core::MAX_DEMANDED;

@@ -18,8 +18,6 @@ mod references;
 #[cfg(test)]
 mod runs;
 #[cfg(test)]
-mod settings;
-#[cfg(test)]
 mod sheets;
 #[cfg(test)]
 mod table;

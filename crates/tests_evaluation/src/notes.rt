@@ -9,7 +9,7 @@ ghost use Rattle.gl_memo.specs.Notes.{notes_of};
 ghost use Rattle.gl_core.specs.State.{note_trees, HaveSoundParts, IsFor};
 
 use crate::runs::{Sight, fresh, run, seen_as, started};
-use crate::settings::{Setting, cell, cells_at};
+use crate::turns::{Setting, cell, cells_at};
 use gl_ast::Version;
 use gl_core::{Core, copy_notes};
 use gl_demand::{Key, Outcome, Silent, Steps};

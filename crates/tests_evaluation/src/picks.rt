@@ -5,7 +5,7 @@ ghost use Rattle.gl_cells.specs.Sheet.{sheet};
 ghost use Rattle.gl_core.specs.State.{IsFor};
 
 use crate::runs::fresh;
-use crate::settings::Setting;
+use crate::turns::Setting;
 use gl_ast::Version;
 use gl_core::{Core, Picked};
 use gl_demand::{Silent, Steps};

@@ -1,7 +1,6 @@
 //! What references look at, read and come to.
-use crate::settings::{Setting, one_entry};
 use crate::texts::{found_text, keys_text, ranges_text};
-use crate::turns::last_turn;
+use crate::turns::{Setting, last_turn, one_entry};
 use gl_ast::Version;
 use gl_plane::{Oracle, Permit};
 use std::alloc::Global;

@@ -14,7 +14,7 @@ ghost use Rattle.gl_demand.specs.View.{key_tree};
 ghost use Rattle.gl_demand.specs.Sound.{AreSoundKeys};
 ghost use Rattle.gl_core.specs.State.{state_of, seeds_of, note_trees, HaveSoundParts, IsFor};
 
-use crate::settings::{Setting, cells_at};
+use crate::turns::{Setting, cells_at};
 use gl_cells::Cells;
 use gl_core::{Core, CoreFault, MAX_DEMANDED, Quiet, Seen};
 use gl_demand::{Budget, Key, Outcome, Silent, Steps, proper};

@@ -2,7 +2,7 @@
 ghost use Rattle.std.specs.Prelude.{◌≤◌};
 
 use crate::runs::{Sight, fresh, run, seen_as};
-use crate::settings::{Setting, cell};
+use crate::turns::{Setting, cell};
 use gl_ast::Version;
 use gl_demand::{Silent, Steps};
 use gl_plane::Oracle;

@@ -1,5 +1,5 @@
 //! Operators and functions, in both versions.
-use crate::rows::{Row, holds};
+use crate::calls::{Row, holds};
 use std::test::Fail;
 
 /// Operators and functions.

@@ -12,14 +12,8 @@ mod long;
 #[cfg(test)]
 mod refusals;
 #[cfg(test)]
-mod rows;
-#[cfg(test)]
-mod rules;
-#[cfg(test)]
 mod scripts;
 #[cfg(test)]
 mod sheets;
-#[cfg(test)]
-mod spending;
 #[cfg(test)]
 mod words;

@@ -1,5 +1,5 @@
 //! Scripts of long lines and of many lines, made from their parts.
-use crate::rows::{Row, holds};
+use crate::calls::{Row, holds};
 use gl_ast::{put, put_number};
 use gl_plane::NoMemory;
 use std::alloc::Global;
@@ -206,7 +206,7 @@ fn joined(alloc: Global, parts: &[Part]) -> Result<Vec<u8>, NoMemory> {
 }
 
 /// The script has these replies by each pick rule.
-fn is_answered(alloc: Global, long: Long) -> Result<bool, Fail> {
+fn long_holds(alloc: Global, long: Long) -> Result<bool, Fail> {
     let script = joined(alloc, long.script)?;
     let replies = joined(alloc, long.replies)?;
     holds(
@@ -222,7 +222,7 @@ fn is_answered(alloc: Global, long: Long) -> Result<bool, Fail> {
 #[test]
 fn lines(rt: HostRuntime) -> Result<(), Fail> {
     for (i, long) in LINES.iter().enumerate() {
-        assert!(rt; is_answered(rt.alloc(), *long)?, "{i}");
+        assert!(rt; long_holds(rt.alloc(), *long)?, "{i}");
     }
     Ok(())
 }
@@ -230,7 +230,7 @@ fn lines(rt: HostRuntime) -> Result<(), Fail> {
 #[test]
 fn texts_and_sheets(rt: HostRuntime) -> Result<(), Fail> {
     for (i, long) in TEXTS_AND_SHEETS.iter().enumerate() {
-        assert!(rt; is_answered(rt.alloc(), *long)?, "{i}");
+        assert!(rt; long_holds(rt.alloc(), *long)?, "{i}");
     }
     Ok(())
 }

@@ -1,5 +1,5 @@
 //! Commands that are refused, and hostile lines.
-use crate::rows::{Row, holds};
+use crate::calls::{Row, holds};
 use std::test::Fail;
 
 /// Refused commands.
