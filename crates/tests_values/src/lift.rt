@@ -76,12 +76,10 @@ fn summed(alloc: Global, u: &str, v: &str) -> Result<String, Fail> {
 
 #[test]
 fn sums_of_sequences(rt: HostRuntime) -> Result<(), Fail> {
-    for (u, v, want) in [
-        ("{1 / 2}", "{1 2 3}", "{2 3 4 / 3 4 5}"),
-        ("{1 / 2}", "{1 / 2 / 3}", "{2 / 4 / #N/A}"),
-    ] {
-        assert_eq!(rt; summed(rt.alloc(), u, v)?.as_str(), want, "{u} {v}");
-    }
+    let table = summed(rt.alloc(), "{1 / 2}", "{1 2 3}")?;
+    assert_eq!(rt; table.as_str(), "{2 3 4 / 3 4 5}");
+    let column = summed(rt.alloc(), "{1 / 2}", "{1 / 2 / 3}")?;
+    assert_eq!(rt; column.as_str(), "{2 / 4 / #N/A}");
     Ok(())
 }
 

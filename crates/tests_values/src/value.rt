@@ -214,19 +214,25 @@ fn seven_large_arrays_are_too_heavy(rt: HostRuntime) -> Result<(), Fail> {
     Ok(())
 }
 
-#[test]
-fn elements_of_arrays(rt: HostRuntime) -> Result<(), Fail> {
-    match blanks(rt.alloc(), 2, 3)? {
-        Value::One(_) => return Err(Fail::new("no array")),
+/// An array of two rows of three blanks.
+fn is_two_by_three(v: &Value) -> bool {
+    match v {
+        Value::One(_) => false,
         Value::Array(a) => {
-            assert_eq!(rt; (a.size().rows(), a.size().cols()), (2, 3));
-            assert!(rt; a.item(1, 2) == Some(&Scalar::Blank));
-            assert!(rt; a.item(2, 0).is_none());
-            assert!(rt; a.item(0, 3).is_none());
-            assert!(rt; a.is_sound());
+            (a.size().rows(), a.size().cols()) == (2, 3)
+                && a.item(1, 2) == Some(&Scalar::Blank)
+                && a.item(2, 0).is_none()
+                && a.item(0, 3).is_none()
+                && a.is_sound()
         }
     }
-    assert!(rt; blanks(rt.alloc(), 2, 3)? != blanks(rt.alloc(), 3, 2)?);
+}
+
+#[test]
+fn elements_of_arrays(rt: HostRuntime) -> Result<(), Fail> {
+    let v = blanks(rt.alloc(), 2, 3)?;
+    assert!(rt; is_two_by_three(&v));
+    assert!(rt; v != blanks(rt.alloc(), 3, 2)?);
     Ok(())
 }
 
