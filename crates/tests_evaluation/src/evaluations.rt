@@ -6,9 +6,10 @@ ghost use Rattle.gl_value.specs.View.{value_tree};
 use crate::table::Table;
 use crate::turns::{Setting, cell, first_turn, turn};
 use gl_ast::Version;
-use gl_demand::{Found, Key, Outcome, Steps, Watch, shown, spilled};
+use gl_demand::{Found, Key, Outcome, Steps, Turn, Watch, shown, spilled};
 use gl_plane::{Oracle, Permit, Share};
 use gl_value::Value;
+use std::alloc::Global;
 use std::test::Fail;
 use tests_common::{scalar_text, sheet_of};
 
@@ -30,9 +31,9 @@ impl Watch for Sights {
     }
 }
 
-#[test]
-fn each_evaluation_is_seen_once(rt: HostRuntime) -> Result<(), Fail> {
-    let alloc = rt.alloc();
+/// Evaluates these cells in turn over two formulas: how many evaluations were made, how many of A1 were
+/// seen, and how many of others.
+fn seen_of(alloc: Global, names: &[&str]) -> Result<(u64, u64, u64), Fail> {
     let cells = sheet_of(alloc, &["set A1 =1+B1", "set B1 =2"])?;
     let w = Oracle::new(alloc);
     let at = Setting {
@@ -41,18 +42,29 @@ fn each_evaluation_is_seen_once(rt: HostRuntime) -> Result<(), Fail> {
         w: &w,
         version: Version::One,
     };
-    let sights = Sights {
+    let mut steps = Steps::new(Sights {
         wanted: cell("A1")?,
         wanted_seen: 0,
         others_seen: 0,
-    };
-    let mut steps = Steps::new(sights);
+    });
     let table = Table::new(alloc);
-    for (name, done, wanted, others) in [("A1", 1, 1, 0), ("B1", 2, 1, 1), ("A1", 3, 2, 1)] {
+    for name in names {
         turn(at, &cell(name)?, &table, &mut steps)?;
-        let seen = steps.watch();
-        assert_eq!(rt; steps.done(), done);
-        assert_eq!(rt; (seen.wanted_seen, seen.others_seen), (wanted, others));
+    }
+    let seen = steps.watch();
+    Ok((steps.done(), seen.wanted_seen, seen.others_seen))
+}
+
+#[test]
+fn each_evaluation_is_seen_once(rt: HostRuntime) -> Result<(), Fail> {
+    let rows: [(&[&str], (u64, u64, u64)); 4] = [
+        (&[], (0, 0, 0)),
+        (&["A1"], (1, 1, 0)),
+        (&["A1", "B1"], (2, 1, 1)),
+        (&["A1", "B1", "A1"], (3, 2, 1)),
+    ];
+    for (names, want) in rows {
+        assert_eq!(rt; seen_of(rt.alloc(), names)?, want, "{names:?}");
     }
     Ok(())
 }
@@ -67,9 +79,8 @@ fn value_in(found: &Found) -> Option<&Value>
     }
 }
 
-#[test]
-fn shown_scalars(rt: HostRuntime) -> Result<(), Fail> {
-    let alloc = rt.alloc();
+/// What an evaluation of an array with two rows and three columns finds.
+fn array(alloc: Global) -> Result<Found, Fail> {
     let cells = sheet_of(alloc, &["set A1 =SEQUENCE(2,3)"])?;
     let w = Oracle::new(alloc);
     let at = Setting {
@@ -78,20 +89,40 @@ fn shown_scalars(rt: HostRuntime) -> Result<(), Fail> {
         w: &w,
         version: Version::One,
     };
-    let turn = first_turn(at, &cell("A1")?.share()?)?;
-    let v = value_in(&turn.found).ok_or("no value")?;
+    let Turn { found, .. } = first_turn(at, &cell("A1")?.share()?)?;
+    Ok(found)
+}
+
+/// At its address the array shows this under this permit.
+fn shows(alloc: Global, permit: Option<Permit>, text: &str) -> Result<bool, Fail> {
+    let found = array(alloc)?;
+    let v = value_in(&found).ok_or("no value")?;
+    Ok(scalar_text(alloc, &shown(permit, v)?)?.as_str() == text)
+}
+
+/// So many rows and columns away the array shows this.
+fn spills(alloc: Global, rows: u16, cols: u16, text: &str) -> Result<bool, Fail> {
+    let found = array(alloc)?;
+    let v = value_in(&found).ok_or("no value")?;
+    Ok(scalar_text(alloc, &spilled(v, rows, cols)?)?.as_str() == text)
+}
+
+#[test]
+fn an_array_at_its_address(rt: HostRuntime) -> Result<(), Fail> {
     for (permit, text) in [
         (None, "1"),
         (Some(Permit::Permitted), "1"),
         (Some(Permit::Refused), "#SPILL!"),
     ] {
-        assert_eq!(rt; scalar_text(alloc, &shown(permit, v)?)?.as_str(), text);
+        assert!(rt; shows(rt.alloc(), permit, text)?, "{permit:?}");
     }
+    Ok(())
+}
+
+#[test]
+fn an_array_where_it_spills(rt: HostRuntime) -> Result<(), Fail> {
     for (rows, cols, text) in [(1, 2, "6"), (2, 0, ".")] {
-        assert_eq!(rt;
-            scalar_text(alloc, &spilled(v, rows, cols)?)?.as_str(),
-            text
-        );
+        assert!(rt; spills(rt.alloc(), rows, cols, text)?, "{rows} {cols}");
     }
     Ok(())
 }

@@ -4,50 +4,28 @@ use crate::turns::{Setting, last_turn, one_entry};
 use gl_ast::Version;
 use gl_plane::{Oracle, Permit};
 use std::alloc::Global;
-use std::process::Abort;
 use std::test::Fail;
 use tests_common::{put_line, sheet_of};
 
+/// An array of four elements, a number that is computed, and one that is not.
 const REFERENCES: [&str; 3] = ["set A1 =SEQUENCE(2,2)", "set D1 =7", "set A5 3"];
 
-/// Formulas in Z1 under an oracle: what they look at and read, and what they come to.
-fn assert_references(
-    rt: &impl Abort,
-    alloc: Global,
-    w: &Oracle,
-    rows: &[(&str, &str, &str, &str)],
-) -> Result<(), Fail> {
-    for (line, looked, reads, want) in rows {
-        let mut cells = sheet_of(alloc, &REFERENCES)?;
-        put_line(alloc, &mut cells, line)?;
-        let at = Setting {
-            alloc,
-            cells: &cells,
-            w,
-            version: Version::One,
-        };
-        let Some(turn) = last_turn(at, "Z1")? else {
-            return Err("a cycle".into());
-        };
-        assert_eq!(rt;
-            ranges_text(alloc, &turn.looked)?.as_str(),
-            *looked,
-            "{line}"
-        );
-        assert_eq!(rt; keys_text(alloc, &turn.reads)?.as_str(), *reads, "{line}");
-        assert_eq!(rt; found_text(alloc, &turn.found)?.as_str(), *want, "{line}");
-    }
-    Ok(())
+/// The root, the rows, the columns and the permit of an entry.
+type Entry = (&'static str, u16, u16, Permit);
+
+/// A formula in Z1, what it looks at and reads, and what it comes to.
+type Row = (&'static str, &'static str, &'static str, &'static str);
+
+/// Formulas under an oracle of at most one entry.
+struct Under {
+    entry: Option<Entry>,
+    rows: &'static [Row],
 }
 
-#[test]
-fn references_without_entries(rt: HostRuntime) -> Result<(), Fail> {
-    let w = Oracle::new(rt.alloc());
-    assert_references(
-        &rt,
-        rt.alloc(),
-        &w,
-        &[
+const UNDER: [Under; 4] = [
+    Under {
+        entry: None,
+        rows: &[
             ("set Z1 =A5", "Z1:Z1, A5:A5", "", "3"),
             ("set Z1 =D1", "Z1:Z1, D1:D1", "D1", "7"),
             ("set Z1 =A1", "Z1:Z1, A1:A1", "A1", "1"),
@@ -55,17 +33,10 @@ fn references_without_entries(rt: HostRuntime) -> Result<(), Fail> {
             ("set Z1 =A1#", "Z1:Z1, A1:A1", "", "#REF!"),
             ("set Z1 =A1:B2", "Z1:Z1, A1:B2", "A1", "1 . / . ."),
         ],
-    )
-}
-
-#[test]
-fn references_to_a_permitted_root(rt: HostRuntime) -> Result<(), Fail> {
-    let w = one_entry(rt.alloc(), "A1", 3, 2, Permit::Permitted)?;
-    assert_references(
-        &rt,
-        rt.alloc(),
-        &w,
-        &[
+    },
+    Under {
+        entry: Some(("A1", 3, 2, Permit::Permitted)),
+        rows: &[
             ("set Z1 =A1", "Z1:Z1, A1:A1", "A1", "1"),
             ("set Z1 =B2", "Z1:Z1, B2:B2, A1:A1", "A1", "4"),
             ("set Z1 =B3", "Z1:Z1, B3:B3, A1:A1", "A1", "."),
@@ -79,36 +50,66 @@ fn references_to_a_permitted_root(rt: HostRuntime) -> Result<(), Fail> {
                 "2 . 7 / 4 . .",
             ),
         ],
-    )
-}
-
-#[test]
-fn references_to_a_refused_root(rt: HostRuntime) -> Result<(), Fail> {
-    let w = one_entry(rt.alloc(), "A1", 2, 2, Permit::Refused)?;
-    assert_references(
-        &rt,
-        rt.alloc(),
-        &w,
-        &[
+    },
+    Under {
+        entry: Some(("A1", 2, 2, Permit::Refused)),
+        rows: &[
             ("set Z1 =A1", "Z1:Z1, A1:A1", "A1", "#SPILL!"),
             ("set Z1 =B2", "Z1:Z1, B2:B2", "", "."),
             ("set Z1 =A1#", "Z1:Z1, A1:A1", "", "#SPILL!"),
             ("set Z1 =A1:B1", "Z1:Z1, A1:B1", "A1", "#SPILL! ."),
         ],
-    )
-}
-
-#[test]
-fn references_to_a_root_without_array(rt: HostRuntime) -> Result<(), Fail> {
-    let w = one_entry(rt.alloc(), "D1", 1, 2, Permit::Permitted)?;
-    assert_references(
-        &rt,
-        rt.alloc(),
-        &w,
-        &[
+    },
+    Under {
+        entry: Some(("D1", 1, 2, Permit::Permitted)),
+        rows: &[
             ("set Z1 =E1", "Z1:Z1, E1:E1, D1:D1", "D1", "."),
             ("set Z1 =D1#", "Z1:Z1, D1:D1", "D1", "#REF!"),
             ("set Z1 =D1:E1", "Z1:Z1, D1:E1, D1:D1", "D1", "7 ."),
         ],
+    },
+];
+
+fn oracle_of(alloc: Global, entry: Option<Entry>) -> Result<Oracle, Fail> {
+    match entry {
+        Some((root, rows, cols, permit)) => one_entry(alloc, root, rows, cols, permit),
+        None => Ok(Oracle::new(alloc)),
+    }
+}
+
+/// Under this entry the formula of the row is as it says.
+fn refers(alloc: Global, entry: Option<Entry>, row: &Row) -> Result<bool, Fail> {
+    let (line, looked, reads, want) = *row;
+    let mut cells = sheet_of(alloc, &REFERENCES)?;
+    put_line(alloc, &mut cells, line)?;
+    let w = oracle_of(alloc, entry)?;
+    let at = Setting {
+        alloc,
+        cells: &cells,
+        w: &w,
+        version: Version::One,
+    };
+    let Some(turn) = last_turn(at, "Z1")? else {
+        return Err("a cycle".into());
+    };
+    Ok(
+        ranges_text(alloc, &turn.looked)?.as_str() == looked
+            && keys_text(alloc, &turn.reads)?.as_str() == reads
+            && found_text(alloc, &turn.found)?.as_str() == want,
     )
+}
+
+#[test]
+fn references(rt: HostRuntime) -> Result<(), Fail> {
+    for under in &UNDER {
+        for row in under.rows {
+            assert!(rt;
+                refers(rt.alloc(), under.entry, row)?,
+                "{} under {:?}",
+                row.0,
+                under.entry
+            );
+        }
+    }
+    Ok(())
 }
