@@ -104,7 +104,7 @@ pub struct Row<'a> {
 }
 
 /// The script has these replies by each pick rule.
-pub fn holds(alloc: Global, row: Row<'_>) -> Result<bool, Fail> {
+pub fn holds(alloc: Global, row: &Row<'_>) -> Result<bool, Fail> {
     for kind in ["first", "last", "turn"] {
         let call = Call {
             words: &["--order", kind],

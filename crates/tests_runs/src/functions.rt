@@ -167,7 +167,7 @@ const MORE_FUNCTIONS: [Row<'static>; 16] = [
 
 #[test]
 fn functions(rt: HostRuntime) -> Result<(), Fail> {
-    for row in FUNCTIONS {
+    for row in &FUNCTIONS {
         assert!(rt; holds(rt.alloc(), row)?, "{:?}", row.script);
     }
     Ok(())
@@ -175,7 +175,7 @@ fn functions(rt: HostRuntime) -> Result<(), Fail> {
 
 #[test]
 fn more_functions(rt: HostRuntime) -> Result<(), Fail> {
-    for row in MORE_FUNCTIONS {
+    for row in &MORE_FUNCTIONS {
         assert!(rt; holds(rt.alloc(), row)?, "{:?}", row.script);
     }
     Ok(())

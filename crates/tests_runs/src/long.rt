@@ -14,7 +14,6 @@ enum Part {
 }
 
 /// The parts of a script and of its replies.
-#[derive(Clone, Copy)]
 struct Long {
     script: &'static [Part],
     replies: &'static [Part],
@@ -206,12 +205,12 @@ fn joined(alloc: Global, parts: &[Part]) -> Result<Vec<u8>, NoMemory> {
 }
 
 /// The script has these replies by each pick rule.
-fn long_holds(alloc: Global, long: Long) -> Result<bool, Fail> {
+fn long_holds(alloc: Global, long: &Long) -> Result<bool, Fail> {
     let script = joined(alloc, long.script)?;
     let replies = joined(alloc, long.replies)?;
     holds(
         alloc,
-        Row {
+        &Row {
             script: &script,
             replies: &replies,
             refused: long.refused,
@@ -222,7 +221,7 @@ fn long_holds(alloc: Global, long: Long) -> Result<bool, Fail> {
 #[test]
 fn lines(rt: HostRuntime) -> Result<(), Fail> {
     for (i, long) in LINES.iter().enumerate() {
-        assert!(rt; long_holds(rt.alloc(), *long)?, "{i}");
+        assert!(rt; long_holds(rt.alloc(), long)?, "{i}");
     }
     Ok(())
 }
@@ -230,7 +229,7 @@ fn lines(rt: HostRuntime) -> Result<(), Fail> {
 #[test]
 fn texts_and_sheets(rt: HostRuntime) -> Result<(), Fail> {
     for (i, long) in TEXTS_AND_SHEETS.iter().enumerate() {
-        assert!(rt; long_holds(rt.alloc(), *long)?, "{i}");
+        assert!(rt; long_holds(rt.alloc(), long)?, "{i}");
     }
     Ok(())
 }

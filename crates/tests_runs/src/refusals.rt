@@ -147,7 +147,7 @@ const HOSTILE: [Row<'static>; 10] = [
 
 #[test]
 fn refused_commands(rt: HostRuntime) -> Result<(), Fail> {
-    for row in REFUSED {
+    for row in &REFUSED {
         assert!(rt; holds(rt.alloc(), row)?, "{:?}", row.script);
     }
     Ok(())
@@ -155,7 +155,7 @@ fn refused_commands(rt: HostRuntime) -> Result<(), Fail> {
 
 #[test]
 fn hostile_lines(rt: HostRuntime) -> Result<(), Fail> {
-    for row in HOSTILE {
+    for row in &HOSTILE {
         assert!(rt; holds(rt.alloc(), row)?, "{:?}", row.script);
     }
     Ok(())

@@ -69,9 +69,9 @@ const ROWS: [(&[u8], &[u8], Status); 14] = [
 
 #[test]
 fn scripts_are_answered(rt: HostRuntime) -> Result<(), Fail> {
-    for (script, replies, status) in ROWS {
+    for (script, replies, status) in &ROWS {
         assert!(rt;
-            is_answered(rt.alloc(), script, &cut_at(4096), replies, status)?,
+            is_answered(rt.alloc(), script, &cut_at(4096), replies, *status)?,
             "{script:?}"
         );
     }

@@ -172,7 +172,7 @@ const COPIES: [Row<'static>; 16] = [
 
 #[test]
 fn sheets(rt: HostRuntime) -> Result<(), Fail> {
-    for row in SHEETS {
+    for row in &SHEETS {
         assert!(rt; holds(rt.alloc(), row)?, "{:?}", row.script);
     }
     Ok(())
@@ -180,7 +180,7 @@ fn sheets(rt: HostRuntime) -> Result<(), Fail> {
 
 #[test]
 fn copies(rt: HostRuntime) -> Result<(), Fail> {
-    for row in COPIES {
+    for row in &COPIES {
         assert!(rt; holds(rt.alloc(), row)?, "{:?}", row.script);
     }
     Ok(())
@@ -224,7 +224,7 @@ const WORK: Row<'static> = Row {
 
 #[test]
 fn budgets(rt: HostRuntime) -> Result<(), Fail> {
-    for row in BUDGETS {
+    for row in &BUDGETS {
         assert!(rt; holds(rt.alloc(), row)?, "{:?}", row.script);
     }
     Ok(())
@@ -232,6 +232,6 @@ fn budgets(rt: HostRuntime) -> Result<(), Fail> {
 
 #[test]
 fn work(rt: HostRuntime) -> Result<(), Fail> {
-    assert!(rt; holds(rt.alloc(), WORK)?);
+    assert!(rt; holds(rt.alloc(), &WORK)?);
     Ok(())
 }

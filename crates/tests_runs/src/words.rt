@@ -12,48 +12,51 @@ use std::test::Fail;
 /// What the largest generated script is answered.
 const LARGEST: &[u8] = b"ok\nok\nok\nok\nok\nok\nsettled 2\n61485922\n256\n61486921\nbye\n";
 
+/// The words of calls over a script of one line, the replies, and how they end.
+const CALLS: [(&[&str], &[u8], Status); 18] = [
+    (
+        &["--gen", "3"],
+        b"ok\nok\nok\nok\nok\nok\nsettled 2\n36\n256\n1035\nbye\n",
+        DONE,
+    ),
+    (
+        &["--gen", "3", "--order", "turn"],
+        b"ok\nok\nok\nok\nok\nok\nsettled 2\n36\n256\n1035\nbye\n",
+        DONE,
+    ),
+    (&["--gen", "1600"], LARGEST, DONE),
+    (&["--gen", "1600", "--order", "last"], LARGEST, DONE),
+    (&["--order", "turn", "--gen", "1600"], LARGEST, DONE),
+    (&["--gen", "0"], b"", Status::Usage),
+    (&["--gen", "1601"], b"", Status::Usage),
+    (&["--order", "middle"], b"", Status::Usage),
+    (&["--gen", "03"], b"", Status::Usage),
+    (&["--gen"], b"", Status::Usage),
+    (&["--order"], b"", Status::Usage),
+    (&["--order", "first", "--order", "last"], b"", Status::Usage),
+    (&["--gen", "3", "--gen", "3"], b"", Status::Usage),
+    (&["x"], b"", Status::Usage),
+    (&["--what"], b"", Status::Usage),
+    (&["--gen", "3", "x"], b"", Status::Usage),
+    (&["--gen", "+3"], b"", Status::Usage),
+    (&["--order=first"], b"", Status::Usage),
+];
+
+/// The call with these words has these replies and ends so.
+fn is_taken(alloc: Global, words: &[&str], replies: &[u8], status: Status) -> Result<bool, Fail> {
+    let call = Call {
+        words,
+        script: b"show A1\n",
+        replies,
+        status,
+    };
+    ends(alloc, &call, &cut_at(4096))
+}
+
 #[test]
 fn words_of_calls(rt: HostRuntime) -> Result<(), Fail> {
-    let cases: [(&[&str], &[u8], Status); 18] = [
-        (
-            &["--gen", "3"],
-            b"ok\nok\nok\nok\nok\nok\nsettled 2\n36\n256\n1035\nbye\n".as_slice(),
-            DONE,
-        ),
-        (
-            &["--gen", "3", "--order", "turn"],
-            b"ok\nok\nok\nok\nok\nok\nsettled 2\n36\n256\n1035\nbye\n".as_slice(),
-            DONE,
-        ),
-        (&["--gen", "1600"], LARGEST, DONE),
-        (&["--gen", "1600", "--order", "last"], LARGEST, DONE),
-        (&["--order", "turn", "--gen", "1600"], LARGEST, DONE),
-        (&["--gen", "0"], b"".as_slice(), Status::Usage),
-        (&["--gen", "1601"], b"".as_slice(), Status::Usage),
-        (&["--order", "middle"], b"".as_slice(), Status::Usage),
-        (&["--gen", "03"], b"".as_slice(), Status::Usage),
-        (&["--gen"], b"".as_slice(), Status::Usage),
-        (&["--order"], b"".as_slice(), Status::Usage),
-        (
-            &["--order", "first", "--order", "last"],
-            b"".as_slice(),
-            Status::Usage,
-        ),
-        (&["--gen", "3", "--gen", "3"], b"".as_slice(), Status::Usage),
-        (&["x"], b"".as_slice(), Status::Usage),
-        (&["--what"], b"".as_slice(), Status::Usage),
-        (&["--gen", "3", "x"], b"".as_slice(), Status::Usage),
-        (&["--gen", "+3"], b"".as_slice(), Status::Usage),
-        (&["--order=first"], b"".as_slice(), Status::Usage),
-    ];
-    for (words, replies, status) in cases {
-        let call = Call {
-            words,
-            script: b"show A1\n",
-            replies,
-            status,
-        };
-        assert!(rt; ends(rt.alloc(), &call, &cut_at(4096))?, "{words:?}");
+    for (words, replies, status) in &CALLS {
+        assert!(rt; is_taken(rt.alloc(), words, replies, *status)?, "{words:?}");
     }
     Ok(())
 }
@@ -91,16 +94,18 @@ fn asks_for(alloc: Global, words: &[&str], kind: u8) -> Result<bool, Fail> {
     Ok(ended && is_enough && others.get() == 0)
 }
 
+/// Words, and the kind of rule that they name: the first without a word.
+const KINDS: [(&[&str], u8); 4] = [
+    (&[], 0),
+    (&["--order", "first"], 0),
+    (&["--order", "last"], 1),
+    (&["--order", "turn"], 2),
+];
+
 #[test]
 fn the_words_name_the_kind(rt: HostRuntime) -> Result<(), Fail> {
-    let calls: [(&[&str], u8); 4] = [
-        (&[], 0),
-        (&["--order", "first"], 0),
-        (&["--order", "last"], 1),
-        (&["--order", "turn"], 2),
-    ];
-    for (words, kind) in calls {
-        assert!(rt; asks_for(rt.alloc(), words, kind)?, "{words:?}");
+    for (words, kind) in &KINDS {
+        assert!(rt; asks_for(rt.alloc(), words, *kind)?, "{words:?}");
     }
     Ok(())
 }
