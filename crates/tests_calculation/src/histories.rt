@@ -129,21 +129,18 @@ fn all_go_on(alloc: Global, rows: &[Sheet], kind: u8) -> Result<bool, Fail>
     Ok(true)
 }
 
+const HISTORIES: [&[Sheet]; 3] = [
+    &A_CONTENT_IN_THE_WAY,
+    &THE_EDGE_IN_THE_WAY,
+    &ARRAYS_IN_A_COPY,
+];
+
 #[test]
 fn edits_of_one_sheet(rt: HostRuntime) -> Result<(), Fail> {
-    for kind in 0u8..3 {
-        assert!(rt;
-            all_go_on(rt.alloc(), &A_CONTENT_IN_THE_WAY, kind)?,
-            "content, kind {kind}"
-        );
-        assert!(rt;
-            all_go_on(rt.alloc(), &THE_EDGE_IN_THE_WAY, kind)?,
-            "edge, kind {kind}"
-        );
-        assert!(rt;
-            all_go_on(rt.alloc(), &ARRAYS_IN_A_COPY, kind)?,
-            "copy, kind {kind}"
-        );
+    for (i, rows) in HISTORIES.iter().enumerate() {
+        for kind in 0u8..3 {
+            assert!(rt; all_go_on(rt.alloc(), rows, kind)?, "{i} by {kind}");
+        }
     }
     Ok(())
 }

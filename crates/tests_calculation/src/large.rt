@@ -184,19 +184,34 @@ fn fill(calc: &mut Calc, col: u16, row: u16) -> Result<(), Fail> {
     Ok(())
 }
 
-#[test]
-fn a_full_sheet_settles(rt: HostRuntime) -> Result<(), Fail> {
-    let alloc = rt.alloc();
+/// Fills eight columns of a row.
+fn fill_row(calc: &mut Calc, row: u16) -> Result<(), Fail> {
+    for col in 1..9u16 {
+        fill(calc, col, row)?;
+    }
+    Ok(())
+}
+
+/// As many contents and formulas as a sheet may have.
+fn full(alloc: Global) -> Result<Calc, Fail> {
     let mut calc = calc_of(alloc, &["set A1 7", "set B1 =A1+1"])?;
     for row in 1..8193u16 {
-        for col in 1..9u16 {
-            fill(&mut calc, col, row)?;
-        }
+        fill_row(&mut calc, row)?;
     }
+    Ok(calc)
+}
+
+/// The full sheet settles at once, and its last row shows what it must.
+fn full_settles(alloc: Global, calc: &mut Calc) -> Result<bool, Fail> {
+    let answer = refreshed(alloc, calc, 2, Version::One)?;
+    Ok(answer.as_str() == "settled 1" && shows(alloc, calc, "C8192", "8")?)
+}
+
+#[test]
+fn a_full_sheet_settles(rt: HostRuntime) -> Result<(), Fail> {
+    let mut calc = full(rt.alloc())?;
     assert_eq!(rt; calc.cells().formulas(), 16384);
     assert_eq!(rt; calc.cells().contents(), 65536);
-    let answer = refreshed(alloc, &mut calc, 2, Version::One)?;
-    assert_eq!(rt; answer.as_str(), "settled 1");
-    assert!(rt; shows(alloc, &calc, "C8192", "8")?);
+    assert!(rt; full_settles(rt.alloc(), &mut calc)?);
     Ok(())
 }
