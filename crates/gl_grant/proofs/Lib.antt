@@ -3,5 +3,3 @@ pub mod Free
 pub mod Growing
 pub mod InTheWay
 pub mod Refused
-pub mod After
-pub mod OneContent
