@@ -23,4 +23,3 @@ pub mod Bindings
 pub mod IsFormula
 pub mod Calling
 pub mod Groups
-pub mod Told
