@@ -22,4 +22,3 @@ pub mod Bindings
 pub mod IsFormula
 pub mod Calling
 pub mod Groups
-pub mod Told

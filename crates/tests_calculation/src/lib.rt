@@ -1,0 +1,13 @@
+//! Tests of calculations of whole sheets, and of what is held of them.
+#![tactic(auto)]
+
+#[cfg(test)]
+mod calculations;
+#[cfg(test)]
+mod held;
+#[cfg(test)]
+mod histories;
+#[cfg(test)]
+mod large;
+#[cfg(test)]
+mod sheets;

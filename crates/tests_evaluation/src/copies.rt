@@ -1,0 +1,182 @@
+//! What cells come to, many of them through copies.
+use crate::texts::found_text;
+use crate::turns::{Setting, cell, first_turn, last_turn};
+use gl_ast::Version;
+use gl_plane::Oracle;
+use std::alloc::Global;
+use std::test::Fail;
+use tests_common::sheet_of;
+
+/// A sheet with its version, and of some cells what their first evaluation finds, and their last one.
+struct Sheet {
+    version: Version,
+    lines: &'static [&'static str],
+    ends: &'static [(&'static str, &'static str, &'static str)],
+}
+
+const COPIES: [Sheet; 4] = [
+    Sheet {
+        version: Version::One,
+        lines: &[
+            "set A1 3",
+            "set B1 4",
+            "set C1 =A1*A1+B1*B1",
+            "set E1 =G(A1:C1,A1,6)",
+        ],
+        ends: &[("C1", "25", "25"), ("E1", "settle A1:C1", "6 4 52")],
+    },
+    Sheet {
+        version: Version::One,
+        lines: &[
+            "set A1 1",
+            "set B1 =A1*10",
+            "set C1 =VIEW(SHEET(B1),B1)",
+            "set D1 =VIEW(UPDATE(SHEET(A1:C1),A1,7),C1)",
+        ],
+        ends: &[("C1", "settle B1:B1", "10"), ("D1", "settle A1:C1", "70")],
+    },
+    Sheet {
+        version: Version::One,
+        lines: &[
+            "set A1 2",
+            "set B1 =SEQUENCE(A1,1)",
+            "set D1 =G(A1:B3,A1,3)",
+            "set G1 =G(A1:B3,A1,4)",
+        ],
+        ends: &[
+            ("B1", "1 / 2", "1 / 2"),
+            ("D1", "settle A1:B3", "3 1 / . 2 / . 3"),
+            ("G1", "settle A1:B3", "4 #SPILL! / . . / . ."),
+        ],
+    },
+    Sheet {
+        version: Version::One,
+        lines: &[
+            "set A3 =LET(x,SEQUENCE(100,100),G(A1:G1,A1,x,B1,x,C1,x,D1,x,E1,x,F1,x,G1,x))",
+            "set A4 =LET(x,SEQUENCE(100,100),G(A1:F1,A1,x,B1,x,C1,x,D1,x,E1,x,F1,x))",
+        ],
+        ends: &[
+            ("A3", "#SIZE!", "#SIZE!"),
+            (
+                "A4",
+                "settle A1:F1",
+                "#SPILL! #SPILL! #SPILL! #SPILL! #SPILL! #SPILL!",
+            ),
+        ],
+    },
+];
+
+const BUDGETS_AND_CYCLES: [Sheet; 3] = [
+    Sheet {
+        version: Version::One,
+        lines: &["set A1 1", "set B1 =C1+A1", "set C1 =G(A1:B1,A1,5)"],
+        ends: &[("B1", "C1", "cycle"), ("C1", "settle A1:B1", "cycle")],
+    },
+    Sheet {
+        version: Version::One,
+        lines: &[
+            "set A1 0",
+            "set B1 =IF(A1=0,0,A1+VIEW(UPDATE(SHEET(A1:B1),A1,A1-1),B1))",
+            "set D1 =VIEW(UPDATE(SHEET(A1:B1),A1,95),B1)",
+            "set E1 =VIEW(UPDATE(SHEET(A1:B1),A1,96),B1)",
+        ],
+        ends: &[
+            ("D1", "settle A1:B1", "4560"),
+            ("E1", "settle A1:B1", "spent depth"),
+        ],
+    },
+    Sheet {
+        version: Version::One,
+        lines: &[
+            "set D1 0",
+            "set A2 =SEQUENCE(1,3)",
+            "set B1 =IF(D1=0,1,IF(ISERROR(ROWS(A2#)),1,SEQUENCE(3,1)))",
+            "set F1 =G(A1:D3,D1,1)",
+        ],
+        ends: &[("F1", "settle A1:D3", "spent copyrounds")],
+    },
+];
+
+const CHOICES: [&str; 4] = [
+    "set A1 =IFERROR(10/(SEQUENCE(1,3)-2),0)",
+    "set A2 =IF(SEQUENCE(1,2)>0,1,A2)",
+    "set A3 =IF(SEQUENCE(1,2)=1,1,2)",
+    "set A4 =IF(TRUE,1,A4)",
+];
+
+const CHOICES_BY_VERSION: [Sheet; 2] = [
+    Sheet {
+        version: Version::One,
+        lines: &CHOICES,
+        ends: &[
+            ("A1", "-10 #DIV/0! 10", "-10 #DIV/0! 10"),
+            ("A2", "#VALUE!", "#VALUE!"),
+            ("A3", "#VALUE!", "#VALUE!"),
+            ("A4", "1", "1"),
+        ],
+    },
+    Sheet {
+        version: Version::Two,
+        lines: &CHOICES,
+        ends: &[
+            ("A1", "-10 0 10", "-10 0 10"),
+            ("A2", "A2", "cycle"),
+            ("A3", "1 2", "1 2"),
+            ("A4", "1", "1"),
+        ],
+    },
+];
+
+/// The first evaluation of a cell finds this, and the last one that, where `cycle` is none.
+fn ends(at: Setting<'_>, name: &str, first: &str, last: &str) -> Result<bool, Fail> {
+    let turn = first_turn(at, &cell(name)?)?;
+    if found_text(at.alloc, &turn.found)?.as_str() != first {
+        return Ok(false);
+    }
+    match last_turn(at, name)? {
+        Some(turn) => Ok(found_text(at.alloc, &turn.found)?.as_str() == last),
+        None => Ok(last == "cycle"),
+    }
+}
+
+/// The cells of the sheet are as it says.
+fn holds(alloc: Global, sheet: &Sheet) -> Result<bool, Fail> {
+    let cells = sheet_of(alloc, sheet.lines)?;
+    let w = Oracle::new(alloc);
+    let at = Setting {
+        alloc,
+        cells: &cells,
+        w: &w,
+        version: sheet.version,
+    };
+    for (name, first, last) in sheet.ends {
+        if !ends(at, name, first, last)? {
+            return Ok(false);
+        }
+    }
+    Ok(true)
+}
+
+#[test]
+fn copies(rt: HostRuntime) -> Result<(), Fail> {
+    for sheet in &COPIES {
+        assert!(rt; holds(rt.alloc(), sheet)?, "{:?}", sheet.lines);
+    }
+    Ok(())
+}
+
+#[test]
+fn budgets_and_cycles(rt: HostRuntime) -> Result<(), Fail> {
+    for sheet in &BUDGETS_AND_CYCLES {
+        assert!(rt; holds(rt.alloc(), sheet)?, "{:?}", sheet.lines);
+    }
+    Ok(())
+}
+
+#[test]
+fn choices_by_version(rt: HostRuntime) -> Result<(), Fail> {
+    for sheet in &CHOICES_BY_VERSION {
+        assert!(rt; holds(rt.alloc(), sheet)?, "{:?}", sheet.lines);
+    }
+    Ok(())
+}

@@ -1,0 +1,27 @@
+//! Tests of evaluations, one by one and in runs that demand keys in any order.
+#![tactic(auto)]
+
+#[cfg(test)]
+mod calls;
+#[cfg(test)]
+mod copies;
+#[cfg(test)]
+mod evaluations;
+#[cfg(test)]
+mod large;
+#[cfg(test)]
+mod notes;
+#[cfg(test)]
+mod picks;
+#[cfg(test)]
+mod references;
+#[cfg(test)]
+mod runs;
+#[cfg(test)]
+mod sheets;
+#[cfg(test)]
+mod table;
+#[cfg(test)]
+mod texts;
+#[cfg(test)]
+mod turns;

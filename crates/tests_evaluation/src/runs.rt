@@ -1,0 +1,135 @@
+//! Runs of a core over a sheet, by each pick rule.
+ghost use Rattle.std.specs.Prelude.{◌≡◌, ◌≤◌, IfOk, IsTrue, map};
+ghost use Rattle.gl_query.specs.Lists.{Member, AreDistinct};
+ghost use Rattle.gl_query.specs.Laws.{IsQuiet};
+ghost use Rattle.gl_query.specs.Remembered.{AreTrue};
+ghost use Rattle.gl_calculus.specs.Key as K;
+ghost use Rattle.gl_calculus.specs.Key.{same_key};
+ghost use Rattle.gl_calculus.specs.Evaluation.{program};
+ghost use Rattle.gl_calculus.specs.Sound.{IsProperKey};
+ghost use Rattle.gl_ast.specs.View.{version_tree};
+ghost use Rattle.gl_cells.specs.Sheet.{sheet};
+ghost use Rattle.gl_memo.specs.Notes.{notes_of};
+ghost use Rattle.gl_demand.specs.View.{key_tree};
+ghost use Rattle.gl_demand.specs.Sound.{AreSoundKeys};
+ghost use Rattle.gl_core.specs.State.{state_of, seeds_of, note_trees, HaveSoundParts, IsFor};
+
+use crate::turns::{Setting, cells_at};
+use gl_cells::Cells;
+use gl_core::{Core, CoreFault, MAX_DEMANDED, Quiet, Seen};
+use gl_demand::{Budget, Key, Outcome, Silent, Steps, proper};
+use gl_memo::Memo;
+use gl_order::{Order, by_kind};
+use gl_plane::Range;
+use gl_value::{Scalar, Value};
+use std::test::Fail;
+
+/// What is seen of a cell.
+#[derive(Clone, Copy, PartialEq, Eq, Debug)]
+pub enum Sight {
+    Number(i64),
+    Depth,
+    Loops,
+    NotDemanded,
+    Other,
+}
+
+fn value_seen(value: &Value) -> Sight {
+    match value {
+        Value::One(x) => match x {
+            Scalar::Int(n) => Sight::Number(*n),
+            _ => Sight::Other,
+        },
+        Value::Array(_) => Sight::Other,
+    }
+}
+
+fn outcome_seen(outcome: &Outcome) -> Sight {
+    match outcome {
+        Outcome::Value(value) => value_seen(value),
+        Outcome::Settled(_) => Sight::Other,
+        Outcome::Abort(budget) => match budget {
+            Budget::Depth => Sight::Depth,
+            Budget::CopyRounds => Sight::Other,
+        },
+    }
+}
+
+/// What a run says of a key.
+pub fn seen_as(seen: Option<Seen<'_>>) -> Sight {
+    match seen {
+        Some(known) => match known {
+            Seen::Known(outcome) => outcome_seen(outcome),
+            Seen::Loops => Sight::Loops,
+        },
+        None => Sight::NotDemanded,
+    }
+}
+
+/// Whether the keys are distinct, and all are sound and proper.
+fn are_seeds(cells: &Cells, keys: &[Key]) -> bool
+    ensures apart { IsTrue result → AreDistinct (map key_tree keys.now) }
+    ensures sound { IsTrue result → AreSoundKeys (map key_tree keys.now) }
+    ensures proper { IsTrue result → (k : K.Key) → Member k (map key_tree keys.now) → IsProperKey (sheet cells.now) k }
+{
+    let Some((first, rest)) = keys.split_first() else {
+        return true;
+    };
+    if !first.is_sound() {
+        return false;
+    }
+    if !proper(cells, first) {
+        return false;
+    }
+    if rest.contains(first) {
+        return false;
+    }
+    are_seeds(cells, rest)
+}
+
+/// The core of these seeds.
+pub fn started(
+    at: &Setting<'_>,
+    seeds: Vec<Key>,
+    kept: Memo<Key, Outcome, Range>,
+) -> Result<Core, Fail>
+    requires true_notes { AreTrue same_key (program (version_tree at.now.version) (sheet at.now.cells.now) at.now.w.now) (note_trees (notes_of kept)) }
+    requires sound_notes { HaveSoundParts (note_trees (notes_of kept)) }
+    ensures { IfOk result (λ core. IsFor (version_tree at.now.version) (sheet at.now.cells.now) at.now.w.now core) }
+{
+    if seeds.len() > MAX_DEMANDED {
+        return Err("too many seeds".into());
+    }
+    if !are_seeds(at.cells, &seeds) {
+        return Err("no seeds".into());
+    }
+    match Core::start(at.alloc, seeds, kept, at.cells, at.w, at.version) {
+        Ok(core) => Ok(core),
+        Err(e) => Err(e.into()),
+    }
+}
+
+/// The core of these cells, without notes.
+pub fn fresh(at: &Setting<'_>, names: &[&str]) -> Result<Core, Fail>
+    ensures { IfOk result (λ core. IsFor (version_tree at.now.version) (sheet at.now.cells.now) at.now.w.now core) }
+{
+    let seeds = cells_at(at.alloc, names)?;
+    started(at, seeds, Memo::new(at.alloc))
+}
+
+/// Runs the core by the pick rule of a kind.
+pub fn run(
+    at: &Setting<'_>,
+    core: Core,
+    kind: u8,
+    steps: &mut Steps<Silent>,
+) -> Result<Quiet, CoreFault>
+    requires kind { kind ≤ 2 }
+    requires for_it { IsFor (version_tree at.now.version) (sheet at.now.cells.now) at.now.w.now core }
+    ensures quiet { IfOk result (λ q. IsQuiet same_key (program (version_tree at.now.version) (sheet at.now.cells.now) at.now.w.now) (seeds_of core) (state_of q)) }
+    ensures seeds { IfOk result (λ q. seeds_of q ≡ seeds_of core) }
+    ensures stays { IfOk result (λ q. IsFor (version_tree at.now.version) (sheet at.now.cells.now) at.now.w.now q) }
+{
+    let order = Order::new(by_kind);
+    core.run_all(at.alloc, &order, kind, at.cells, at.w, at.version, steps)
+}

@@ -1,0 +1,161 @@
+//! Small sheets by each pick rule: the keys that are demanded, the evaluations, and what is seen of cells.
+ghost use Rattle.std.specs.Prelude.{◌≤◌};
+
+use crate::runs::{Sight, fresh, run, seen_as};
+use crate::turns::{Setting, cell};
+use gl_ast::Version;
+use gl_demand::{Silent, Steps};
+use gl_plane::Oracle;
+use std::test::Fail;
+use tests_common::sheet_of;
+
+/// A sheet with its seeds, how many keys these demand, how many evaluations each pick rule makes,
+/// and what is seen of some cells.
+struct Sheet {
+    lines: &'static [&'static str],
+    seeds: &'static [&'static str],
+    demanded: u64,
+    steps: [u64; 3],
+    sees: &'static [(&'static str, Sight)],
+}
+
+const SHEETS: [Sheet; 10] = [
+    Sheet {
+        lines: &["set A1 =B1+1", "set B1 =C1+1", "set C1 =1"],
+        seeds: &["A1", "B1", "C1"],
+        demanded: 3,
+        steps: [5, 3, 4],
+        sees: &[
+            ("A1", Sight::Number(3)),
+            ("C1", Sight::Number(1)),
+            ("D1", Sight::NotDemanded),
+        ],
+    },
+    // a range is read cell by cell
+    Sheet {
+        lines: &["set A1 =SUM(B1:B3)", "set B1 =1", "set B2 =2", "set B3 =3"],
+        seeds: &["A1", "B1", "B2", "B3"],
+        demanded: 4,
+        steps: [7, 4, 5],
+        sees: &[("A1", Sight::Number(6)), ("B3", Sight::Number(3))],
+    },
+    // a ring, and a cell that demands it
+    Sheet {
+        lines: &["set A1 =B1", "set B1 =A1", "set C1 =IFERROR(A1,7)"],
+        seeds: &["C1"],
+        demanded: 3,
+        steps: [3, 3, 3],
+        sees: &[
+            ("A1", Sight::Loops),
+            ("B1", Sight::Loops),
+            ("C1", Sight::Loops),
+        ],
+    },
+    Sheet {
+        lines: &["set A1 =IF(TRUE,1,B1)", "set B1 =A1"],
+        seeds: &["A1", "B1"],
+        demanded: 2,
+        steps: [2, 3, 2],
+        sees: &[("A1", Sight::Number(1)), ("B1", Sight::Number(1))],
+    },
+    // a copy in a cycle
+    Sheet {
+        lines: &["set A1 1", "set B1 =C1+A1", "set C1 =G(A1:B1,A1,5)"],
+        seeds: &["B1", "C1"],
+        demanded: 4,
+        steps: [4, 4, 4],
+        sees: &[("B1", Sight::Loops), ("C1", Sight::Loops)],
+    },
+    // recursion by copies, up to the greatest rank and beyond
+    Sheet {
+        lines: &[
+            "set A1 0",
+            "set B1 =IF(A1=0,0,A1+VIEW(UPDATE(SHEET(A1:B1),A1,A1-1),B1))",
+            "set D1 =VIEW(UPDATE(SHEET(A1:B1),A1,63),B1)",
+        ],
+        seeds: &["D1"],
+        demanded: 129,
+        steps: [257, 257, 257],
+        sees: &[("D1", Sight::Number(2016)), ("B1", Sight::NotDemanded)],
+    },
+    Sheet {
+        lines: &[
+            "set A1 0",
+            "set B1 =IF(A1=0,0,A1+VIEW(UPDATE(SHEET(A1:B1),A1,A1-1),B1))",
+            "set D1 =VIEW(UPDATE(SHEET(A1:B1),A1,95),B1)",
+        ],
+        seeds: &["D1"],
+        demanded: 193,
+        steps: [385, 385, 385],
+        sees: &[("D1", Sight::Number(4560))],
+    },
+    Sheet {
+        lines: &[
+            "set A1 0",
+            "set B1 =IF(A1=0,0,A1+VIEW(UPDATE(SHEET(A1:B1),A1,A1-1),B1))",
+            "set D1 =VIEW(UPDATE(SHEET(A1:B1),A1,96),B1)",
+        ],
+        seeds: &["D1"],
+        demanded: 193,
+        steps: [385, 385, 385],
+        sees: &[("D1", Sight::Depth)],
+    },
+    // 1,024 copies without further copies
+    Sheet {
+        lines: &[
+            "set A1 1",
+            "set B1 =IF(A1>=1024,1,VIEW(UPDATE(SHEET(A1:B1),A1,2*A1),B1)+VIEW(UPDATE(SHEET(A1:B1),A1,2*A1+1),B1))",
+        ],
+        seeds: &["B1"],
+        demanded: 4093,
+        steps: [8185, 8185, 8185],
+        sees: &[("B1", Sight::Number(1024))],
+    },
+    // equal copies are one
+    Sheet {
+        lines: &[
+            "set A1 1",
+            "set B1 =IF(A1>=1024,1,VIEW(UPDATE(SHEET(A1:B1),A1,2*A1),B1)+VIEW(UPDATE(SHEET(A1:B1),A1,2*A1),B1))",
+        ],
+        seeds: &["B1"],
+        demanded: 21,
+        steps: [41, 41, 41],
+        sees: &[("B1", Sight::Number(1024))],
+    },
+];
+
+/// The run of a sheet by the pick rule of this kind is as its table says.
+fn holds(at: &Setting<'_>, row: &Sheet, kind: u8) -> Result<bool, Fail>
+    requires { kind ≤ 2 }
+{
+    let mut steps = Steps::new(Silent);
+    let quiet = run(at, fresh(at, row.seeds)?, kind, &mut steps)?;
+    if quiet.len() != row.demanded || steps.done() != row.steps[usize::from(kind)] {
+        return Ok(false);
+    }
+    for (name, want) in row.sees {
+        if seen_as(quiet.seen(&cell(name)?)) != *want {
+            return Ok(false);
+        }
+    }
+    Ok(true)
+}
+
+#[test]
+fn sheets_by_each_rule(rt: HostRuntime) -> Result<(), Fail> {
+    let alloc = rt.alloc();
+    let w = Oracle::new(alloc);
+    for row in &SHEETS {
+        let cells = sheet_of(alloc, row.lines)?;
+        let at = Setting {
+            alloc,
+            cells: &cells,
+            w: &w,
+            version: Version::One,
+        };
+        for kind in 0u8..3 {
+            assert!(rt; holds(&at, row, kind)?, "{:?} by {kind}", row.lines);
+        }
+    }
+    Ok(())
+}

@@ -1,0 +1,19 @@
+//! Tests of the top call: whole scripts through `run`, over sources and sinks in memory.
+#![tactic(auto)]
+
+#[cfg(test)]
+mod calls;
+#[cfg(test)]
+mod cuts;
+#[cfg(test)]
+mod functions;
+#[cfg(test)]
+mod long;
+#[cfg(test)]
+mod refusals;
+#[cfg(test)]
+mod scripts;
+#[cfg(test)]
+mod sheets;
+#[cfg(test)]
+mod words;
