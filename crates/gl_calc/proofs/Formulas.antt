@@ -79,7 +79,3 @@ keys_sound bs k m = let (a, n, e) = member_key bs k m in subst (λ j. IsTrue (is
 pub keys_length : (bs : List Addr) → length (map (Cell Top) bs) ≡ length bs
 keys_length [] = refl
 keys_length (a ∷ bs) = ap suc (keys_length bs)
-
--- the keys so far, with one more
-pub seed_more : (xs : List Key) (k : Key) (a : Addr) (rest : List Addr) (all : List Key) → k ≡ Cell Top a → xs ++ map (Cell Top) (a ∷ rest) ≡ all → (xs ++ k ∷ []) ++ map (Cell Top) rest ≡ all
-seed_more xs k a rest all e h = append_assoc xs (k ∷ []) (map (Cell Top) rest) ∙ ap (λ u. xs ++ u ∷ map (Cell Top) rest) e ∙ h

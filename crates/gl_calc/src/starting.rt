@@ -18,28 +18,12 @@ ghost use Rattle.gl_calc.specs.Starting.{IsStarted};
 use crate::ending::RoundFault;
 use gl_ast::Version;
 use gl_cells::Cells;
-use gl_core::{Core, CoreFault, Quiet};
-use gl_demand::{Key, Steps, Watch};
+use gl_core::{Core, CoreFault, Quiet, top_keys};
+use gl_demand::{Steps, Watch};
 use gl_memo::Memo;
 use gl_order::Order;
 use gl_plane::{Addr, NoMemory, Oracle};
-use gl_value::Env;
 use std::alloc::Global;
-
-/// The keys of these formulas of the sheet.
-#[tactic(auto, using(gl_value::specs::Forms::trees))]
-fn seeds(alloc: Global, places: &[Addr]) -> Result<Vec<Key>, NoMemory>
-    ensures { IfOk result (λ v. map key_tree v.items ≡ map (K.Cell V.Top) places.now) }
-{
-    let mut seeds = Vec::new(alloc);
-    for a in places {
-        match seeds.push(Key::Cell(Env::Top, *a)) {
-            Ok(()) => {}
-            Err(_) => return Err(NoMemory),
-        }
-    }
-    Ok(seeds)
-}
 
 /// The core in which each formula is to be evaluated, with no results from before.
 fn started(
@@ -54,7 +38,7 @@ fn started(
     requires ordered { IsSheet (sheet cells.now) }
     ensures { IfOk result (IsStarted (version_tree version) (sheet cells.now) w.now) }
 {
-    match seeds(alloc, places) {
+    match top_keys(alloc, places) {
         Ok(seeds) => Core::start(alloc, seeds, Memo::new(alloc), cells, w, version),
         Err(NoMemory) => Err(NoMemory),
     }

@@ -98,7 +98,7 @@ fn seeded(alloc: Global, seeds: Vec<Key>) -> Result<Entries, NoMemory>
 }
 
 /// The keys of cells of the sheet.
-fn top_keys(alloc: Global, places: &[Addr]) -> Result<Vec<Key>, NoMemory>
+pub fn top_keys(alloc: Global, places: &[Addr]) -> Result<Vec<Key>, NoMemory>
     ensures { IfOk result (λ keys. map key_tree keys.items ≡ map (K.Cell V.Top) places.now) }
 {
     let mut keys = Vec::new(alloc);
