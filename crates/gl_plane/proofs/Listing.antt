@@ -2,13 +2,15 @@
 use Rattle.std.specs.Prelude.{if◌then◌else◌}
 use Rattle.std.proofs.Common.{◌≡◌, ℕ, zero, suc, ◌+◌, List, [], ◌∷◌, ◌++◌, drop, slice_get, Bool, true, false, Option, Some, None, refl, sym, ap, ◌∙◌, arith, append_assoc}
 use Rattle.std.specs.List.{list_any, flat_map}
-use Rattle.gl_calculus.specs.Grid.{Addr, Range, covers, single}
+use Rattle.gl_calculus.specs.Grid.{Addr, same_addr, Range, covers, single}
 use Rattle.gl_calculus.specs.Value.{Entry, Oracle}
 use Rattle.gl_calculus.specs.Same.{same_permit}
 use Rattle.gl_calculus.specs.Memory.{differs_at}
 use Rattle.gl_calculus.specs.Oracle.{IsInOrder, area_of, entry_at}
 use Rattle.gl_calculus.specs.Differences.{AreApart, spills, areas_apart, by_both, by_entry, by_new, differences}
 use Rattle.gl_calculus.proofs.Tells.{tells}
+use Rattle.gl_plane.proofs.Search.{around, entry_here}
+use Rattle.std.proofs.lemmas.Option.{slice_get_within, get_or_from_slice_get}
 use Rattle.gl_plane.specs.Listed.{between, by_entries, by_news}
 use Rattle.gl_plane.specs.Entries.{spilt_area}
 
@@ -52,3 +54,7 @@ new_listed w v i y mid new e n = listed_step (λ z. by_new z (entry_at w z.root)
 -- they are exactly where the oracles differ
 pub told : (w v : Oracle) (rs : List Range) → rs ≡ differences w v → IsInOrder w × IsInOrder v → AreApart w → AreApart v → (a : Addr) → list_any (λ r. covers r a) rs ≡ differs_at [] w v a
 told w v rs e o p q a = ap (λ l. list_any (λ r. covers r a) l) e ∙ tells w v a o.0 o.1 p q
+
+-- an entry is found by its root
+pub found_there : (w : Oracle) (i : ℕ) (x : Entry) (a : Addr) → IsInOrder w → slice_get w i ≡ Some x → same_addr a x.root ≡ true → entry_at w a ≡ Some x
+found_there w i x a o e s = entry_here w i x (around w i x (slice_get_within w i x e) (sym (get_or_from_slice_get w i x x e))) o a s

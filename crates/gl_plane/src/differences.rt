@@ -3,7 +3,7 @@ ghost use Rattle.std.specs.Prelude.{◌≡◌, ◌++◌, ◌∷◌, [], ◌+◌,
 ghost use Rattle.std.specs.List.{list_any};
 ghost use Rattle.gl_calculus.specs.Grid.{Addr as PlainAddr, covers, single};
 ghost use Rattle.gl_calculus.specs.Memory.{differs_at};
-ghost use Rattle.gl_calculus.specs.Oracle.{IsInOrder};
+ghost use Rattle.gl_calculus.specs.Oracle.{IsInOrder, entry_at};
 ghost use Rattle.gl_calculus.specs.Same.{same_permit};
 ghost use Rattle.gl_calculus.specs.Differences.{AreApart, minus, own_places, by_both, by_entry, by_new, differences};
 ghost use Rattle.gl_plane.specs.Listed.{between, by_entries, by_news};
@@ -60,7 +60,7 @@ fn push_entry_at(
     ensures { OnOk result (ranges.new.items ++ by_entries theirs.now (drop (i + 1) mine.now) ≡ ranges.old.items ++ by_entries theirs.now (drop i mine.now)) }
 {
     match mine.at(i) {
-        Some(x) => push_by_entry(ranges, &x, theirs.entry(x.root)),
+        Some(x) => push_by_entry(ranges, &x, entry_near(theirs, i, x.root)),
         None => Ok(()),
     }
 }
@@ -87,8 +87,26 @@ fn push_new_at(
     ensures { OnOk result (ranges.new.items ++ by_news mine.now (drop (i + 1) theirs.now) ≡ ranges.old.items ++ by_news mine.now (drop i theirs.now)) }
 {
     match theirs.at(i) {
-        Some(y) => push_new(ranges, &y, mine.entry(y.root)),
+        Some(y) => push_new(ranges, &y, entry_near(mine, i, y.root)),
         None => Ok(()),
+    }
+}
+
+/// The entry at an address. It is not searched for where it stands at this place, as it mostly does
+/// in an oracle that differs little.
+#[tactic(auto, using(crate::proofs::Listing::found_there))]
+fn entry_near(w: &Oracle, i: usize, root: Addr) -> Option<Entry>
+    ensures { result ≡ entry_at w.now root }
+{
+    match w.at(i) {
+        Some(x) => {
+            if x.root == root {
+                Some(x)
+            } else {
+                w.entry(root)
+            }
+        }
+        None => w.entry(root),
     }
 }
 
