@@ -6,7 +6,7 @@ use Rattle.gl_query.specs.Remembered.{Note}
 use Rattle.gl_query.specs.InOrder.{AreOrdered, note_keys, must_go, gone_after}
 use Rattle.gl_query.proofs.Members.{any_member, member_any, either, left, right}
 use Rattle.gl_query.proofs.Quiet.{seen_member}
-use Rattle.gl_support.specs.Affected.{Triple, IsAffected, Looked, Read, notes_of_triples, AffectedAreGone}
+use Rattle.gl_support.specs.Affected.{Triple, is_touched, IsAffected, Looked, Read, notes_of_triples, AffectedAreGone}
 use Rattle.gl_support.proofs.Keys.{has_member-any}
 use Rattle.gl_support.proofs.Closure.{iff}
 
@@ -92,14 +92,25 @@ module _ {K O A : Type 0} (same : K → K → Bool) (eq : IsEquality same) (touc
       by true e j (inr i) = h j i
       by false e j i = h j i
 
+abbrev note_of : {K A : Type 0} → Triple K A → Note K (Unit {0}) A
+note_of t = record { key = t.by; outcome = tt; reads = t.reads; looked = t.looked }
+
+-- a property of all keys that looked at what changed, and of each that read a key with it, is one of all that are affected
+pub affected_has : {K A : Type 0} (same : K → K → Bool) (touches : A → A → Bool) (ts : List (Triple K A)) (changed : List A) (P : K → Type 0) →
+    ((x y : K) → same x y ≡ true → P y → P x) →
+    ((t : Triple K A) → Member t ts → is_touched touches t.looked changed ≡ true → P t.by) →
+    ((t : Triple K A) (j : K) → Member t ts → Member j t.reads → P j → P t.by) →
+    (k : K) → IsAffected same touches ts changed k → P k
+affected_has same touches ts changed P alike looked read k (Looked t m e l) = alike k t.by e (looked t m l)
+affected_has same touches ts changed P alike looked read k (Read t j m e r f) = alike k t.by e (read t j m r (affected_has same touches ts changed P alike looked read j f))
+
 module _ {K A : Type 0} (same : K → K → Bool) (touches : A → A → Bool) (changed : List A) where
-  -- the note of a triple
-  noted : (ts : List (Triple K A)) (t : Triple K A) → Member t ts → Member (record { key = t.by; outcome = tt; reads = t.reads; looked = t.looked }) (notes_of_triples ts)
+  noted : (ts : List (Triple K A)) (t : Triple K A) → Member t ts → Member (note_of t) (notes_of_triples ts)
   noted [] t m = m
-  noted (u ∷ ts) t (inl e) = inl (ap (λ (x : Triple K A). record { key = x.by; outcome = tt; reads = x.reads; looked = x.looked }) e)
+  noted (u ∷ ts) t (inl e) = inl (ap note_of e)
   noted (u ∷ ts) t (inr m) = inr (noted ts t m)
 
-  of_note : (ts : List (Triple K A)) (n : Note K (Unit {0}) A) → Member n (notes_of_triples ts) → (t : Triple K A) × Member t ts × (n ≡ record { key = t.by; outcome = tt; reads = t.reads; looked = t.looked })
+  of_note : (ts : List (Triple K A)) (n : Note K (Unit {0}) A) → Member n (notes_of_triples ts) → (t : Triple K A) × Member t ts × (n ≡ note_of t)
   of_note [] n m = absurd m
   of_note (u ∷ ts) n (inl e) = (u, inl refl, e)
   of_note (u ∷ ts) n (inr m) = let (t, i, e) = of_note ts n m in (t, inr i, e)
@@ -120,13 +131,10 @@ affected_gone K A same touches ts changed ks k eq d o h = iff (has_member same k
     goes = closed same eq touched [] [] notes o d (λ j m i. absurd m)
 
     reached : (j : K) → IsAffected same touches ts changed j → Member j gone
-    reached j (Looked t m e l) =
-        subst (λ u. Member u gone) (sym (eq.0 j t.by e))
-        (goes (record { key = t.by; outcome = tt; reads = t.reads; looked = t.looked }) (noted same touches changed ts t m) (left (list_any touched t.looked) (list_any (λ i. has_member same i gone) t.reads) l))
-    reached j (Read t i m e r f) =
-        subst (λ u. Member u gone) (sym (eq.0 j t.by e))
-        (goes (record { key = t.by; outcome = tt; reads = t.reads; looked = t.looked }) (noted same touches changed ts t m)
-        (right (list_any touched t.looked) (list_any (λ i. has_member same i gone) t.reads) (member_any (λ i. has_member same i gone) t.reads i r (has_it same eq i gone (reached i f)))))
+    reached = affected_has same touches ts changed (λ j. Member j gone) (λ x y e m. subst (λ u. Member u gone) (sym (eq.0 x y e)) m)
+      (λ t m l. goes (note_of t) (noted same touches changed ts t m) (left (list_any touched t.looked) (list_any (λ i. has_member same i gone) t.reads) l))
+      (λ t i m r f. goes (note_of t) (noted same touches changed ts t m)
+        (right (list_any touched t.looked) (list_any (λ i. has_member same i gone) t.reads) (member_any (λ i. has_member same i gone) t.reads i r (has_it same eq i gone f))))
 
     forth : has_member same k ks ≡ true → has_member same k gone ≡ true
     forth e = has_it same eq k gone (reached k (h.least k e))
