@@ -7,6 +7,14 @@ use Rattle.gl_calculus.specs.Grid.{Addr, Range, addresses, covers}
 abbrev pub is_covered : List Range → Addr → Bool
 is_covered rs a = list_any (λ r. covers r a) rs
 
+-- the ranges cover exactly the addresses that pass the test
+abbrev pub AreWhere : List Range → (Addr → Bool) → Type 0
+AreWhere rs p = (a : Addr) → is_covered rs a ≡ p a
+
+-- what passes the first test passes the second
+abbrev pub Within : (Addr → Bool) → (Addr → Bool) → Type 0
+Within p q = (a : Addr) → p a ≡ true → q a ≡ true
+
 -- some address of the range has changed
 abbrev pub reaches : List Range → Range → Bool
 reaches cs r = list_any (is_covered cs) (addresses r)
@@ -18,8 +26,16 @@ hull_covers (Some h) a = covers h a
 
 -- the hull covers all that the ranges do
 abbrev pub IsHull : Option Range → List Range → Type 0
-IsHull hull rs = (a : Addr) → is_covered rs a ≡ true → hull_covers hull a ≡ true
+IsHull hull rs = Within (is_covered rs) (hull_covers hull)
 
 -- the range covers what one of the two does
 abbrev pub IsBoth : Range → Range → Range → Type 0
 IsBoth a b r = (p : Addr) → covers r p ≡ (covers a p || covers b p)
+
+-- the ranges or the one beside them cover the address
+abbrev pub beside : List Range → Range → Addr → Bool
+beside rs r a = is_covered rs a || covers r a
+
+-- the ranges or one of the two beside them cover the address
+abbrev pub beside_two : List Range → Range → Range → Addr → Bool
+beside_two rs r s a = is_covered rs a || (covers r a || covers s a)

@@ -1,8 +1,8 @@
 //! What changed between two calculations, as ranges.
 ghost use Rattle.std.specs.Prelude.{◌≡◌, ◌++◌, ◌==◌, ◌||◌, [], true, length, OnOk, OnErr};
 ghost use Rattle.std.specs.List.{list_any};
-ghost use Rattle.gl_calculus.specs.Grid.{Addr as PlainAddr, addresses, covers};
-ghost use Rattle.gl_plane.specs.Changes.{is_covered, reaches, hull_covers};
+ghost use Rattle.gl_calculus.specs.Grid.{addresses, covers};
+ghost use Rattle.gl_plane.specs.Changes.{is_covered, reaches, hull_covers, Within};
 
 use crate::{Addr, NoMemory, Range};
 use std::alloc::Global;
@@ -58,8 +58,8 @@ impl Changes {
 
     /// Some address of the range has changed.
     ///
-    /// The time is that of one comparison where the range lies apart from all changes, and otherwise
-    /// that of one for each range that was added.
+    /// The time is that of one comparison where the range lies apart from all changes, and
+    /// otherwise that of one for each range that was added.
     pub fn touches(&self, r: &Range) -> bool
         ensures { result ≡ reaches self.now r.now }
     {
@@ -87,7 +87,7 @@ fn overlap_some(r: &Range, ranges: &[Range]) -> bool
 /// The least range that covers both.
 #[tactic(auto, using(crate::proofs::Ranges::around_both))]
 fn hull_of(a: &Range, b: &Range) -> Range
-    ensures { (p : PlainAddr) → (covers a.now p || covers b.now p) ≡ true → covers result p ≡ true }
+    ensures { Within (λ p. covers a.now p || covers b.now p) (covers result) }
 {
     let (first, last) = (a.first, a.last);
     let (top, bottom) = (b.first, b.last);
@@ -104,7 +104,7 @@ fn hull_of(a: &Range, b: &Range) -> Range
 
 /// A hull that covers the range, too.
 fn around(hull: Option<Range>, r: &Range) -> Range
-    ensures { (a : PlainAddr) → (hull_covers hull a || covers r.now a) ≡ true → covers result a ≡ true }
+    ensures { Within (λ a. hull_covers hull a || covers r.now a) (covers result) }
 {
     match hull {
         None => *r,
@@ -114,7 +114,7 @@ fn around(hull: Option<Range>, r: &Range) -> Range
 
 /// A hull that covers the ranges, too.
 fn widened(hull: Option<Range>, more: &[Range]) -> Option<Range>
-    ensures { (a : PlainAddr) → (hull_covers hull a || is_covered more.now a) ≡ true → hull_covers result a ≡ true }
+    ensures { Within (λ a. hull_covers hull a || is_covered more.now a) (hull_covers result) }
 {
     let mut wide = hull;
     for r in more {

@@ -1,12 +1,14 @@
 //! Where two oracles differ, as ranges.
-ghost use Rattle.std.specs.Prelude.{◌≡◌, ◌++◌, ◌∷◌, [], ◌+◌, ◌<◌, length, drop, IfOk, OnOk, if◌then◌else◌};
-ghost use Rattle.std.specs.List.{list_any};
-ghost use Rattle.gl_calculus.specs.Grid.{Addr as PlainAddr, covers, single};
+ghost use Rattle.std.specs.Prelude.{◌≡◌, ◌++◌, [], ◌<◌, length, IfOk, OnOk};
 ghost use Rattle.gl_calculus.specs.Memory.{differs_at};
 ghost use Rattle.gl_calculus.specs.Oracle.{IsInOrder, entry_at};
+<<<<<<< HEAD
 ghost use Rattle.gl_calculus.specs.Same.{same_permit};
+=======
+>>>>>>> b8ebc19a24cfe4186d085dc10139c03368d7cdea
 ghost use Rattle.gl_calculus.specs.Differences.{AreApart, minus, own_places, by_both, by_entry, by_new, differences};
-ghost use Rattle.gl_plane.specs.Listed.{between, by_entries, by_news};
+ghost use Rattle.gl_plane.specs.Listed.{between, by_entries, by_news, root_apart, ListsEntry, ListsNew};
+ghost use Rattle.gl_plane.specs.Changes.{AreWhere};
 ghost use Rattle.gl_plane.specs.Entries.{spilt_area};
 
 use crate::{Addr, Entry, NoMemory, Oracle, Permit, Range};
@@ -19,7 +21,7 @@ impl Oracle {
     pub fn differences(&self, alloc: Global, other: &Oracle) -> Result<Vec<Range>, NoMemory>
         requires apart { AreApart self.now }
         requires other_apart { AreApart other.now }
-        ensures tells { IfOk result (λ v. (a : PlainAddr) → list_any (λ r. covers r a) v.items ≡ differs_at [] self.now other.now a) }
+        ensures tells { IfOk result (λ v. AreWhere v.items (differs_at [] self.now other.now)) }
     {
         match self.first_difference(other) {
             None => Ok(Vec::new(alloc)),
@@ -32,62 +34,70 @@ fn all_differences(alloc: Global, mine: &Oracle, theirs: &Oracle) -> Result<Vec<
     ensures all { IfOk result (λ v. v.items ≡ differences mine.now theirs.now) }
     ensures ordered { IfOk result (λ _. IsInOrder mine.now × IsInOrder theirs.now) }
 {
-    let mut ranges = Vec::new(alloc);
-    push_by_entries(&mut ranges, mine, theirs)?;
-    push_by_new(&mut ranges, mine, theirs)?;
-    Ok(ranges)
+    let mut out = Vec::new(alloc);
+    push_by_entries(&mut out, mine, theirs)?;
+    push_by_new(&mut out, mine, theirs)?;
+    Ok(out)
 }
 
 /// What the entries of the first oracle say that those of the second don't.
-fn push_by_entries(ranges: &mut Vec<Range>, mine: &Oracle, theirs: &Oracle) -> Result<(), NoMemory>
+fn push_by_entries(out: &mut Vec<Range>, mine: &Oracle, theirs: &Oracle) -> Result<(), NoMemory>
     ensures ordered { IsInOrder mine.now }
-    ensures by_entries { OnOk result (ranges.new.items ≡ ranges.old.items ++ by_entries theirs.now mine.now) }
+    ensures list { OnOk result (out.new.items ≡ out.old.items ++ by_entries theirs.now mine.now) }
 {
     for i in 0..mine.len() {
-        push_entry_at(ranges, mine, theirs, i)?;
+        push_entry_at(out, mine, theirs, i)?;
     }
     Ok(())
 }
 
 #[tactic(auto, using(crate::proofs::Listing::entry_listed))]
 fn push_entry_at(
-    ranges: &mut Vec<Range>,
+    out: &mut Vec<Range>,
     mine: &Oracle,
     theirs: &Oracle,
     i: usize,
 ) -> Result<(), NoMemory>
     requires { i < length mine.now }
-    ensures { OnOk result (ranges.new.items ++ by_entries theirs.now (drop (i + 1) mine.now) ≡ ranges.old.items ++ by_entries theirs.now (drop i mine.now)) }
+    ensures { OnOk result (ListsEntry theirs.now mine.now i out.old.items out.new.items) }
 {
     match mine.at(i) {
+<<<<<<< HEAD
         Some(x) => push_by_entry(ranges, &x, entry_near(theirs, i, x.root)),
+=======
+        Some(x) => push_by_entry(out, &x, entry_near(theirs, i, x.root)),
+>>>>>>> b8ebc19a24cfe4186d085dc10139c03368d7cdea
         None => Ok(()),
     }
 }
 
 /// What only the second oracle has entries of.
-fn push_by_new(ranges: &mut Vec<Range>, mine: &Oracle, theirs: &Oracle) -> Result<(), NoMemory>
+fn push_by_new(out: &mut Vec<Range>, mine: &Oracle, theirs: &Oracle) -> Result<(), NoMemory>
     ensures ordered { IsInOrder theirs.now }
-    ensures by_new { OnOk result (ranges.new.items ≡ ranges.old.items ++ by_news mine.now theirs.now) }
+    ensures list { OnOk result (out.new.items ≡ out.old.items ++ by_news mine.now theirs.now) }
 {
     for i in 0..theirs.len() {
-        push_new_at(ranges, mine, theirs, i)?;
+        push_new_at(out, mine, theirs, i)?;
     }
     Ok(())
 }
 
 #[tactic(auto, using(crate::proofs::Listing::new_listed))]
 fn push_new_at(
-    ranges: &mut Vec<Range>,
+    out: &mut Vec<Range>,
     mine: &Oracle,
     theirs: &Oracle,
     i: usize,
 ) -> Result<(), NoMemory>
     requires { i < length theirs.now }
-    ensures { OnOk result (ranges.new.items ++ by_news mine.now (drop (i + 1) theirs.now) ≡ ranges.old.items ++ by_news mine.now (drop i theirs.now)) }
+    ensures { OnOk result (ListsNew mine.now theirs.now i out.old.items out.new.items) }
 {
     match theirs.at(i) {
+<<<<<<< HEAD
         Some(y) => push_new(ranges, &y, entry_near(mine, i, y.root)),
+=======
+        Some(y) => push_new(out, &y, entry_near(mine, i, y.root)),
+>>>>>>> b8ebc19a24cfe4186d085dc10139c03368d7cdea
         None => Ok(()),
     }
 }
@@ -97,6 +107,7 @@ fn push_new_at(
 #[tactic(auto, using(crate::proofs::Listing::found_there))]
 fn entry_near(w: &Oracle, i: usize, root: Addr) -> Option<Entry>
     ensures { result ≡ entry_at w.now root }
+<<<<<<< HEAD
 {
     match w.at(i) {
         Some(x) => {
@@ -112,71 +123,88 @@ fn entry_near(w: &Oracle, i: usize, root: Addr) -> Option<Entry>
 
 fn push_by_entry(ranges: &mut Vec<Range>, x: &Entry, other: Option<Entry>) -> Result<(), NoMemory>
     ensures { OnOk result (ranges.new.items ≡ ranges.old.items ++ by_entry x.now other) }
+=======
+>>>>>>> b8ebc19a24cfe4186d085dc10139c03368d7cdea
 {
-    match other {
-        None => push_own(ranges, x),
-        Some(y) => push_by_both(ranges, x, &y),
+    match w.at(i) {
+        Some(x) => {
+            if x.root == root {
+                Some(x)
+            } else {
+                w.entry(root)
+            }
+        }
+        None => w.entry(root),
     }
 }
 
-fn push_new(ranges: &mut Vec<Range>, y: &Entry, other: Option<Entry>) -> Result<(), NoMemory>
-    ensures { OnOk result (ranges.new.items ≡ ranges.old.items ++ by_new y.now other) }
+fn push_by_entry(out: &mut Vec<Range>, x: &Entry, other: Option<Entry>) -> Result<(), NoMemory>
+    ensures { OnOk result (out.new.items ≡ out.old.items ++ by_entry x.now other) }
 {
     match other {
-        None => push_own(ranges, y),
+        None => push_own(out, x),
+        Some(y) => push_by_both(out, x, &y),
+    }
+}
+
+fn push_new(out: &mut Vec<Range>, y: &Entry, other: Option<Entry>) -> Result<(), NoMemory>
+    ensures { OnOk result (out.new.items ≡ out.old.items ++ by_new y.now other) }
+{
+    match other {
+        None => push_own(out, y),
         Some(_) => Ok(()),
     }
 }
 
 /// The root of an entry that the other oracle lacks, and its area where it spills.
-fn push_own(ranges: &mut Vec<Range>, x: &Entry) -> Result<(), NoMemory>
-    ensures { OnOk result (ranges.new.items ≡ ranges.old.items ++ own_places x.now) }
+fn push_own(out: &mut Vec<Range>, x: &Entry) -> Result<(), NoMemory>
+    ensures { OnOk result (out.new.items ≡ out.old.items ++ own_places x.now) }
 {
-    ranges.push(Range::new(x.root, x.root))?;
+    out.push(Range::new(x.root, x.root))?;
     if let Some(area) = spilt_area(x) {
-        ranges.push(area)?;
+        out.push(area)?;
     }
     Ok(())
 }
 
 /// The root of two entries where their permits differ, and what only one of them spills over.
 #[tactic(auto, using(crate::proofs::Listing::both_listed))]
-fn push_by_both(ranges: &mut Vec<Range>, x: &Entry, y: &Entry) -> Result<(), NoMemory>
-    ensures { OnOk result (ranges.new.items ≡ ranges.old.items ++ by_both x.now y.now) }
+fn push_by_both(out: &mut Vec<Range>, x: &Entry, y: &Entry) -> Result<(), NoMemory>
+    ensures { OnOk result (out.new.items ≡ out.old.items ++ by_both x.now y.now) }
 {
-    push_root(ranges, x, y)?;
-    push_areas(ranges, spilt_area(x), spilt_area(y))
+    push_root(out, x, y)?;
+    push_areas(out, spilt_area(x), spilt_area(y))
 }
 
 /// The root of two entries where their permits differ.
-fn push_root(ranges: &mut Vec<Range>, x: &Entry, y: &Entry) -> Result<(), NoMemory>
-    ensures { OnOk result (ranges.new.items ≡ ranges.old.items ++ (if same_permit y.now.permit x.now.permit then [] else single x.now.root ∷ [])) }
+fn push_root(out: &mut Vec<Range>, x: &Entry, y: &Entry) -> Result<(), NoMemory>
+    ensures { OnOk result (out.new.items ≡ out.old.items ++ root_apart x.now y.now) }
 {
     if y.permit != x.permit {
-        ranges.push(Range::new(x.root, x.root))?;
+        out.push(Range::new(x.root, x.root))?;
     }
     Ok(())
 }
 
 /// What only one of two areas with the same first corner covers.
-fn push_areas(ranges: &mut Vec<Range>, x: Option<Range>, y: Option<Range>) -> Result<(), NoMemory>
-    ensures { OnOk result (ranges.new.items ≡ ranges.old.items ++ between x y) }
+fn push_areas(out: &mut Vec<Range>, x: Option<Range>, y: Option<Range>) -> Result<(), NoMemory>
+    ensures { OnOk result (out.new.items ≡ out.old.items ++ between x y) }
 {
     match (x, y) {
         (Some(a), Some(b)) => {
-            push_minus(ranges, &a, &b)?;
-            push_minus(ranges, &b, &a)
+            push_minus(out, &a, &b)?;
+            push_minus(out, &b, &a)
         }
-        (Some(a), None) => Ok(ranges.push(a)?),
-        (None, Some(b)) => Ok(ranges.push(b)?),
+        (Some(a), None) => Ok(out.push(a)?),
+        (None, Some(b)) => Ok(out.push(b)?),
         (None, None) => Ok(()),
     }
 }
 
 /// What of the first range is not in the second, which has the same first corner: below it, and to
 /// its right.
-fn push_minus(ranges: &mut Vec<Range>, a: &Range, b: &Range) -> Result<(), NoMemory>
-    ensures { OnOk result (ranges.new.items ≡ ranges.old.items ++ minus a.now b.now) }
+fn push_minus(out: &mut Vec<Range>, a: &Range, b: &Range) -> Result<(), NoMemory>
+    ensures { OnOk result (out.new.items ≡ out.old.items ++ minus a.now b.now) }
 {
     let (first, last, end) = (a.first, a.last, b.last);
     if end.row < last.row {
@@ -184,14 +212,14 @@ fn push_minus(ranges: &mut Vec<Range>, a: &Range, b: &Range) -> Result<(), NoMem
             row: end.row + 1,
             col: first.col,
         };
-        ranges.push(Range::new(below, last))?;
+        out.push(Range::new(below, last))?;
     }
     if end.col < last.col {
         let right = Addr {
             row: first.row,
             col: end.col + 1,
         };
-        ranges.push(Range::new(right, last))?;
+        out.push(Range::new(right, last))?;
     }
     Ok(())
 }

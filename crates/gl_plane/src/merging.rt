@@ -1,8 +1,8 @@
 //! Few ranges for many addresses.
-ghost use Rattle.std.specs.Prelude.{◌≡◌, ◌||◌, map, IsTrue, IfOk, IfSome, OnOk};
+ghost use Rattle.std.specs.Prelude.{◌≡◌, map, IsTrue, IfOk, IfSome, OnOk};
 ghost use Rattle.std.specs.List.{list_any};
-ghost use Rattle.gl_calculus.specs.Grid.{Addr as PlainAddr, covers, range, same_addr, single};
-ghost use Rattle.gl_plane.specs.Changes.{is_covered, IsBoth};
+ghost use Rattle.gl_calculus.specs.Grid.{range, same_addr, single};
+ghost use Rattle.gl_plane.specs.Changes.{AreWhere, is_covered, beside, beside_two, IsBoth};
 ghost use Rattle.gl_plane.specs.Parts.{is_ordered};
 
 use crate::{Addr, NoMemory, Range};
@@ -12,7 +12,7 @@ use std::alloc::Global;
 /// each other in the list, as those of an edited block do.
 #[tactic(auto, using(crate::proofs::Ranges::singles_covered))]
 pub fn merged(alloc: Global, places: &[Addr]) -> Result<Vec<Range>, NoMemory>
-    ensures { IfOk result (λ v. (a : PlainAddr) → list_any (λ r. covers r a) v.items ≡ list_any (same_addr a) places.now) }
+    ensures { IfOk result (λ v. AreWhere v.items (λ a. list_any (same_addr a) places.now)) }
 {
     let ranges = singles(alloc, places)?;
     // the first pass joins addresses to rows or columns, the second one joins those to blocks
@@ -33,7 +33,7 @@ fn singles(alloc: Global, places: &[Addr]) -> Result<Vec<Range>, NoMemory>
 
 /// The same addresses by no more ranges.
 fn joined(alloc: Global, ranges: &[Range]) -> Result<Vec<Range>, NoMemory>
-    ensures { IfOk result (λ v. (a : PlainAddr) → is_covered v.items a ≡ is_covered ranges.now a) }
+    ensures { IfOk result (λ v. AreWhere v.items (is_covered ranges.now)) }
 {
     let mut fewer = Vec::new(alloc);
     for r in ranges {
@@ -44,7 +44,7 @@ fn joined(alloc: Global, ranges: &[Range]) -> Result<Vec<Range>, NoMemory>
 
 /// One more range, joined to the last one where the two make one.
 fn push_joined(ranges: &mut Vec<Range>, next: &Range) -> Result<(), NoMemory>
-    ensures { OnOk result ((a : PlainAddr) → is_covered ranges.new.items a ≡ (is_covered ranges.old.items a || covers next.now a)) }
+    ensures { OnOk result (AreWhere ranges.new.items (beside ranges.old.items next.now)) }
 {
     match ranges.pop() {
         None => ranges.push(*next)?,
@@ -55,7 +55,7 @@ fn push_joined(ranges: &mut Vec<Range>, next: &Range) -> Result<(), NoMemory>
 
 /// Two more ranges, as one where they make one.
 fn push_two(ranges: &mut Vec<Range>, last: &Range, next: &Range) -> Result<(), NoMemory>
-    ensures { OnOk result ((a : PlainAddr) → is_covered ranges.new.items a ≡ (is_covered ranges.old.items a || (covers last.now a || covers next.now a))) }
+    ensures { OnOk result (AreWhere ranges.new.items (beside_two ranges.old.items last.now next.now)) }
 {
     match one_range(last, next) {
         Some(both) => ranges.push(both)?,

@@ -132,8 +132,8 @@ affected_gone K A same touches ts changed ks k eq d o h = iff (has_member same k
 
     reached : (j : K) → IsAffected same touches ts changed j → Member j gone
     reached = affected_has same touches ts changed (λ j. Member j gone) (λ x y e m. subst (λ u. Member u gone) (sym (eq.0 x y e)) m)
-      (λ t m l. goes (note_of t) (noted same touches changed ts t m) (left (list_any touched t.looked) (list_any (λ i. has_member same i gone) t.reads) l))
-      (λ t i m r f. goes (note_of t) (noted same touches changed ts t m)
+        (λ t m l. goes (note_of t) (noted same touches changed ts t m) (left (list_any touched t.looked) (list_any (λ i. has_member same i gone) t.reads) l))
+        (λ t i m r f. goes (note_of t) (noted same touches changed ts t m)
         (right (list_any touched t.looked) (list_any (λ i. has_member same i gone) t.reads) (member_any (λ i. has_member same i gone) t.reads i r (has_it same eq i gone f))))
 
     forth : has_member same k ks ≡ true → has_member same k gone ≡ true

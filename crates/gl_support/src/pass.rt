@@ -1,11 +1,10 @@
 //! One pass over rows in the order of noting.
-ghost use Rattle.std.specs.Prelude.{◌≡◌, ◌<◌, ◌||◌, ◌&&◌, ℕ, true, [], nat_eq, All, IfOk, vec_len};
+ghost use Rattle.std.specs.Prelude.{◌≡◌, ◌<◌, ℕ, true, [], All, IfOk, vec_len};
 ghost use Rattle.std.specs.List.{list_any};
-ghost use Rattle.gl_query.specs.Lists.{Member, AreDistinct, has_member};
-ghost use Rattle.gl_query.specs.Remembered.{Note, IsReached};
-ghost use Rattle.gl_query.specs.InOrder.{AreOrdered, note_keys, must_go, gone_after};
-ghost use Rattle.gl_support.specs.Reach.{is_marked, has};
-ghost use Rattle.gl_support.specs.Rows.{note_of, notes_of, AreMarked, AreBelow};
+ghost use Rattle.gl_query.specs.Lists.{Member, AreDistinct};
+ghost use Rattle.gl_query.specs.InOrder.{AreOrdered, note_keys};
+ghost use Rattle.gl_support.specs.Reach.{is_marked};
+ghost use Rattle.gl_support.specs.Rows.{notes_of, AreMarked, AreBelow, gone_numbers, Goes, marked_or_read, AreFollowed, AreReached};
 
 use crate::row::{Row, is_marked, mark_all};
 use crate::touched::{Touched, any_touched};
@@ -22,7 +21,7 @@ pub fn mark<O, A, T: Touched<A>>(
     changed: &T,
 ) -> Result<Vec<bool>, NoMemory>
     requires { AreBelow numbers rows.now }
-    ensures { IfOk result (λ m. (k : ℕ) → is_marked m.items k ≡ has_member nat_eq k (gone_after nat_eq (T.touches changed.now) [] (notes_of rows.now))) }
+    ensures { IfOk result (λ m. AreMarked m.items (gone_numbers (T.touches changed.now) rows.now)) }
 {
     let mut gone = vec![in alloc; false; numbers]?;
     for row in rows {
@@ -41,7 +40,7 @@ fn any_marked(marks: &[bool], reads: &[u32]) -> bool
 
 /// Whether the row goes.
 fn goes<O, A, T: Touched<A>>(changed: &T, gone: &[bool], row: &Row<O, A>) -> bool
-    ensures { (ks : _) → AreMarked gone.now ks → result ≡ must_go nat_eq (T.touches changed.now) ks (note_of row.now) }
+    ensures { Goes (T.touches changed.now) gone.now row.now result }
 {
     any_touched(changed, &row.looked) || any_marked(gone, &row.reads)
 }
@@ -59,8 +58,8 @@ pub fn wanted<O, A>(
     requires ordered { AreOrdered [] (notes_of rows.now) }
     requires apart { AreDistinct (note_keys (notes_of rows.now)) }
     ensures seeds { IfOk result (λ m. (s : ℕ) → Member s seeds.now → is_marked m.items s ≡ true) }
-    ensures closed { IfOk result (λ m. (n : Note ℕ O A) → Member n (notes_of rows.now) → is_marked m.items n.key ≡ true → (j : ℕ) → Member j n.reads → is_marked m.items j ≡ true) }
-    ensures reached { IfOk result (λ m. (k : ℕ) → is_marked m.items k ≡ true → (s : ℕ) × Member s seeds.now × IsReached (notes_of rows.now) s k) }
+    ensures closed { IfOk result (λ m. AreFollowed (notes_of rows.now) m.items) }
+    ensures reached { IfOk result (λ m. AreReached (notes_of rows.now) seeds.now m.items) }
 {
     let mut marks = vec![in alloc; false; numbers]?;
     mark_all(&mut marks, seeds);
@@ -75,7 +74,7 @@ pub fn wanted<O, A>(
 /// Marks what the row read, if it is marked itself.
 fn follow<O, A>(marks: &mut Vec<bool>, row: &Row<O, A>)
     requires { All (λ k. k < vec_len marks.old) row.now.reads.items }
-    ensures marks { (k : ℕ) → is_marked marks.new.items k ≡ (is_marked marks.old.items k || (is_marked marks.old.items row.now.by && has row.now.reads.items k)) }
+    ensures marks { (k : ℕ) → is_marked marks.new.items k ≡ marked_or_read marks.old.items row.now k }
     ensures size { vec_len marks.new ≡ vec_len marks.old }
 {
     if is_marked(marks, row.by) {

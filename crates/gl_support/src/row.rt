@@ -1,6 +1,7 @@
 //! Notes whose keys are numbers.
-ghost use Rattle.std.specs.Prelude.{◌≡◌, ◌<◌, ◌||◌, ℕ, All, filter, not, vec_len};
-ghost use Rattle.gl_support.specs.Reach.{is_marked, has};
+ghost use Rattle.std.specs.Prelude.{◌≡◌, ◌<◌, ℕ, All, filter, not, vec_len};
+ghost use Rattle.gl_support.specs.Reach.{is_marked};
+ghost use Rattle.gl_support.specs.Rows.{marked_or};
 
 /// What a key gave, with the keys that it read and the places that it looked at. Keys are numbers.
 #[derive(Drop)]
@@ -24,7 +25,7 @@ pub fn is_marked(marks: &[bool], k: u32) -> bool
 /// Marks the numbers.
 pub fn mark_all(marks: &mut Vec<bool>, numbers: &[u32])
     requires { All (λ k. k < vec_len marks.old) numbers.now }
-    ensures marks { (k : ℕ) → is_marked marks.new.items k ≡ (is_marked marks.old.items k || has numbers.now k) }
+    ensures marks { (k : ℕ) → is_marked marks.new.items k ≡ marked_or marks.old.items numbers.now k }
     ensures size { vec_len marks.new ≡ vec_len marks.old }
 {
     for k in numbers {
