@@ -2,10 +2,6 @@
 ghost use Rattle.std.specs.Prelude.{◌≡◌, ◌++◌, [], ◌<◌, length, IfOk, OnOk};
 ghost use Rattle.gl_calculus.specs.Memory.{differs_at};
 ghost use Rattle.gl_calculus.specs.Oracle.{IsInOrder, entry_at};
-<<<<<<< HEAD
-ghost use Rattle.gl_calculus.specs.Same.{same_permit};
-=======
->>>>>>> b8ebc19a24cfe4186d085dc10139c03368d7cdea
 ghost use Rattle.gl_calculus.specs.Differences.{AreApart, minus, own_places, by_both, by_entry, by_new, differences};
 ghost use Rattle.gl_plane.specs.Listed.{between, by_entries, by_news, root_apart, ListsEntry, ListsNew};
 ghost use Rattle.gl_plane.specs.Changes.{AreWhere};
@@ -62,11 +58,7 @@ fn push_entry_at(
     ensures { OnOk result (ListsEntry theirs.now mine.now i out.old.items out.new.items) }
 {
     match mine.at(i) {
-<<<<<<< HEAD
-        Some(x) => push_by_entry(ranges, &x, entry_near(theirs, i, x.root)),
-=======
         Some(x) => push_by_entry(out, &x, entry_near(theirs, i, x.root)),
->>>>>>> b8ebc19a24cfe4186d085dc10139c03368d7cdea
         None => Ok(()),
     }
 }
@@ -93,11 +85,7 @@ fn push_new_at(
     ensures { OnOk result (ListsNew mine.now theirs.now i out.old.items out.new.items) }
 {
     match theirs.at(i) {
-<<<<<<< HEAD
-        Some(y) => push_new(ranges, &y, entry_near(mine, i, y.root)),
-=======
         Some(y) => push_new(out, &y, entry_near(mine, i, y.root)),
->>>>>>> b8ebc19a24cfe4186d085dc10139c03368d7cdea
         None => Ok(()),
     }
 }
@@ -107,24 +95,6 @@ fn push_new_at(
 #[tactic(auto, using(crate::proofs::Listing::found_there))]
 fn entry_near(w: &Oracle, i: usize, root: Addr) -> Option<Entry>
     ensures { result ≡ entry_at w.now root }
-<<<<<<< HEAD
-{
-    match w.at(i) {
-        Some(x) => {
-            if x.root == root {
-                Some(x)
-            } else {
-                w.entry(root)
-            }
-        }
-        None => w.entry(root),
-    }
-}
-
-fn push_by_entry(ranges: &mut Vec<Range>, x: &Entry, other: Option<Entry>) -> Result<(), NoMemory>
-    ensures { OnOk result (ranges.new.items ≡ ranges.old.items ++ by_entry x.now other) }
-=======
->>>>>>> b8ebc19a24cfe4186d085dc10139c03368d7cdea
 {
     match w.at(i) {
         Some(x) => {
