@@ -1,7 +1,6 @@
 //! The rule by which the next key is picked, stored beside what it answers to.
 #![tactic(auto)]
 
-
 ghost use Rattle.std.specs.Prelude.{◌≡◌, ◌<◌, ◌≤◌};
 ghost use Rattle.gl_order.specs.Rule.{PicksBelow, rule_of, place};
 
