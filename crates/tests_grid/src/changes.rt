@@ -34,7 +34,10 @@ const EDITS: [Edit; 10] = [
     (&["B2", "C2", "B3", "C3", "B4", "C4"], &["B2:C4"]),
     (&["B2", "B3", "B4", "C2", "C3", "C4"], &["B2:C4"]),
     (&["C3", "B3", "C2", "B2"], &["B2:C3"]),
-    (&["A1", "C3", "E1", "B2"], &["A1:A1", "C3:C3", "E1:E1", "B2:B2"]),
+    (
+        &["A1", "C3", "E1", "B2"],
+        &["A1:A1", "C3:C3", "E1:E1", "B2:B2"],
+    ),
 ];
 
 fn merges(alloc: Global, edit: &Edit) -> Result<bool, Fail> {
@@ -59,41 +62,69 @@ fn changes_of(alloc: Global, first: &[&str], more: &[&str]) -> Result<Changes, F
     Ok(changes)
 }
 
+/// Ranges that are added first and later, and whether the changes are empty then.
+type Adding = (&'static [&'static str], &'static [&'static str], bool);
+
+const ADDINGS: [Adding; 4] = [
+    (&[], &[], true),
+    (&["A1:A1"], &[], false),
+    (&[], &["A1:B3"], false),
+    (&["A1:A1"], &["A1:A1"], false),
+];
+
+fn is_empty_after(alloc: Global, adding: &Adding) -> Result<bool, Fail> {
+    Ok(changes_of(alloc, adding.0, adding.1)?.is_empty())
+}
+
 #[test]
 fn nothing_added_is_empty(rt: HostRuntime) -> Result<(), Fail> {
-    let rows: [(&[&str], &[&str], bool); 4] = [
-        (&[], &[], true),
-        (&["A1:A1"], &[], false),
-        (&[], &["A1:B3"], false),
-        (&["A1:A1"], &["A1:A1"], false),
-    ];
-    for (first, more, empty) in rows {
-        let changes = changes_of(rt.alloc(), first, more)?;
-        assert_eq!(rt; changes.is_empty(), empty, "{first:?} {more:?}");
+    for adding in &ADDINGS {
+        assert_eq!(rt;
+            is_empty_after(rt.alloc(), adding)?,
+            adding.2,
+            "{:?}",
+            adding.0
+        );
     }
     Ok(())
 }
 
+/// Whether the place is touched where these ranges are added one after another.
+fn is_touched(alloc: Global, ranges: &[&str], place: &str) -> Result<bool, Fail> {
+    let mut changes = Changes::new(alloc);
+    for name in ranges {
+        changes.add(&[range(name)?])?;
+    }
+    Ok(changes.touches(&range(place)?))
+}
+
 #[test]
 fn places_are_touched(rt: HostRuntime) -> Result<(), Fail> {
-    let rows: [(&[&str], &[&str], &str, bool); 11] = [
-        (&[], &[], "A1:ZZ9999", false),
-        // between the two ranges, beside both, and in one of them
-        (&["B2:B2"], &["D5:E6"], "C3:C4", false),
-        (&["B2:B2"], &["D5:E6"], "D1:E4", false),
-        (&["B2:B2"], &["D5:E6"], "A1:A9", false),
-        (&["B2:B2"], &["D5:E6"], "B7:F9", false),
-        (&["B2:B2"], &["D5:E6"], "F2:F6", false),
-        (&["B2:B2"], &["D5:E6"], "B2:B2", true),
-        (&["D5:E6"], &["B2:B2"], "A1:C4", true),
-        (&["B2:B2", "D5:E6"], &[], "E6:F9", true),
-        (&["D5:E6", "B2:B2"], &[], "A5:Z5", true),
-        (&["B2:B2"], &["D5:E6"], "A1:ZZ9999", true),
-    ];
-    for (first, more, place, want) in rows {
-        let changes = changes_of(rt.alloc(), first, more)?;
-        let place = range(place)?;
-        assert_eq!(rt; changes.touches(&place), want, "{place:?} of {first:?}");
+    // between the ranges, beside them, and in one of them
+    for (place, want) in [
+        ("C3:C4", false),
+        ("D1:E4", false),
+        ("A1:A9", false),
+        ("B7:F9", false),
+        ("F2:F6", false),
+        ("B2:B2", true),
+        ("A1:C4", true),
+        ("E6:F9", true),
+        ("A5:Z5", true),
+        ("A1:ZZ9999", true),
+    ] {
+        let alloc = rt.alloc();
+        assert!(rt; !is_touched(alloc, &[], place)?, "{place}");
+        assert_eq!(rt;
+            is_touched(alloc, &["B2:B2", "D5:E6"], place)?,
+            want,
+            "{place}"
+        );
+        assert_eq!(rt;
+            is_touched(alloc, &["D5:E6", "B2:B2"], place)?,
+            want,
+            "{place}"
+        );
     }
     Ok(())
 }

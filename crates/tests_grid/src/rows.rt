@@ -39,6 +39,16 @@ fn rows_of(alloc: Global) -> Result<Rows, Fail> {
     Ok(rows)
 }
 
+fn all_below(numbers: &[u32], end: u32) -> bool
+    ensures all { IsTrue result → All (λ k. k < end) numbers.now }
+    ensures each { IsTrue result → (j : ℕ) → Member j numbers.now → j < end }
+{
+    let Some((first, rest)) = numbers.split_first() else {
+        return true;
+    };
+    *first < end && all_below(rest, end)
+}
+
 /// The rows have the numbers from this one on, one after another and below the other one, and each
 /// read only numbers before its own.
 fn are_in_order(rows: &[Row<u32, Range>], from: u32, numbers: u32) -> bool
@@ -53,7 +63,7 @@ fn are_in_order(rows: &[Row<u32, Range>], from: u32, numbers: u32) -> bool
     if first.by != from || from >= numbers {
         return false;
     }
-    if !first.reads.iter().all(|k| *k < from) {
+    if !all_below(&first.reads, from) {
         return false;
     }
     are_in_order(rest, from + 1, numbers)
@@ -153,7 +163,7 @@ fn marked_rows_are_dropped(rt: HostRuntime) -> Result<(), Fail> {
 /// The numbers that these ones rest on.
 fn wanted_from(alloc: Global, seeds: &[u32]) -> Result<Vec<u32>, Fail> {
     let rows = rows_of(alloc)?;
-    if !are_in_order(&rows, 0, 5) || !seeds.iter().all(|s| *s < 5) {
+    if !are_in_order(&rows, 0, 5) || !all_below(seeds, 5) {
         return Err("not in order".into());
     }
     numbers_of(alloc, &wanted(alloc, &rows, 5, seeds)?)
@@ -171,7 +181,11 @@ fn what_seeds_rest_on_is_wanted(rt: HostRuntime) -> Result<(), Fail> {
         (&[4, 2], &[0, 1, 2, 3, 4]),
     ];
     for (seeds, want) in rows {
-        assert_eq!(rt; wanted_from(rt.alloc(), seeds)?.as_slice(), want, "{seeds:?}");
+        assert_eq!(rt;
+            wanted_from(rt.alloc(), seeds)?.as_slice(),
+            want,
+            "{seeds:?}"
+        );
     }
     Ok(())
 }
