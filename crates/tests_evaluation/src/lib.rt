@@ -16,6 +16,10 @@ mod picks;
 #[cfg(test)]
 mod references;
 #[cfg(test)]
+mod resumed;
+#[cfg(test)]
+mod results;
+#[cfg(test)]
 mod runs;
 #[cfg(test)]
 mod sheets;

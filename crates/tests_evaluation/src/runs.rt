@@ -1,6 +1,7 @@
 //! Runs of a core over a sheet, by each pick rule.
-ghost use Rattle.std.specs.Prelude.{◌≡◌, ◌≤◌, IfOk, IsTrue, map};
+ghost use Rattle.std.specs.Prelude.{◌≡◌, ◌≤◌, [], IfOk, IsTrue, map};
 ghost use Rattle.gl_query.specs.Lists.{Member, AreDistinct};
+ghost use Rattle.gl_query.specs.InOrder.{AreOrdered};
 ghost use Rattle.gl_query.specs.Laws.{IsQuiet};
 ghost use Rattle.gl_query.specs.Remembered.{AreTrue};
 ghost use Rattle.gl_calculus.specs.Key as K;
@@ -12,12 +13,12 @@ ghost use Rattle.gl_cells.specs.Sheet.{sheet};
 ghost use Rattle.gl_memo.specs.Notes.{notes_of};
 ghost use Rattle.gl_demand.specs.View.{key_tree};
 ghost use Rattle.gl_demand.specs.Sound.{AreSoundKeys};
-ghost use Rattle.gl_core.specs.State.{state_of, seeds_of, note_trees, HaveSoundParts, IsFor};
+ghost use Rattle.gl_core.specs.State.{state_of, seeds_of, notes_in, note_trees, HaveSoundParts, IsFor};
 
 use crate::turns::{Setting, cells_at};
 use gl_cells::Cells;
 use gl_core::{Core, CoreFault, MAX_DEMANDED, Quiet, Seen};
-use gl_demand::{Budget, Key, Outcome, Silent, Steps, proper};
+use gl_demand::{Budget, Key, Outcome, Steps, Watch, proper};
 use gl_memo::Memo;
 use gl_order::{Order, by_kind};
 use gl_plane::Range;
@@ -44,7 +45,8 @@ fn value_seen(value: &Value) -> Sight {
     }
 }
 
-fn outcome_seen(outcome: &Outcome) -> Sight {
+/// What an outcome says of its key.
+pub fn outcome_seen(outcome: &Outcome) -> Sight {
     match outcome {
         Outcome::Value(value) => value_seen(value),
         Outcome::Settled(_) => Sight::Other,
@@ -67,7 +69,7 @@ pub fn seen_as(seen: Option<Seen<'_>>) -> Sight {
 }
 
 /// Whether the keys are distinct, and all are sound and proper.
-fn are_seeds(cells: &Cells, keys: &[Key]) -> bool
+pub fn are_seeds(cells: &Cells, keys: &[Key]) -> bool
     ensures apart { IsTrue result → AreDistinct (map key_tree keys.now) }
     ensures sound { IsTrue result → AreSoundKeys (map key_tree keys.now) }
     ensures proper { IsTrue result → (k : K.Key) → Member k (map key_tree keys.now) → IsProperKey (sheet cells.now) k }
@@ -118,17 +120,18 @@ pub fn fresh(at: &Setting<'_>, names: &[&str]) -> Result<Core, Fail>
 }
 
 /// Runs the core by the pick rule of a kind.
-pub fn run(
+pub fn run<L: Watch>(
     at: &Setting<'_>,
     core: Core,
     kind: u8,
-    steps: &mut Steps<Silent>,
+    steps: &mut Steps<L>,
 ) -> Result<Quiet, CoreFault>
     requires kind { kind ≤ 2 }
     requires for_it { IsFor (version_tree at.now.version) (sheet at.now.cells.now) at.now.w.now core }
     ensures quiet { IfOk result (λ q. IsQuiet same_key (program (version_tree at.now.version) (sheet at.now.cells.now) at.now.w.now) (seeds_of core) (state_of q)) }
     ensures seeds { IfOk result (λ q. seeds_of q ≡ seeds_of core) }
     ensures stays { IfOk result (λ q. IsFor (version_tree at.now.version) (sheet at.now.cells.now) at.now.w.now q) }
+    ensures ordered { IfOk result (λ q. AreOrdered [] (notes_in core) → AreOrdered [] (notes_in q)) }
 {
     let order = Order::new(by_kind);
     core.run_all(at.alloc, &order, kind, at.cells, at.w, at.version, steps)

@@ -1,3 +1,4 @@
 pub mod After
 pub mod OneContent
 pub mod Nothing
+pub mod InOrder

@@ -1,4 +1,7 @@
 //! Permits beside content and beside other arrays, and what is in the way of those that are refused.
+ghost use Rattle.std.specs.Prelude.{IfOk};
+ghost use Rattle.gl_calculus.specs.Differences.{AreApart};
+
 use gl_grant::{Blocks, Obstacle, blocker, grant, is_consistent};
 use gl_plane::{Addr, Oracle, Permit, Range, Sizes, whole_grid};
 use std::alloc::Global;
@@ -7,8 +10,8 @@ use tests_common::{address, size};
 
 // One address has content.
 #[derive(Clone, Copy)]
-struct OneContent {
-    at: Addr,
+pub struct OneContent {
+    pub at: Addr,
 }
 
 impl Blocks for OneContent {
@@ -29,7 +32,7 @@ impl Blocks for OneContent {
 
 // Appends an array whose address is after the last.
 #[tactic(auto, using(crate::proofs::After::in_order_after, crate::proofs::After::in_order_alone))]
-fn append(sizes: &mut Sizes, root: Addr, rows: u16, cols: u16) -> Result<(), Fail> {
+pub fn append(sizes: &mut Sizes, root: Addr, rows: u16, cols: u16) -> Result<(), Fail> {
     let count = sizes.len();
     if count > 0 {
         let last = sizes.at(count - 1).ok_or("last")?;
@@ -85,7 +88,11 @@ fn permits_and_obstacles(rt: HostRuntime) -> Result<(), Fail> {
     Ok(())
 }
 
-fn granted(alloc: Global, sizes: &Sizes, blocks: &OneContent) -> Result<Oracle, Fail> {
+// The permits of these arrays beside the content.
+#[tactic(auto, using(gl_calculus::proofs::Apart::apart))]
+pub fn granted(alloc: Global, sizes: &Sizes, blocks: &OneContent) -> Result<Oracle, Fail>
+    ensures { IfOk result AreApart }
+{
     match grant(alloc, sizes, &whole_grid(), blocks) {
         Ok(w) => Ok(w),
         Err(_) => Err("memory".into()),

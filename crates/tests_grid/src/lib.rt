@@ -2,6 +2,10 @@
 #![tactic(auto)]
 
 #[cfg(test)]
+mod changes;
+#[cfg(test)]
+mod differences;
+#[cfg(test)]
 mod grant;
 #[cfg(test)]
 mod memo;
@@ -13,5 +17,7 @@ mod plane;
 mod port;
 #[cfg(test)]
 mod rounds;
+#[cfg(test)]
+mod rows;
 #[cfg(test)]
 mod support;

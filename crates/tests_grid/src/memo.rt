@@ -1,5 +1,5 @@
 //! Notes in the order of their first insertions.
-use gl_memo::{Memo, Noted};
+use gl_memo::{Chosen, Memo, Noted};
 use indexmap::IndexSet;
 use std::alloc::Global;
 use std::process::Abort;
@@ -91,5 +91,33 @@ fn notes_are_removed_at_once(rt: HostRuntime) -> Result<(), Fail> {
     let mut memo = notes(rt.alloc(), &[(3, 30), (8, 10), (1, 10)])?;
     memo.remove_all(&set_of(rt.alloc(), &[8, 9, 3])?);
     assert_holds(&rt, &memo, &[(1, 10)]);
+    Ok(())
+}
+
+/// The keys below a number.
+struct Below(u32);
+
+impl Chosen<u32> for Below {
+    ghost use Rattle.std.specs.Prelude.{nat_lt};
+
+    ghost chosen = { λ s k. nat_lt k s.0 };
+
+    fn has(&self, k: &u32) -> bool {
+        *k < self.0
+    }
+}
+
+#[test]
+fn chosen_notes_are_kept(rt: HostRuntime) -> Result<(), Fail> {
+    let mut memo = notes(rt.alloc(), &[(5, 10), (3, 30), (8, 10), (1, 20)])?;
+    memo.keep(&Below(8));
+    assert_holds(&rt, &memo, &[(5, 10), (3, 30), (1, 20)]);
+    memo.shrink();
+    assert_holds(&rt, &memo, &[(5, 10), (3, 30), (1, 20)]);
+    memo.keep(&Below(1));
+    assert_holds(&rt, &memo, &[]);
+    memo.shrink();
+    put(rt.alloc(), &mut memo, 8, 40)?;
+    assert_holds(&rt, &memo, &[(8, 40)]);
     Ok(())
 }

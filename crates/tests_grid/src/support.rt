@@ -6,7 +6,7 @@ use std::test::Fail;
 use tests_common::range;
 
 #[derive(Clone, Copy, PartialEq, Eq, Hash, Debug)]
-struct Name(u32);
+pub struct Name(pub u32);
 
 impl Share for Name {
     ghost use Rattle.std.specs.Prelude.{◌≡◌};
