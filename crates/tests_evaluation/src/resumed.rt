@@ -109,12 +109,7 @@ fn results_of(at: &Setting<'_>, quiet: Quiet) -> Results
 }
 
 /// Runs these cells by the rule of a kind, beginning with results that are true.
-pub fn run_with(
-    at: &Setting<'_>,
-    names: &[&str],
-    results: Results,
-    kind: u8,
-) -> Result<Ran, Fail>
+pub fn run_with(at: &Setting<'_>, names: &[&str], results: Results, kind: u8) -> Result<Ran, Fail>
     requires kind { kind ≤ 2 }
     requires true_notes { AreTrue same_key (program (version_tree at.now.version) (sheet at.now.cells.now) at.now.w.now) results }
     ensures { IfOk result (λ r. AreTrue same_key (program (version_tree at.now.version) (sheet at.now.cells.now) at.now.w.now) r.results) }
