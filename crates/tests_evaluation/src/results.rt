@@ -111,6 +111,7 @@ struct Change {
 }
 
 const CHANGES: [Change; 6] = [
+    // nothing rests on it: all results stay, and no step is taken
     Change {
         place: "E5:F9",
         kept: 3,
