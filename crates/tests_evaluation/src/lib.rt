@@ -16,9 +16,9 @@ mod picks;
 #[cfg(test)]
 mod references;
 #[cfg(test)]
-mod resumed;
-#[cfg(test)]
 mod results;
+#[cfg(test)]
+mod resumed;
 #[cfg(test)]
 mod runs;
 #[cfg(test)]

@@ -62,10 +62,12 @@ fn begins_alike(at: &Setting<'_>, kind: u8) -> Result<bool, Fail>
     }
     let seen = seen_of(at.alloc, &quiet, 4)?;
     let ran = run_with(at, &FORMULAS, Results::new(at.alloc), kind)?;
-    Ok(seen.as_slice() == SEEN.as_slice()
-        && ran.seen.as_slice() == SEEN.as_slice()
-        && ran.known == quiet.len()
-        && ran.steps == steps.done())
+    Ok(
+        seen.as_slice() == SEEN.as_slice()
+            && ran.seen.as_slice() == SEEN.as_slice()
+            && ran.known == quiet.len()
+            && ran.steps == steps.done(),
+    )
 }
 
 #[test]
@@ -92,12 +94,7 @@ fn kept_after(at: &Setting<'_>, results: Results, place: &str) -> Result<Results
 }
 
 /// The results of a run over these formulas that stay where the range has changed.
-fn results_behind(
-    at: &Setting<'_>,
-    names: &[&str],
-    place: &str,
-    kind: u8,
-) -> Result<Results, Fail>
+fn results_behind(at: &Setting<'_>, names: &[&str], place: &str, kind: u8) -> Result<Results, Fail>
     requires { kind ≤ 2 }
     ensures { IfOk result (AreTrue same_key (program (version_tree at.now.version) (sheet at.now.cells.now) at.now.w.now)) }
 {
@@ -114,6 +111,7 @@ struct Change {
 }
 
 const CHANGES: [Change; 6] = [
+    // nothing rests on it: all results stay, and no step is taken
     Change {
         place: "E5:F9",
         kept: 3,
@@ -155,12 +153,14 @@ fn goes_on(at: &Setting<'_>, change: &Change, kind: u8) -> Result<bool, Fail>
     let count = kept.len();
     let ran = run_with(at, &CHAIN, kept, kind)?;
     let [b, c, d] = change.each[usize::from(kind)];
-    Ok(count == change.kept
-        && ran.each.as_slice() == [b, c, d].as_slice()
-        && ran.steps == b.saturating_add(c).saturating_add(d)
-        && ran.known == 3
-        && ran.results.len() == 3
-        && ran.seen.as_slice() == &SEEN[..3])
+    Ok(
+        count == change.kept
+            && ran.each.as_slice() == [b, c, d].as_slice()
+            && ran.steps == b.saturating_add(c).saturating_add(d)
+            && ran.known == 3
+            && ran.results.len() == 3
+            && ran.seen.as_slice() == &SEEN[..3],
+    )
 }
 
 #[test]
@@ -194,9 +194,21 @@ fn have(results: &Results, want: &[(&str, i64)]) -> Result<bool, Fail> {
     Ok(results.len() == want.len())
 }
 
+/// A range, and the cells whose outcomes stay where it has changed.
+type Staying = (&'static str, &'static [(&'static str, i64)]);
+
+const STAYING: [Staying; 5] = [
+    ("E5:F9", &[("B1", 6), ("C1", 7), ("D1", 7)]),
+    ("A1:A1", &[("D1", 7)]),
+    ("C1:C1", &[("B1", 6), ("D1", 7)]),
+    ("D1:D1", &[("B1", 6), ("C1", 7)]),
+    ("A1:D1", &[]),
+];
+
 /// The results of all formulas that stay where the range has changed, a copy of them, and both
 /// tidied, have just these outcomes.
-fn stay(at: &Setting<'_>, place: &str, want: &[(&str, i64)]) -> Result<bool, Fail> {
+fn stay(at: &Setting<'_>, row: &Staying) -> Result<bool, Fail> {
+    let (place, want) = *row;
     let mut kept = results_behind(at, &FORMULAS, place, 0)?;
     let mut copied = kept.copy(at.alloc)?;
     let alike = have(&kept, want)? && have(&copied, want)?;
@@ -210,15 +222,8 @@ fn outcomes_stay(rt: HostRuntime) -> Result<(), Fail> {
     let w = Oracle::new(rt.alloc());
     let cells = sheet_of(rt.alloc(), &LINES)?;
     let at = setting(rt.alloc(), &cells, &w);
-    let rows: [(&str, &[(&str, i64)]); 5] = [
-        ("E5:F9", &[("B1", 6), ("C1", 7), ("D1", 7)]),
-        ("A1:A1", &[("D1", 7)]),
-        ("C1:C1", &[("B1", 6), ("D1", 7)]),
-        ("D1:D1", &[("B1", 6), ("C1", 7)]),
-        ("A1:D1", &[]),
-    ];
-    for (place, want) in rows {
-        assert!(rt; stay(&at, place, want)?, "{place}");
+    for row in &STAYING {
+        assert!(rt; stay(&at, row)?, "{}", row.0);
     }
     Ok(())
 }

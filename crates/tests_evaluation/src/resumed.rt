@@ -45,6 +45,7 @@ pub struct Ran {
     pub each: Vec<u64>,
 }
 
+/// No step was taken for these cells yet.
 fn no_counts(alloc: Global, names: &[&str]) -> Result<Counts, Fail> {
     let mut counted = Vec::new(alloc);
     for name in names {
@@ -53,6 +54,7 @@ fn no_counts(alloc: Global, names: &[&str]) -> Result<Counts, Fail> {
     Ok(Counts { counted })
 }
 
+/// The steps for each key, in their order.
 fn numbers_of(alloc: Global, counts: &Counts) -> Result<Vec<u64>, Fail> {
     let mut numbers = Vec::new(alloc);
     for one in &counts.counted {
@@ -104,17 +106,11 @@ fn results_of(at: &Setting<'_>, quiet: Quiet) -> Results
     requires for_it { IsFor (version_tree at.now.version) (sheet at.now.cells.now) at.now.w.now quiet }
     ensures { AreTrue same_key (program (version_tree at.now.version) (sheet at.now.cells.now) at.now.w.now) result }
 {
-    let _same_setting = at;
     quiet.into_results()
 }
 
 /// Runs these cells by the rule of a kind, beginning with results that are true.
-pub fn run_with(
-    at: &Setting<'_>,
-    names: &[&str],
-    results: Results,
-    kind: u8,
-) -> Result<Ran, Fail>
+pub fn run_with(at: &Setting<'_>, names: &[&str], results: Results, kind: u8) -> Result<Ran, Fail>
     requires kind { kind ≤ 2 }
     requires true_notes { AreTrue same_key (program (version_tree at.now.version) (sheet at.now.cells.now) at.now.w.now) results }
     ensures { IfOk result (λ r. AreTrue same_key (program (version_tree at.now.version) (sheet at.now.cells.now) at.now.w.now) r.results) }

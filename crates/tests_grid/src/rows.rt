@@ -39,6 +39,7 @@ fn rows_of(alloc: Global) -> Result<Rows, Fail> {
     Ok(rows)
 }
 
+/// Each number is below the end.
 fn all_below(numbers: &[u32], end: u32) -> bool
     ensures all { IsTrue result → All (λ k. k < end) numbers.now }
     ensures each { IsTrue result → (j : ℕ) → Member j numbers.now → j < end }
