@@ -1,0 +1,5 @@
+pub mod Limits
+pub mod Replicas
+pub mod Joins
+pub mod Steps
+pub mod Laws
