@@ -1,0 +1,46 @@
+-- The addresses of steps.
+use Rattle.std.proofs.Common.{◌≡◌, ◌∙◌, List, [], ◌∷◌, map, Option, refl, sym, ap, subst}
+use Rattle.gl_query.specs.Lists.{AreDistinct}
+use Rattle.gl_calculus.specs.Grid.{Addr}
+use Rattle.gl_calculus.specs.Formula as F
+use Rattle.gl_edits.specs.Replicas as R
+use Rattle.gl_edits.specs.Steps as E
+use Rattle.gl_edits.specs.Steps.{befores, afters}
+use Rattle.gl_cells.specs.declared.content.Content.{Content}
+use Rattle.gl_undo.specs.declared.changes.Change.{Change}
+use Rattle.gl_undo.specs.View.{step_tree, changes_tree}
+
+-- the addresses of plain changes, of listed contents, and of a step
+abbrev plain_places : R.Changes → List Addr
+plain_places cs = map (λ (c : Addr × Option F.Content). c.0) cs
+
+abbrev listed_places : List (Addr × Option Content) → List Addr
+listed_places vs = map (λ (c : Addr × Option Content). c.0) vs
+
+abbrev step_places : List Change → List Addr
+step_places xs = map (λ (c : Change). c.place) xs
+
+of_listed : (vs : List (Addr × Option Content)) → plain_places (changes_tree vs) ≡ listed_places vs
+of_listed [] = refl
+of_listed (v ∷ vs) = ap (λ bs. v.0 ∷ bs) (of_listed vs)
+
+before : (xs : List Change) → plain_places (befores (step_tree xs)) ≡ step_places xs
+before [] = refl
+before (x ∷ xs) = ap (λ bs. x.place ∷ bs) (before xs)
+
+after : (xs : List Change) → plain_places (afters (step_tree xs)) ≡ step_places xs
+after [] = refl
+after (x ∷ xs) = ap (λ bs. x.place ∷ bs) (after xs)
+
+of_step : (S : F.Cells) (vs : List (Addr × Option Content)) → plain_places (befores (E.step_of S (changes_tree vs))) ≡ listed_places vs
+of_step S [] = refl
+of_step S (v ∷ vs) = ap (λ bs. v.0 ∷ bs) (of_step S vs)
+
+pub apart_before : (vs : List (Addr × Option Content)) (xs : List Change) → changes_tree vs ≡ befores (step_tree xs) → AreDistinct (step_places xs) → AreDistinct (listed_places vs)
+apart_before vs xs e h = subst AreDistinct (sym (sym (of_listed vs) ∙ ap plain_places e ∙ before xs)) h
+
+pub apart_after : (vs : List (Addr × Option Content)) (xs : List Change) → changes_tree vs ≡ afters (step_tree xs) → AreDistinct (step_places xs) → AreDistinct (listed_places vs)
+apart_after vs xs e h = subst AreDistinct (sym (sym (of_listed vs) ∙ ap plain_places e ∙ after xs)) h
+
+pub apart_step : (S : F.Cells) (vs : List (Addr × Option Content)) (xs : List Change) → step_tree xs ≡ E.step_of S (changes_tree vs) → AreDistinct (listed_places vs) → AreDistinct (step_places xs)
+apart_step S vs xs e h = subst AreDistinct (sym (sym (before xs) ∙ ap (λ d. plain_places (befores d)) e ∙ of_step S vs)) h

@@ -1,0 +1,22 @@
+-- The plain history that a history of the code stands for.
+use Rattle.std.specs.Prelude.{◌≡◌, List, map, Option, option_map, Vec}
+use Rattle.gl_calculus.specs.Grid.{Addr}
+use Rattle.gl_edits.specs.Replicas as R
+use Rattle.gl_edits.specs.Steps as E
+use Rattle.gl_edits.specs.Steps.{latest_step}
+use Rattle.gl_cells.specs.declared.content.Content.{Content}
+use Rattle.gl_undo.specs.declared.history.History.{History}
+use Rattle.gl_undo.specs.View.{step_tree, changes_tree}
+
+abbrev pub done : History → List E.Step
+done h = map {B = E.Step} step_tree h.rings.0
+
+abbrev pub undone : History → List E.Step
+undone h = map {B = E.Step} step_tree h.rings.1
+
+abbrev pub history_tree : History → E.History
+history_tree h = record { done = done h; undone = undone h }
+
+-- what is listed of the latest of these steps: nothing exactly where there is none
+abbrev pub TellsLatest : {Z : Type 0} → (E.Step → R.Changes) → Option (Vec (Addr × Option Content) Z) → List E.Step → Type 0
+TellsLatest f o ds = option_map (λ v. changes_tree v.items) o ≡ option_map f (latest_step ds)

@@ -1,0 +1,4 @@
+pub mod Rings
+pub mod View
+pub mod Made
+pub mod History
