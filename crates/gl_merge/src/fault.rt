@@ -1,0 +1,10 @@
+//! Why no room is made.
+use thiserror::Error;
+
+#[derive(Clone, Copy, Debug, PartialEq, Eq, Error)]
+pub enum RoomFault {
+    #[error("too many registers")]
+    Edits,
+    #[error("no memory")]
+    NoMemory,
+}
