@@ -1,0 +1,7 @@
+//! Tests of replicas, and of steps that are undone and done again.
+#![tactic(auto)]
+
+#[cfg(test)]
+mod replicas;
+#[cfg(test)]
+mod undo;

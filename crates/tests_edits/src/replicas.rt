@@ -1,0 +1,193 @@
+//! Replicas that take the same edits in any order, and their limits.
+ghost use Rattle.gl_language.specs.Content.{IsProperContent};
+ghost use Rattle.gl_cells.specs.Content.{content_tree};
+
+use gl_cells::Content;
+use gl_merge::{Edit, Judged, MAX_REGISTERS, MAX_TIME, Replica, RoomFault, Stamp};
+use gl_plane::Addr;
+use gl_value::Scalar;
+use std::alloc::Global;
+use std::test::Fail;
+use tests_common::{address, content_of, scalar_text};
+
+fn stamp(time: u64, site: u16) -> Result<Stamp, Fail> {
+    Stamp::new(time, site).ok_or_else(|| Fail::new("no stamp"))
+}
+
+/// The edit that sets the content of a line like `set A1 =B1`.
+fn setting(alloc: Global, time: u64, site: u16, line: &str) -> Result<Edit, Fail> {
+    let stamp = stamp(time, site)?;
+    let (place, content) = content_of(alloc, line)?;
+    Ok(Edit::new(stamp, place, Some(content)))
+}
+
+fn removal(time: u64, site: u16, place: &str) -> Result<Edit, Fail> {
+    let stamp = stamp(time, site)?;
+    let place = address(place)?;
+    Ok(Edit::new(stamp, place, None))
+}
+
+#[tactic(auto, using(gl_value::specs::Forms::trees))]
+fn number(n: i64) -> Content
+    ensures { IsProperContent (content_tree result) }
+{
+    Content::Const(Scalar::Int(n))
+}
+
+/// Takes an edit that is no conflict, and answers what it was.
+fn take(replica: &mut Replica, e: Edit) -> Result<Judged, RoomFault> {
+    let judged = replica.judge(&e);
+    match judged {
+        Judged::Conflict => {}
+        Judged::Wins | Judged::Loses | Judged::Same => {
+            replica.make_room(&[e.place()])?;
+            replica.take(e);
+        }
+    }
+    Ok(judged)
+}
+
+/// A register, as `2 1 A1 6`, or `2 1 A1` where there is no content.
+fn push_register(alloc: Global, out: &mut String, e: &Edit) -> Result<(), Fail> {
+    let stamp = e.stamp();
+    let place = e.place();
+    let line = format!(in alloc;
+        "{} {} {},{}",
+        stamp.time(),
+        stamp.site(),
+        place.col(),
+        place.row()
+    )?;
+    out.push_str(line.as_str())?;
+    match e.content() {
+        Some(Content::Const(x)) => {
+            out.push(' ')?;
+            out.push_str(scalar_text(alloc, x)?.as_str())?;
+        }
+        Some(Content::Form(_)) => out.push_str(" =")?,
+        None => {}
+    }
+    out.push(';')?;
+    Ok(())
+}
+
+fn registers(alloc: Global, replica: &Replica) -> Result<String, Fail> {
+    let mut out = String::new(alloc);
+    for i in 0..replica.len() {
+        if let Some(e) = replica.register(i) {
+            push_register(alloc, &mut out, e)?;
+        }
+    }
+    Ok(out)
+}
+
+/// One of four edits of the addresses `A1` and `B1`.
+fn edit(alloc: Global, which: u8) -> Result<Edit, Fail> {
+    match which {
+        0 => setting(alloc, 3, 2, "set B1 =A1"),
+        1 => setting(alloc, 1, 2, "set A1 7"),
+        2 => setting(alloc, 2, 1, "set A1 6"),
+        _ => removal(4, 3, "A1"),
+    }
+}
+
+fn taken(alloc: Global, site: u16, order: &[u8]) -> Result<Replica, Fail> {
+    let mut replica = Replica::new(alloc, site);
+    for which in order {
+        let _ = take(&mut replica, edit(alloc, *which)?)?;
+    }
+    Ok(replica)
+}
+
+#[test]
+fn replicas_agree(rt: HostRuntime) -> Result<(), Fail> {
+    for order in [
+        [0, 1, 2, 3, 0, 1],
+        [3, 2, 1, 0, 3, 3],
+        [1, 0, 3, 2, 1, 1],
+        [2, 2, 0, 0, 1, 3],
+        [3, 1, 0, 2, 1, 0],
+    ] {
+        let replica = taken(rt.alloc(), 9, &order)?;
+        assert_eq!(rt;
+            registers(rt.alloc(), &replica)?.as_str(),
+            "4 3 1,1;3 2 2,1 =;"
+        );
+        assert_eq!(rt; replica.next(), Stamp::new(5, 9));
+    }
+    Ok(())
+}
+
+#[test]
+fn edits_are_judged(rt: HostRuntime) -> Result<(), Fail> {
+    let alloc = rt.alloc();
+    let mut replica = Replica::new(alloc, 5);
+    for (time, site, line, want) in [
+        (3, 1, "set A1 =1+2", Judged::Wins),
+        (3, 1, "set A1 = 1 + 2", Judged::Same),
+        (3, 1, "set A1 =(1+2)", Judged::Same),
+        (3, 1, "set A1 =2+1", Judged::Conflict),
+        (3, 1, "set A1 3", Judged::Conflict),
+        (3, 0, "set A1 9", Judged::Loses),
+        (2, 7, "set A1 9", Judged::Loses),
+        (3, 2, "set A1 9", Judged::Wins),
+        (4, 1, "set A1 9", Judged::Wins),
+        (4, 1, "set A1 \"9\"", Judged::Conflict),
+        (1, 1, "set B1 9", Judged::Wins),
+    ] {
+        assert_eq!(rt;
+            take(&mut replica, setting(alloc, time, site, line)?)?,
+            want,
+            "{line}"
+        );
+    }
+    assert_eq!(rt; take(&mut replica, removal(4, 1, "A1")?)?, Judged::Conflict);
+    assert_eq!(rt; take(&mut replica, removal(7, 1, "A1")?)?, Judged::Wins);
+    assert_eq!(rt; take(&mut replica, removal(7, 1, "A1")?)?, Judged::Same);
+    assert_eq!(rt; registers(alloc, &replica)?.as_str(), "7 1 1,1;1 1 2,1 9;");
+    Ok(())
+}
+
+#[test]
+fn times_within_the_limit(rt: HostRuntime) -> Result<(), Fail> {
+    assert_eq!(rt; Stamp::new(0, 1), None);
+    assert_eq!(rt; Stamp::new(MAX_TIME + 1, 1), None);
+    let mut replica = Replica::new(rt.alloc(), 1);
+    assert_eq!(rt; replica.next(), Stamp::new(1, 1));
+    let _ = take(
+        &mut replica,
+        setting(rt.alloc(), MAX_TIME - 1, 2, "set A1 5")?,
+    )?;
+    assert_eq!(rt; replica.next(), Stamp::new(MAX_TIME, 1));
+    let _ = take(&mut replica, setting(rt.alloc(), MAX_TIME, 0, "set A1 5")?)?;
+    assert_eq!(rt; replica.next(), None);
+    Ok(())
+}
+
+fn at(col: u16, row: u16) -> Result<Addr, Fail> {
+    Addr::new(col, row).ok_or_else(|| Fail::new("off the grid"))
+}
+
+/// Takes an edit of each of the first so many addresses of a row.
+fn take_row(replica: &mut Replica, row: u16, cols: u16) -> Result<(), Fail> {
+    for col in 0..cols {
+        let e = Edit::new(stamp(1, 1)?, at(col + 1, row)?, Some(number(7)));
+        let _ = take(replica, e)?;
+    }
+    Ok(())
+}
+
+#[test]
+fn as_many_registers_as_there_may_be(rt: HostRuntime) -> Result<(), Fail> {
+    let mut replica = Replica::new(rt.alloc(), 1);
+    for row in 0..256 {
+        take_row(&mut replica, row + 1, 512)?;
+    }
+    assert_eq!(rt; replica.len() as usize, MAX_REGISTERS);
+    let last = setting(rt.alloc(), 2, 1, "set A257 5")?;
+    assert_eq!(rt; take(&mut replica, last), Err(RoomFault::Edits));
+    let present = setting(rt.alloc(), 2, 1, "set A1 5")?;
+    assert_eq!(rt; take(&mut replica, present)?, Judged::Wins);
+    assert_eq!(rt; replica.len() as usize, MAX_REGISTERS);
+    Ok(())
+}
