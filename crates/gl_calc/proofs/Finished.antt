@@ -1,104 +1,202 @@
--- The steps of a round that is run to its end.
-use Rattle.std.proofs.Common.{◌≡◌, ℕ, ◌+◌, ◌-◌, ◌^◌, ◌≤◌, ◌<◌, List, [], ◌∷◌, length, map, inl, inr, true, false, cond, Some, Result, Ok, Err, IfOk, refl, sym, ap, subst, ◌∙◌, arith}
+-- The steps of a round that is run to its end, beginning with what is kept of a table.
+use Rattle.std.proofs.Common.{◌≡◌, ◌⊎◌, ℕ, suc, ◌+◌, ◌-◌, ◌^◌, ◌≤◌, ◌<◌, List, [], ◌∷◌, ◌||◌, Bool, length, map, inl, inr, true, false, cond, Option, Some, None, refl, sym, ap, subst, ◌∙◌, arith}
 use Rattle.gl_query.specs.Lists.{Member, AreDistinct, MoreThan}
 use Rattle.gl_query.specs.Laws.{IsQuiet}
-use Rattle.gl_query.specs.Machine.{Demanded, Status, Idle, Waiting, Resolved, at, keys, start}
-use Rattle.gl_query.specs.Costs.{unnoted, settled, settled_of, counted_keys}
+use Rattle.gl_query.specs.InOrder.{AreOrdered}
+use Rattle.gl_query.specs.Query.{Has}
+use Rattle.gl_query.specs.Machine.{Demanded, Entry, Status, Idle, Waiting, Resolved, at, keys}
+use Rattle.gl_query.specs.Remembered.{Note, IsReached, Here, IsKept, IsDropped}
+use Rattle.gl_query.specs.Costs.{unnoted, settled, settled_of, step_of, counted_keys}
 use Rattle.gl_query.proofs.Quiet.{distinct_within}
 use Rattle.gl_query.proofs.Lookups.{member_known}
+use Rattle.gl_query.proofs.Credit.{at-entry}
+use Rattle.gl_query.proofs.Proved.{kept_or_dropped}
+use Rattle.gl_calculus.specs.Grid.{Addr, Range}
 use Rattle.gl_calculus.specs.Value.{Oracle, Top}
 use Rattle.gl_calculus.specs.Formula.{Version, Cells, formula_addresses}
 use Rattle.gl_calculus.specs.Key as K
 use Rattle.gl_calculus.specs.Key.{Cell, same_key}
 use Rattle.gl_calculus.specs.Evaluation.{program}
 use Rattle.gl_calculus.specs.Limits.{max_demanded}
-use Rattle.gl_calculus.specs.Calculation.{SpendsWork}
-use Rattle.gl_calculus.specs.Memory.{Notes}
+use Rattle.gl_calculus.specs.Calculation.{DemandedIn, SpendsWork}
+use Rattle.gl_calculus.specs.Memory.{Table, Notes, differs_in, IsKeptKey}
+use Rattle.gl_calculus.specs.Costs.{IsAnew, Finishes}
 use Rattle.gl_calculus.proofs.Tests.{key_equality}
 use Rattle.gl_core.specs.Held.{Held}
 use Rattle.gl_core.specs.State.{State, state_of, seeds_of, notes_in, is_noted, IsFor}
 use Rattle.gl_core.specs.Answers.{AllowsKnown, AllowsDemanded}
-use Rattle.gl_calc.specs.Costs.{Finishes, Breaks}
+use Rattle.gl_calc.specs.Costs.{Breaks}
+use Rattle.gl_calc.specs.Kept.{AreKept}
 use Rattle.gl_calc.specs.Shown.{IsRound}
 use Rattle.gl_calc.specs.Starting.{IsStarted}
 
--- without notes each known key counts
-all_unnoted : (st : State) → unnoted (is_noted []) st ≡ keys st
-all_unnoted [] = refl
-all_unnoted (x ∷ xs) = ap (λ ks. x.key ∷ ks) (all_unnoted xs)
+-- ---- notes by their keys
 
--- the resolved keys, which are as many as are settled
-abbrev resolved_then : Status K.Key K.Outcome → K.Key → List K.Key → List K.Key
-resolved_then Idle k ks = ks
-resolved_then (Waiting j) k ks = ks
-resolved_then (Resolved o) k ks = k ∷ ks
+noted_in : (ns : Notes) (n : Note K.Key K.Outcome Range) → Member n ns → is_noted ns n.key ≡ true
+noted_in [] n m = absurd m
+noted_in (x ∷ ns) n (inl e) = ap (λ b. b || is_noted ns n.key) (ap (λ (u : Note K.Key K.Outcome Range). same_key n.key u.key) (sym e) ∙ key_equality.1 n.key)
+noted_in (x ∷ ns) n (inr m) = by (same_key n.key x.key) (noted_in ns n m)
+  where
+    by : (b : Bool) → is_noted ns n.key ≡ true → (b || is_noted ns n.key) ≡ true
+    by true h = refl
+    by false h = h
 
-abbrev resolved_keys : State → List K.Key
-resolved_keys [] = []
-resolved_keys (x ∷ xs) = resolved_then x.status x.key (resolved_keys xs)
+pub noted_note : (ns : Notes) (k : K.Key) → is_noted ns k ≡ true → (n : Note K.Key K.Outcome Range) × Member n ns × (n.key ≡ k)
+noted_note [] k e = absurd (cc e)
+noted_note (x ∷ ns) k e = by (same_key k x.key) refl e (noted_note ns k)
+  where
+    by : (b : Bool) → same_key k x.key ≡ b → (b || is_noted ns k) ≡ true → (is_noted ns k ≡ true → (n : Note K.Key K.Outcome Range) × Member n ns × (n.key ≡ k)) → (n : Note K.Key K.Outcome Range) × Member n (x ∷ ns) × (n.key ≡ k)
+    by true t d r = (x, inl refl, sym (key_equality.0 _ _ t))
+    by false t d r = let (n, m, i) = r d in (n, inr m, i)
 
-one_more : (s : Status K.Key K.Outcome) (k : K.Key) (ks : List K.Key) (n : ℕ) → length ks ≡ n → length (resolved_then s k ks) ≡ settled_of s 1 + n
-one_more Idle k ks n e = omega (arith, e)
-one_more (Waiting j) k ks n e = omega (arith, e)
-one_more (Resolved o) k ks n e = omega (arith, e)
+-- ---- a key is kept exactly where what is kept has a note of it
 
-as_many : (st : State) → length (resolved_keys st) ≡ settled (is_noted []) st
-as_many [] = refl
-as_many (x ∷ xs) = one_more x.status x.key (resolved_keys xs) (settled (is_noted []) xs) (as_many xs)
+module _ (b : Table × List Addr) (w : Oracle) (kept : Notes) (h : AreKept b w kept) where
+  abbrev touched : Range → Bool
+  touched = differs_in b.1 b.0.oracle w
 
-still_member : (s : Status K.Key K.Outcome) (j k : K.Key) (ks : List K.Key) → Member k ks → Member k (resolved_then s j ks)
-still_member Idle j k ks m = m
-still_member (Waiting i) j k ks m = m
-still_member (Resolved o) j k ks m = inr m
+  kept_noted : (k : K.Key) → IsKeptKey b.0 b.1 w k → is_noted kept k ≡ true
+  kept_noted k r =
+      let (n, m, e, u) = r k Here in
+      let not_dropped : IsDropped touched b.0.notes k → ⊥ = (kept_or_dropped K.Key K.Outcome Range touched b.0.notes k h.single h.closed).0 r in
+      let there : Member n kept = h.kept.1 n m (λ d. not_dropped (subst (IsDropped touched b.0.notes) e d)) in
+      subst (λ j. is_noted kept j ≡ true) e (noted_in kept n there)
 
-resolved_member : (st : State) (k : K.Key) (o : K.Outcome) → at same_key st k ≡ Some (Resolved o) → Member k (resolved_keys st)
-resolved_member [] k o e = absurd (cc e)
-resolved_member (x ∷ xs) k o e =
-    (elim (same_key k x.key) as (λ b. same_key k x.key ≡ b → cond b (Some x.status) (at same_key xs k) ≡ Some (Resolved o) → Member k (resolved_then x.status x.key (resolved_keys xs))) [
-      | true ↦ λ t h.
-          let s : x.status ≡ Resolved o = cc h in
-          subst (λ u. Member k (resolved_then u x.key (resolved_keys xs))) (sym s) (inl (key_equality.0 k x.key t))
-      | false ↦ λ t h. still_member x.status x.key k (resolved_keys xs) (resolved_member xs k o h)
-    ]) refl e
+  noted_kept : (k : K.Key) → is_noted kept k ≡ true → IsKeptKey b.0 b.1 w k
+  noted_kept k e =
+      let (n, m, i) = noted_note kept k e in
+      let (there, left) = h.kept.0 n m in
+      subst (λ j. IsKeptKey b.0 b.1 w j) i ((kept_or_dropped K.Key K.Outcome Range touched b.0.notes n.key h.single h.closed).1 n there refl left)
 
-none_settled : (ks : List K.Key) → settled (is_noted []) (start {O = K.Outcome} ks) ≡ 0
-none_settled [] = refl
-none_settled (k ∷ ks) = let e = none_settled ks in omega (arith, e)
+  unnoted_anew : (k : K.Key) → is_noted kept k ≡ false → IsKeptKey b.0 b.1 w k → ⊥
+  unnoted_anew k e r = let no : true ≡ false = sym (kept_noted k r) ∙ e in absurd (cc no)
+
+  anew_unnoted : (k : K.Key) → (IsKeptKey b.0 b.1 w k → ⊥) → is_noted kept k ≡ false
+  anew_unnoted k f = by (is_noted kept k) refl
+    where
+      by : (c : Bool) → is_noted kept k ≡ c → c ≡ false
+      by true e = absurd (f (noted_kept k e))
+      by false e = refl
+
+-- ---- keys of a state by their notes
+
+module _ (noted : K.Key → Bool) where
+  among : (st : State) (k : K.Key) → Member k (unnoted noted st) → Member k (keys st) × (noted k ≡ false)
+  among [] k m = absurd m
+  among (x ∷ st) k m = by (noted x.key) refl m (among st k)
+    where
+      by : (b : Bool) → noted x.key ≡ b → Member k (cond b (unnoted noted st) (x.key ∷ unnoted noted st)) → (Member k (unnoted noted st) → Member k (keys st) × (noted k ≡ false)) → Member k (x.key ∷ keys st) × (noted k ≡ false)
+      by true e i r = let (a, b) = r i in (inr a, b)
+      by false e (inl d) r = (inl d, ap noted d ∙ e)
+      by false e (inr i) r = let (a, b) = r i in (inr a, b)
+
+  unnoted_apart : (st : State) → AreDistinct (keys st) → AreDistinct (unnoted noted st)
+  unnoted_apart [] d = tt
+  unnoted_apart (x ∷ st) d = by (noted x.key) (unnoted_apart st d.1)
+    where
+      by : (b : Bool) → AreDistinct (unnoted noted st) → AreDistinct (cond b (unnoted noted st) (x.key ∷ unnoted noted st))
+      by true r = r
+      by false r = ((λ m. d.0 (among st x.key m).0), r)
+
+  -- the resolved keys without a note, which are as many as are settled
+  abbrev resolved_then : Status K.Key K.Outcome → K.Key → List K.Key → List K.Key
+  resolved_then Idle k ks = ks
+  resolved_then (Waiting j) k ks = ks
+  resolved_then (Resolved o) k ks = cond (noted k) ks (k ∷ ks)
+
+  abbrev resolved_keys : State → List K.Key
+  resolved_keys [] = []
+  resolved_keys (x ∷ xs) = resolved_then x.status x.key (resolved_keys xs)
+
+  one_more : (s : Status K.Key K.Outcome) (k : K.Key) (ks : List K.Key) (n : ℕ) → length ks ≡ n → length (resolved_then s k ks) ≡ settled_of s (step_of noted k) + n
+  one_more Idle k ks n e = omega (arith, e)
+  one_more (Waiting j) k ks n e = omega (arith, e)
+  one_more (Resolved o) k ks n e = by (noted k)
+    where
+      by : (b : Bool) → length (cond b ks (k ∷ ks)) ≡ cond b 0 1 + n
+      by true = omega (arith, e)
+      by false = omega (arith, e)
+
+  as_many : (st : State) → length (resolved_keys st) ≡ settled noted st
+  as_many [] = refl
+  as_many (x ∷ xs) = one_more x.status x.key (resolved_keys xs) (settled noted xs) (as_many xs)
+
+  still_member : (s : Status K.Key K.Outcome) (j k : K.Key) (ks : List K.Key) → Member k ks → Member k (resolved_then s j ks)
+  still_member Idle j k ks m = m
+  still_member (Waiting i) j k ks m = m
+  still_member (Resolved o) j k ks m = by (noted j)
+    where
+      by : (b : Bool) → Member k (cond b ks (j ∷ ks))
+      by true = m
+      by false = inr m
+
+  resolved_member : (st : State) (k : K.Key) (o : K.Outcome) → noted k ≡ false → at same_key st k ≡ Some (Resolved o) → Member k (resolved_keys st)
+  resolved_member [] k o n e = absurd (cc e)
+  resolved_member (x ∷ xs) k o n e =
+      (elim (same_key k x.key) as (λ b. same_key k x.key ≡ b → cond b (Some x.status) (at same_key xs k) ≡ Some (Resolved o) → Member k (resolved_then x.status x.key (resolved_keys xs))) [
+        | true ↦ λ t h.
+            let s : x.status ≡ Resolved o = cc h in
+            let i : k ≡ x.key = key_equality.0 k x.key t in
+            let f : noted x.key ≡ false = ap noted (sym i) ∙ n in
+            subst (λ u. Member k (resolved_then u x.key (resolved_keys xs))) (sym s) (subst (λ c. Member k (cond c (resolved_keys xs) (x.key ∷ resolved_keys xs))) (sym f) (inl i))
+        | false ↦ λ t h. still_member x.status x.key k (resolved_keys xs) (resolved_member xs k o n h)
+      ]) refl e
+
+  none_settled : (st : State) → ((x : Entry K.Key K.Outcome) → Member x st → (o : K.Outcome) → x.status ≡ Resolved o → noted x.key ≡ true) → settled noted st ≡ 0
+  none_settled [] h = refl
+  none_settled (x ∷ xs) h = let rest = none_settled xs (λ y m. h y (inr m)) in let here = by x.status refl in omega (arith, here, rest)
+    where
+      by : (s : Status K.Key K.Outcome) → x.status ≡ s → settled_of s (step_of noted x.key) ≡ 0
+      by Idle e = refl
+      by (Waiting j) e = refl
+      by (Resolved o) e = ap (λ b. cond b 0 1) (h x (inl refl) o e)
 
 module _ (version : Version) (S : Cells) (w : Oracle) (core : Held) (h : IsStarted version S w core) (n m : ℕ) where
   pub quiet_round : (q : Held) → IsQuiet same_key (program version S w) (seeds_of core) (state_of q) → IsRound version S w (state_of q)
   quiet_round q r = subst (λ ks. IsQuiet same_key (program version S w) ks (state_of q)) h.seeds r
 
+  pub few_demanded : (MoreThan max_demanded (Demanded (program version S w) (seeds_of core)) → ⊥) → SpendsWork version S w → ⊥
+  few_demanded f more = f (subst (λ ks. MoreThan max_demanded (Demanded (program version S w) ks)) (sym h.seeds) more)
+
+  pub still_started : (q : Held) → seeds_of q ≡ seeds_of core → IsFor version S w q → AreOrdered [] (notes_in q) → IsStarted version S w q
+  still_started q s f o = record { seeds = s ∙ h.seeds; ordered = o; for_it = f }
+
   pub finishes : (q : Held) → IsQuiet same_key (program version S w) (seeds_of core) (state_of q) → IsFor version S w q → AllowsKnown (program version S w) (is_noted (notes_in core)) (state_of q) n m →
-      (m < 2 ^ 64 - 1 → n + settled (is_noted (notes_in core)) (state_of q) ≤ m + settled (is_noted (notes_in core)) (state_of core)) → Finishes version S w n m
-  finishes q r f a l =
-      let all : counted_keys a.counts ≡ keys (state_of q) = subst (λ ns. counted_keys a.counts ≡ unnoted (is_noted ns) (state_of q)) h.no_notes a.keys ∙ all_unnoted (state_of q) in
+      (m < 2 ^ 64 - 1 → n + settled (is_noted (notes_in core)) (state_of q) ≤ m + settled (is_noted (notes_in core)) (state_of core)) → (b : Table × List Addr) (i : ℕ) → AreKept b w (notes_in core) → Finishes version S b i w n m
+  finishes q r f a l b i kept =
+      let noted = is_noted (notes_in core) in
       let round = quiet_round q r in
-      let least = subst (λ ns. m < 2 ^ 64 - 1 → n + settled (is_noted ns) (state_of q) ≤ m + settled (is_noted ns) (state_of core)) h.no_notes l in
-      let none : settled (is_noted []) (state_of core) ≡ 0 = ap (settled (is_noted [])) h.idle ∙ none_settled (map (Cell Top) (formula_addresses S)) in
+      let none : settled noted (state_of core) ≡ 0 = none_settled noted (state_of core) (λ x j o s. h.for_it.noted x.key o (at-entry same_key key_equality (state_of core) x h.for_it.sound.apart j ∙ ap Some s)) in
       record {
         counts = a.counts;
-        distinct = subst AreDistinct (sym all) f.sound.apart;
-        each = λ k i. round.known_demanded k (member_known same_key key_equality (state_of q) k (subst (λ ks. Member k ks) all i));
+        distinct = subst AreDistinct (sym a.keys) (unnoted_apart noted (state_of q) f.sound.apart);
+        each = λ k j.
+            let (p, u) = among noted (state_of q) k (subst (Member k) a.keys j) in
+            (round.known_demanded k (member_known same_key key_equality (state_of q) k p), unnoted_anew b w (notes_in core) kept k u);
         reads = a.reads;
         most = a.most;
-        least = λ ks d i small.
-            let few : length ks ≤ length (resolved_keys (state_of q)) =
-            distinct_within ks (resolved_keys (state_of q)) d (λ k e. (let (p, (o, g)) = i k e in resolved_member (state_of q) k o (round.having_resolved k o p g))) in
-            let some = as_many (state_of q) in
-            let bound = least small in
-            omega (arith, few, some, bound, none);
+        least = λ few ks d each small.
+            let some = as_many noted (state_of q) in
+            let inside : length ks ≤ length (resolved_keys noted (state_of q)) =
+            distinct_within ks (resolved_keys noted (state_of q)) d (λ k e.
+            (let ((p, u), (o, g)) = each k e in
+            resolved_member noted (state_of q) k o (anew_unnoted b w (notes_in core) kept k u) (round.having_resolved k o p g))) in
+            let bound = l small in
+            omega (arith, inside, some, bound, none);
       }
 
-  pub breaks : AllowsDemanded (Demanded (program version S w) (seeds_of core)) (program version S w) (is_noted (notes_in core)) n m → Breaks version S w n m
-  breaks a =
-      subst (λ ks. AllowsDemanded (Demanded (program version S w) ks) (program version S w) (λ k. false) n m) h.seeds
-      (subst (λ ns. AllowsDemanded (Demanded (program version S w) (seeds_of core)) (program version S w) (is_noted ns) n m) h.no_notes a)
+  pub breaks : AllowsDemanded (Demanded (program version S w) (seeds_of core)) (program version S w) (is_noted (notes_in core)) n m → (b : Table × List Addr) → AreKept b w (notes_in core) → Breaks version S b w n m
+  breaks a b kept = record {
+    keys = a.keys;
+    distinct = a.distinct;
+    few = a.few;
+    each = λ k j. (let (p, u) = a.each k j in ((subst (λ ks. Demanded (program version S w) ks k) h.seeds p, unnoted_anew b w (notes_in core) kept k u), refl));
+    most = a.most;
+  }
 
-  pub stops_work : MoreThan max_demanded (Demanded (program version S w) (seeds_of core)) → AllowsDemanded (Demanded (program version S w) (seeds_of core)) (program version S w) (is_noted (notes_in core)) n m → SpendsWork version S w × Breaks version S w n m
-  stops_work more a = (subst (λ ks. MoreThan max_demanded (Demanded (program version S w) ks)) h.seeds more, breaks a)
+  pub stops_work : MoreThan max_demanded (Demanded (program version S w) (seeds_of core)) → AllowsDemanded (Demanded (program version S w) (seeds_of core)) (program version S w) (is_noted (notes_in core)) n m → (b : Table × List Addr) → AreKept b w (notes_in core) → SpendsWork version S w × Breaks version S b w n m
+  stops_work more a b kept = (subst (λ ks. MoreThan max_demanded (Demanded (program version S w) ks)) h.seeds more, breaks a b kept)
 
--- a core that was started
-pub started : {E : Type 0} (version : Version) (S : Cells) (w : Oracle) (r : Result Held E) (ks : List K.Key) (ns : Notes) → ks ≡ map (Cell Top) (formula_addresses S) → ns ≡ [] → IfOk r (λ c. state_of c ≡ start ks) → IfOk r (λ c. seeds_of c ≡ ks) → IfOk r (λ c. notes_in c ≡ ns) → IfOk r (IsFor version S w) → IfOk r (IsStarted version S w)
-started version S w (Ok c) ks ns e f idle seeds notes h = record { idle = idle ∙ ap start e; seeds = seeds ∙ e; no_notes = notes ∙ f; for_it = h }
-started version S w (Err x) ks ns e f idle seeds notes h = tt
+-- where no round was begun, no step was taken
+pub none_taken : (version : Version) (S : Cells) (w : Oracle) (b : Table × List Addr) (n : ℕ) → Breaks version S b w n n
+none_taken version S w b n = record { keys = []; distinct = tt; few = omega arith; each = λ k m. absurd m; most = λ cs e r. omega arith }

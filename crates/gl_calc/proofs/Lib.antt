@@ -1,7 +1,11 @@
 pub mod Formulas
 pub mod Finished
 pub mod Arrays
+pub mod KeptNotes
+pub mod Following
 pub mod Rounds
 pub mod Ended
 pub mod Called
+pub mod Marks
+pub mod Calcs
 pub mod Shows

@@ -1,9 +1,7 @@
 -- What an address shows by what is seen of formula cells.
-use Rattle.std.proofs.Common.{◌≡◌, ℕ, zero, suc, [], ◌∷◌, Option, Some, None, Result, Ok, refl, sym, ap, subst, ◌∙◌, option_map}
-use Rattle.gl_query.specs.Query.{run, val, Has, Loops}
+use Rattle.std.proofs.Common.{◌≡◌, ◌⊎◌, inl, inr, Bool, true, false, if◌then◌else◌, ℕ, zero, suc, [], ◌∷◌, Option, Some, None, Result, Ok, refl, sym, ap, subst, ◌∙◌, option_map}
+use Rattle.gl_query.specs.Query.{run, val, Has}
 use Rattle.gl_query.specs.Evaluation.{given}
-use Rattle.gl_query.specs.Machine as Machine
-use Rattle.gl_query.specs.Machine.{at}
 use Rattle.gl_calculus.specs.Grid.{Addr}
 use Rattle.gl_calculus.specs.Value as V
 use Rattle.gl_calculus.specs.Value.{Oracle, Permit, Scalar, Blank, Value, Frame, Top}
@@ -18,8 +16,19 @@ use Rattle.gl_calculus.specs.Calculation as C
 use Rattle.gl_calculus.specs.Calculation.{IsShown, TopHas, TopLoops}
 use Rattle.gl_calculus.proofs.Proper.{fact_at_single}
 use Rattle.gl_plane.specs.Entries.{offsets}
-use Rattle.gl_core.specs.State.{State}
-use Rattle.gl_calc.specs.Shown.{IsRound}
+use Rattle.gl_query.specs.Lists.{Member}
+use Rattle.gl_query.specs.Machine.{Seed}
+use Rattle.gl_query.specs.Remembered.{Note}
+use Rattle.gl_query.specs.InOrder.{note_keys}
+use Rattle.gl_query.proofs.Remember.{note_has}
+use Rattle.gl_calculus.specs.Grid.{Range}
+use Rattle.gl_calculus.specs.Formula.{formula_addresses}
+use Rattle.gl_calculus.specs.Memory.{Table, Notes, IsTableOf}
+use Rattle.gl_calculus.specs.Calculation.{DemandedIn}
+use Rattle.gl_calculus.proofs.Settles.{formula_listed}
+use Rattle.gl_calculus.proofs.Tests.{key_equality}
+use Rattle.gl_core.specs.Results.{outcome_in}
+use Rattle.gl_calc.proofs.Formulas.{key_member}
 
 -- an address is read, by its fact; and a covering root, by its own
 abbrev read : Fact → Eval Value
@@ -27,6 +36,25 @@ read x = deref Top [] x >>= λ (y : Reading). give {R = Value} (V.One y.0)
 
 abbrev read_root : Cover → Fact → Eval Value
 read_root c x = (own Top x >>= λ (v : Option Value). give {R = Reading} (spilled v c.rows c.cols, x ∷ [])) >>= λ (y : Reading). give {R = Value} (V.One y.0)
+
+-- ---- notes by their outcomes
+
+note_of_outcome : (ns : Notes) (k : K.Key) (o : Outcome) → outcome_in ns k ≡ Some o → (n : Note K.Key Outcome Range) × Member n ns × (n.key ≡ k) × (n.outcome ≡ o)
+note_of_outcome [] k o e = absurd (cc e)
+note_of_outcome (n ∷ ns) k o e = by (same_key k n.key) refl e (note_of_outcome ns k o)
+  where
+    by : (b : Bool) → same_key k n.key ≡ b → (if b then Some n.outcome else outcome_in ns k) ≡ Some o → (outcome_in ns k ≡ Some o → (m : Note K.Key Outcome Range) × Member m ns × (m.key ≡ k) × (m.outcome ≡ o)) → (m : Note K.Key Outcome Range) × Member m (n ∷ ns) × (m.key ≡ k) × (m.outcome ≡ o)
+    by true t d r = let q : n.outcome ≡ o = cc d in (n, inl refl, sym (key_equality.0 k n.key t), q)
+    by false t d r = let (m, i, j, q) = r d in (m, inr i, j, q)
+
+unnoted : (ns : Notes) (k : K.Key) → outcome_in ns k ≡ None → Member k (note_keys ns) → ⊥
+unnoted [] k e m = m
+unnoted (n ∷ ns) k e m = by (same_key k n.key) refl e m (unnoted ns k)
+  where
+    by : (b : Bool) → same_key k n.key ≡ b → (if b then Some n.outcome else outcome_in ns k) ≡ None → (k ≡ n.key) ⊎ Member k (note_keys ns) → (outcome_in ns k ≡ None → Member k (note_keys ns) → ⊥) → ⊥
+    by true t d m r = absurd (cc d)
+    by false t d (inl i) r = let no : false ≡ true = sym t ∙ ap (λ u. same_key u n.key) i ∙ key_equality.1 n.key in absurd (cc no)
+    by false t d (inr i) r = r d i
 
 module _ (version : Version) (S : Cells) (w : Oracle) where
   abbrev reads : ℕ → Eval Value → Option (Result Value K.Budget)
@@ -68,20 +96,30 @@ module _ (version : Version) (S : Cells) (w : Oracle) where
       by (Some (Const x)) d = subst (λ u. IsShown version S w a (C.Shown.Value (spilled (Some u) c.rows c.cols))) (sym (constant_value c.root x v d (n, h))) (by_root a c Blank 0 e q (rw d refl))
       by (Some (Form f)) d = by_root a c (spilled (Some v) c.rows c.cols) n e q (rw (d, h) refl)
 
-  -- what a formula cell has that is seen with an outcome, and one that is seen to loop
-  top_has : (st : State) (e : Frame) (a : Addr) (o : Outcome) → e ≡ Top → IsRound version S w st → at same_key st (Cell e a) ≡ Some (Machine.Resolved o) → TopHas version S w a o
-  top_has st e a o t q h = subst (λ u. Has (program version S w) (Cell u a) o) t (q.resolved_has (Cell e a) o h)
+  -- what a formula cell has of which a table has a note, and one of which it has none
+  pub top_has : (t : Table) (e : Frame) (a : Addr) (o : Outcome) → e ≡ Top → IsTableOf version S w t → Some o ≡ outcome_in t.notes (Cell e a) → TopHas version S w a o
+  top_has t e a o q h f =
+      let (n, m, i, j) = note_of_outcome t.notes (Cell e a) o (sym f) in
+      let has = note_has same_key (program version S w) n.key n.outcome n.reads n.looked (h.true_notes n m) in
+      subst (λ u. Has (program version S w) (Cell u a) o) q (subst (λ u. Has (program version S w) (Cell e a) u) j (subst (λ k. Has (program version S w) k n.outcome) i has))
 
-  top_loops : (st : State) (e : Frame) (a : Addr) (j : K.Key) → e ≡ Top → IsRound version S w st → at same_key st (Cell e a) ≡ Some (Machine.Waiting j) → TopLoops version S w a
-  top_loops st e a j t q h = subst (λ u. Loops (program version S w) (Cell u a)) t (q.waiting_loops (Cell e a) j h)
+  top_loops : (t : Table) (e : Frame) (a : Addr) (f : Formula) → e ≡ Top → content S a ≡ Some (Form f) → IsTableOf version S w t → None ≡ outcome_in t.notes (Cell e a) → TopLoops version S w a
+  top_loops t e a f q d h none n = by (val (program version S w) n (Cell Top a)) refl
+    where
+      demanded : DemandedIn version S w (Cell Top a)
+      demanded = Seed (key_member (formula_addresses S) a (formula_listed S a f d))
 
-  pub cycle_seen : (st : State) (e : Frame) (a : Addr) (f : Formula) (j : K.Key) → e ≡ Top → content S a ≡ Some (Form f) → IsRound version S w st → at same_key st (Cell e a) ≡ Some (Machine.Waiting j) → IsShown version S w a C.Shown.Cycle
-  cycle_seen st e a f j t d q h = C.cycle f d (top_loops st e a j t q h)
+      by : (v : Option Outcome) → val (program version S w) n (Cell Top a) ≡ v → v ≡ None
+      by None g = refl
+      by (Some o) g = absurd (unnoted t.notes (Cell Top a) (sym (none ∙ ap (λ u. outcome_in t.notes (Cell u a)) q)) (h.complete (Cell Top a) o demanded (n, g)))
 
-  pub outcome_seen : (st : State) (e : Frame) (a : Addr) (f : Formula) (o : Outcome) (p : Option Permit) (x : C.Shown) → e ≡ Top → content S a ≡ Some (Form f) → IsRound version S w st → at same_key st (Cell e a) ≡ Some (Machine.Resolved o) → p ≡ status w a → (v : Value) × (o ≡ Outcome.Value v) × (x ≡ C.Shown.Value (shown p v)) → IsShown version S w a x
-  outcome_seen st e a f o p x t d q h s (v, m, y) =
+  pub cycle_seen : (t : Table) (e : Frame) (a : Addr) (f : Formula) → e ≡ Top → content S a ≡ Some (Form f) → IsTableOf version S w t → None ≡ outcome_in t.notes (Cell e a) → IsShown version S w a C.Shown.Cycle
+  cycle_seen t e a f q d h none = C.cycle f d (top_loops t e a f q d h none)
+
+  pub outcome_seen : (t : Table) (e : Frame) (a : Addr) (f : Formula) (o : Outcome) (p : Option Permit) (x : C.Shown) → e ≡ Top → content S a ≡ Some (Form f) → IsTableOf version S w t → Some o ≡ outcome_in t.notes (Cell e a) → p ≡ status w a → (v : Value) × (o ≡ Outcome.Value v) × (x ≡ C.Shown.Value (shown p v)) → IsShown version S w a x
+  outcome_seen t e a f o p x q d h g s (v, m, y) =
       subst (λ u. IsShown version S w a u) (sym (y ∙ ap (λ u. C.Shown.Value (shown u v)) s))
-      (formula_shows a f v d (subst (λ u. TopHas version S w a u) m (top_has st e a o t q h)))
+      (formula_shows a f v d (subst (λ u. TopHas version S w a u) m (top_has t e a o q h g)))
 
   -- what is shown by what is found of a cover
   pub covered_seen : (a root : Addr) (rows cols : ℕ) (x : C.Shown) → content S a ≡ None → Some (root, rows, cols) ≡ option_map offsets (cover w a) → (v : Value) × TopHas version S w root (Outcome.Value v) × (x ≡ C.Shown.Value (spilled (Some v) rows cols)) → IsShown version S w a x

@@ -1,10 +1,11 @@
 -- What a calculator answers.
-use Rattle.std.specs.Prelude.{◌≡◌, ℕ, Option, Some, None, IsTrue}
+use Rattle.std.specs.Prelude.{◌≡◌, ℕ, List, Option, Some, None, IsTrue}
 use Rattle.gl_calculus.specs.Grid.{Addr}
 use Rattle.gl_calculus.specs.Value.{Oracle}
 use Rattle.gl_calculus.specs.Formula.{Version, Cells}
 use Rattle.gl_calculus.specs.Calculation as C
 use Rattle.gl_calculus.specs.Calculation.{IsAnswer, IsConsistent, IsShown}
+use Rattle.gl_calculus.specs.Memory.{Table}
 use Rattle.gl_value.specs.Made.{shown_tree}
 use Rattle.gl_value.specs.declared.Shown.{Shown}
 use Rattle.gl_calc.specs.Shown.{is_sound_shown}
@@ -26,10 +27,10 @@ Answers version S (Settled rounds) old new =
     (w : Oracle) × IsAnswer version S (C.Settled w rounds) × (new ≡ Some (version, w)) × IsConsistent version S w × ((a : Addr) → (x : C.Shown) × IsShown version S w a x)
 Answers version S (Spent k) old new = IsAnswer version S (C.Spent (spent_tree k)) × (new ≡ old)
 
--- the steps that it takes go from n to m
-abbrev pub Takes : Version → Cells → Answer → ℕ → ℕ → Type 0
-Takes version S (Settled rounds) n m = (w : Oracle) × Costs version S (C.Settled w rounds) n m
-Takes version S (Spent k) n m = Costs version S (C.Spent (spent_tree k)) n m
+-- the steps that it takes go from n to m, where rounds begin with these tables, after these addresses were touched
+abbrev pub Takes : Version → Cells → List Table → List Addr → Answer → ℕ → ℕ → Type 0
+Takes version S tables touched (Settled rounds) n m = (w : Oracle) × Costs version S tables touched (C.Settled w rounds) n m
+Takes version S tables touched (Spent k) n m = Costs version S tables touched (C.Spent (spent_tree k)) n m
 
 -- what an address shows by the held answer: nothing exactly where none is held
 abbrev pub IsShownBy : Cells → Option (Version × Oracle) → Addr → Option Shown → Type 0

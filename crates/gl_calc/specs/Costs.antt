@@ -1,46 +1,37 @@
--- The steps of a calculation, round by round.
-use Rattle.std.specs.Prelude.{ℕ, suc, ◌+◌, ◌-◌, ◌^◌, ◌≤◌, ◌<◌, List, [], length, false}
-use Rattle.gl_query.specs.Lists.{Member, AreDistinct}
-use Rattle.gl_query.specs.Query.{Has}
-use Rattle.gl_query.specs.Costs.{Counted, counted_keys, sum_reads, AreReads}
+-- The steps of a calculation, round by round, where rounds begin with tables from before.
+use Rattle.std.specs.Prelude.{ℕ, suc, List, [], false}
+use Rattle.gl_calculus.specs.Grid.{Addr}
 use Rattle.gl_calculus.specs.Value.{Oracle}
 use Rattle.gl_calculus.specs.Formula.{Version, Cells}
-use Rattle.gl_calculus.specs.Key.{Key, same_key, Outcome}
 use Rattle.gl_calculus.specs.Evaluation.{program}
 use Rattle.gl_calculus.specs.Calculation as C
-use Rattle.gl_calculus.specs.Calculation.{DemandedIn, GoesOn, Ends}
+use Rattle.gl_calculus.specs.Calculation.{GoesOn, Ends}
+use Rattle.gl_calculus.specs.Memory.{Table, no_table, base, IsTableOf}
+use Rattle.gl_calculus.specs.Costs.{IsAnew, Finishes}
 use Rattle.gl_core.specs.Answers.{AllowsDemanded}
 
-module _ (version : Version) (S : Cells) where
-  -- The steps of a finished round go from n to m: at most 1 and the number of its reads for each of some demanded keys, and at least one for each that has an outcome.
-  pub record Finishes (w : Oracle) (n m : ℕ) : Type 0 where
-    pub counts : List (Counted Key)
-    pub distinct : AreDistinct (counted_keys counts)
-    pub each : (k : Key) → Member k (counted_keys counts) → DemandedIn version S w k
-    pub reads : AreReads same_key (program version S w) counts
-    pub most : m ≤ n + sum_reads counts
-    pub least : (ks : List Key) → AreDistinct ks → ((k : Key) → Member k ks → DemandedIn version S w k × ((o : Outcome) × Has (program version S w) k o)) → m < 2 ^ 64 - 1 → n + length ks ≤ m
+-- the steps of a round that spends its work, begun with a table and with what was touched since
+abbrev pub Breaks : Version → Cells → Table × List Addr → Oracle → ℕ → ℕ → Type 0
+Breaks version S b w n m = AllowsDemanded (IsAnew version S b w) (program version S w) (λ k. false) n m
 
-  -- those of a round that spends its work
-  abbrev pub Breaks : Oracle → ℕ → ℕ → Type 0
-  Breaks w n m = AllowsDemanded (DemandedIn version S w) (program version S w) (λ k. false) n m
+-- the steps of the last round, by the answer
+abbrev pub Last : Version → Cells → C.Answer → Table × List Addr → ℕ → Oracle → ℕ → ℕ → Type 0
+Last version S (C.Settled v rounds) b i w = Finishes version S b i w
+Last version S (C.Spent C.Work) b i w = Breaks version S b w
+Last version S (C.Spent k) b i w = Finishes version S b i w
 
-  -- the calculation comes to round i, under w, and the steps of the rounds before go from n to m
-  pub data Comes (n : ℕ) : ℕ → Oracle → ℕ → Type 0 where
-    first : Comes n 0 [] n
-    later : {i m k : ℕ} {w next : Oracle} → Comes n i w m → Finishes w m k → GoesOn version S i w next → Comes n (suc i) next k
-
-  -- the steps of the last round, by the answer
-  abbrev pub Last : C.Answer → Oracle → ℕ → ℕ → Type 0
-  Last (C.Settled v rounds) = Finishes
-  Last (C.Spent C.Work) = Breaks
-  Last (C.Spent k) = Finishes
+module _ (version : Version) (S : Cells) (tables : List Table) (touched : List Addr) where
+  -- the calculation comes to round i, under w; before it stands the table of the round before; and the steps of the rounds so far go from n to m
+  pub data Comes (n : ℕ) : ℕ → Oracle → Table → ℕ → Type 0 where
+    first : Comes n 0 [] no_table n
+    later : {i m k : ℕ} {w next : Oracle} {before : Table} → Comes n i w before m → (t : Table) → IsTableOf version S w t → Finishes version S (base tables touched before i) i w m k → GoesOn version S i w next → Comes n (suc i) next t k
 
   -- the steps of all rounds to the answer go from n to m
   pub record Costs (r : C.Answer) (n m : ℕ) : Type 0 where
     pub round : ℕ
     pub oracle : Oracle
+    pub table : Table
     pub before : ℕ
-    pub comes : Comes n round oracle before
+    pub comes : Comes n round oracle table before
     pub ends : Ends version S round oracle r
-    pub last : Last r oracle before m
+    pub last : Last version S r (base tables touched table round) round oracle before m

@@ -1,23 +1,38 @@
--- How a calculation ends, with the held answer that it leaves.
-use Rattle.std.specs.Prelude.{◌≡◌, ℕ, Option, Some, None}
+-- How a calculation ends, and the tables that it leaves.
+use Rattle.std.specs.Prelude.{◌≡◌, ℕ, List, Option, Some, None}
+use Rattle.gl_calculus.specs.Grid.{Addr}
 use Rattle.gl_calculus.specs.Formula.{Version, Cells}
 use Rattle.gl_calculus.specs.Calculation as C
-use Rattle.gl_ast.specs.View.{version_tree}
+use Rattle.gl_calculus.specs.Calculation.{IsAnswer, IsUnspent}
+use Rattle.gl_calculus.specs.Memory.{Table, IsTableOf, AreTables}
 use Rattle.gl_rounds.specs.declared.IterFault.{IterFault}
 use Rattle.gl_rounds.specs.declared.IterFault.TheVariants as rounds
-use Rattle.gl_calc.specs.Answers.{spent_tree}
-use Rattle.gl_calc.specs.Costs.{Costs}
-use Rattle.gl_calc.specs.Held.{IsHeld}
+use Rattle.gl_calc.specs.Answers.{Takes}
+use Rattle.gl_calc.specs.Progress.{either, last_of}
+use Rattle.gl_calc.specs.declared.answers.Answer.{Answer}
+use Rattle.gl_calc.specs.declared.answers.Answer.TheVariants as answer
 use Rattle.gl_calc.specs.declared.answers.SpentKind.{SpentKind}
 use Rattle.gl_calc.specs.declared.answers.SpentKind.TheVariants as spent
-use Rattle.gl_calc.specs.declared.ending.Ending.{Ending}
-use Rattle.gl_calc.specs.declared.ending.Ending.TheVariants.{Settled, Spent}
+use Rattle.gl_calc.specs.declared.ending.Ended.{Ended}
 use Rattle.gl_calc.specs.declared.ending.RoundFault.{RoundFault}
 use Rattle.gl_calc.specs.declared.ending.RoundFault.TheVariants as fault
 
-abbrev pub EndsWith : Version → Cells → Ending → ℕ → ℕ → Type 0
-EndsWith version S (Settled h rounds) n m = (version_tree h.version ≡ version) × IsHeld S h × Costs version S (C.Settled h.oracle rounds) n m
-EndsWith version S (Spent k) n m = Costs version S (C.Spent (spent_tree k)) n m
+-- the table is that of the last round, under the settled oracle
+pub record IsSettledTable (version : Version) (S : Cells) (rounds : ℕ) (t : Table) : Type 0 where
+  pub table : IsTableOf version S t.oracle t
+  pub unspent : IsUnspent version S t.oracle
+  pub answer : IsAnswer version S (C.Settled t.oracle rounds)
+
+-- where the calculation settled, the last table is such a one
+abbrev pub HasLast : Version → Cells → Answer → Option Table → Type 0
+HasLast version S (answer.Settled rounds) o = (t : Table) × (o ≡ Some t) × IsSettledTable version S rounds t
+HasLast version S (answer.Spent k) o = Unit {0}
+
+-- the calculation ends so, and its steps go from n to m
+pub record EndsWith (version : Version) (S : Cells) (tables : List Table) (touched : List Addr) (x : Ended) (n m : ℕ) : Type 0 where
+  pub takes : Takes version S tables touched x.answer n m
+  pub made : AreTables version S x.tables.items
+  pub last : HasLast version S x.answer (either x.beyond (last_of x.tables.items))
 
 -- the budget that is spent where a round ends with this fault, and where the rounds do; none where there is no memory
 abbrev pub spent_in : RoundFault → Option SpentKind

@@ -9,3 +9,5 @@ pub mod Starting
 pub mod Held
 pub mod Ending
 pub mod Single
+pub mod Progress
+pub mod Kept

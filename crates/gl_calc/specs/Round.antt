@@ -1,15 +1,15 @@
 -- One round over the sheet: what it gives, why it may fail, and what one call of it does.
-use Rattle.std.specs.Prelude.{◌≡◌, ℕ, Option, Some, Result, Ok, Err}
+use Rattle.std.specs.Prelude.{◌≡◌, ℕ, List, Result, Ok, Err}
 use Rattle.gl_calculus.specs.Grid.{Addr}
 use Rattle.gl_calculus.specs.Value.{Oracle}
 use Rattle.gl_calculus.specs.Oracle.{Sizes}
 use Rattle.gl_calculus.specs.Formula.{Version, Cells, formula_addresses}
 use Rattle.gl_calculus.specs.Key.{Budget}
 use Rattle.gl_calculus.specs.Calculation.{Arrays, FirstAbort, SpendsWork, IsUnspent}
-use Rattle.gl_core.specs.Held.{Held}
-use Rattle.gl_core.specs.State.{state_of}
-use Rattle.gl_calc.specs.Shown.{IsRound}
-use Rattle.gl_calc.specs.Costs.{Finishes, Breaks}
+use Rattle.gl_calculus.specs.Memory.{Table, IsTableOf}
+use Rattle.gl_calculus.specs.Costs.{Finishes}
+use Rattle.gl_calc.specs.Costs.{Breaks}
+use Rattle.gl_calc.specs.Progress.{Progress, rest_of, next_base, made_with, beyond_with}
 use Rattle.gl_calc.specs.declared.ending.RoundFault.{RoundFault}
 use Rattle.gl_calc.specs.declared.ending.RoundFault.TheVariants as fault
 
@@ -27,17 +27,26 @@ module _ (version : Version) (S : Cells) (w : Oracle) where
   Fails (fault.CopyRounds a) = FailsAt Budget.CopyRounds a
   Fails fault.NoMemory = Unit {0}
 
-  -- its quiet core is kept, and its steps go from n to m
-  abbrev pub Calls : Result Sizes RoundFault → Option Held → ℕ → ℕ → Type 0
-  Calls (Ok zs) last n m = ((q : Held) × (last ≡ Some q) × IsRound version S w (state_of q)) × Finishes version S w n m
-  Calls (Err fault.Work) last n m = Breaks version S w n m
-  Calls (Err (fault.Depth a)) last n m = Finishes version S w n m
-  Calls (Err (fault.CopyRounds a)) last n m = Finishes version S w n m
-  Calls (Err fault.NoMemory) last n m = Unit {0}
-
   -- the steps of a round whose work ends with this fault
-  abbrev pub Stops : RoundFault → ℕ → ℕ → Type 0
-  Stops fault.Work n m = SpendsWork version S w × Breaks version S w n m
-  Stops (fault.Depth a) n m = ⊥
-  Stops (fault.CopyRounds a) n m = ⊥
-  Stops fault.NoMemory n m = Unit {0}
+  abbrev pub Stops : Table × List Addr → RoundFault → ℕ → ℕ → Type 0
+  Stops b fault.Work n m = SpendsWork version S w × Breaks version S b w n m
+  Stops b (fault.Depth a) n m = ⊥
+  Stops b (fault.CopyRounds a) n m = ⊥
+  Stops b fault.NoMemory n m = Unit {0}
+
+-- A finished round under w keeps its table, and its steps go from n to m.
+pub record Keeps (version : Version) (S : Cells) (touched : List Addr) (old : Progress) (w : Oracle) (new : Progress) (n m : ℕ) : Type 0 where
+  pub table : Table
+  pub is_table : IsTableOf version S w table
+  pub earlier : new.earlier ≡ rest_of old.earlier
+  pub made : new.made ≡ made_with old.made table
+  pub beyond : new.beyond ≡ beyond_with old.made table
+  pub steps : (i : ℕ) → Finishes version S (next_base old touched) i w n m
+
+-- what one call does, by its answer
+abbrev pub Calls : Version → Cells → List Addr → Progress → Oracle → Result Sizes RoundFault → Progress → ℕ → ℕ → Type 0
+Calls version S touched old w (Ok zs) new n m = Keeps version S touched old w new n m
+Calls version S touched old w (Err fault.Work) new n m = (new.made ≡ old.made) × Breaks version S (next_base old touched) w n m
+Calls version S touched old w (Err (fault.Depth a)) new n m = Keeps version S touched old w new n m
+Calls version S touched old w (Err (fault.CopyRounds a)) new n m = Keeps version S touched old w new n m
+Calls version S touched old w (Err fault.NoMemory) new n m = Unit {0}

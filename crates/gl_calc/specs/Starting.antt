@@ -1,15 +1,22 @@
--- A core at the start of a round.
+-- A core at the start of a round, and at its end.
 use Rattle.std.specs.Prelude.{◌≡◌, [], map}
-use Rattle.gl_query.specs.Machine as Machine
+use Rattle.gl_query.specs.InOrder.{AreOrdered}
 use Rattle.gl_calculus.specs.Value.{Oracle, Top}
 use Rattle.gl_calculus.specs.Formula.{Version, Cells, formula_addresses}
 use Rattle.gl_calculus.specs.Key.{Cell}
+use Rattle.gl_calculus.specs.Calculation.{SpendsWork}
 use Rattle.gl_core.specs.Held.{Held}
 use Rattle.gl_core.specs.State.{state_of, seeds_of, notes_in, IsFor}
+use Rattle.gl_calc.specs.Shown.{IsRound}
 
--- the formulas of the sheet are its seeds, all idle, and there is no note
+-- the formulas of the sheet are its seeds, and its notes stand in order
 pub record IsStarted (version : Version) (S : Cells) (w : Oracle) (core : Held) : Type 0 where
-  pub idle : state_of core ≡ Machine.start (map (Cell Top) (formula_addresses S))
   pub seeds : seeds_of core ≡ map (Cell Top) (formula_addresses S)
-  pub no_notes : notes_in core ≡ []
+  pub ordered : AreOrdered [] (notes_in core)
   pub for_it : IsFor version S w core
+
+-- the state says all of the round, whose work is finished
+pub record IsEvaluated (version : Version) (S : Cells) (w : Oracle) (core : Held) : Type 0 where
+  pub round : IsRound version S w (state_of core)
+  pub finished : SpendsWork version S w → ⊥
+  pub started : IsStarted version S w core

@@ -2,10 +2,10 @@
 ghost use Rattle.std.specs.Prelude.{◌≡◌};
 ghost use Rattle.gl_calc.specs.Ending.{spent_in, spent_by};
 
-use crate::SpentKind;
+use crate::table::Table;
+use crate::{Answer, SpentKind};
 use gl_ast::Version;
-use gl_core::Quiet;
-use gl_plane::{Addr, Oracle};
+use gl_plane::Addr;
 use gl_rounds::IterFault;
 
 /// Why a round has no sizes: it demands too many keys, or this is its first formula that ended as
@@ -18,19 +18,30 @@ pub enum RoundFault {
     NoMemory,
 }
 
-/// A settled oracle, with the quiet core of its round.
+/// The version of the held answer, and the table of its last round, where that is not the last of
+/// the tables that are kept.
 #[derive(Drop)]
 pub struct Answered {
     pub version: Version,
-    pub oracle: Oracle,
-    pub quiet: Quiet,
+    pub own: Option<Table>,
 }
 
-/// How a calculation ends: settled after so many rounds, or with a spent budget.
+/// How a calculation ended, with the tables of its first rounds, and that of its last one where it
+/// is none of these.
 #[derive(Drop)]
-pub enum Ending {
-    Settled(Answered, u32),
-    Spent(SpentKind),
+pub struct Ended {
+    pub answer: Answer,
+    pub tables: Vec<Table>,
+    pub beyond: Option<Table>,
+}
+
+impl Ended {
+    /// What the calculation came to.
+    pub fn answer(&self) -> Answer
+        ensures { result ≡ self.now.answer }
+    {
+        self.answer
+    }
 }
 
 /// The budget that is spent where a round ends with this fault; `None` where there is no memory.

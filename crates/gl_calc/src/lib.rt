@@ -6,13 +6,21 @@ mod calc;
 mod calculating;
 mod collecting;
 mod ending;
+mod holding;
+mod keeping;
+mod marking;
 mod reasons;
 mod round;
 mod showing;
 mod starting;
+mod table;
+mod tables;
 
 pub use answers::{Answer, SpentKind, Why};
 pub use calc::Calc;
 
 /// The rounds that may be made beyond one for each formula.
 pub const EXTRA_ROUNDS: u32 = 8;
+
+/// The rounds of a calculation whose tables are kept for the next.
+pub const KEPT_ROUNDS: usize = 8;

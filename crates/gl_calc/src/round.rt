@@ -1,27 +1,32 @@
 //! One round over the whole sheet.
-ghost use Rattle.std.specs.Prelude.{◌≡◌, ◌≤◌, IfOk, IfErr, length};
-ghost use Rattle.gl_calculus.specs.Formula.{IsSheet, formula_addresses};
-ghost use Rattle.gl_calculus.specs.Limits.{max_formulas};
-ghost use Rattle.gl_ast.specs.View.{version_tree};
-ghost use Rattle.gl_cells.specs.Sheet.{sheet};
-ghost use Rattle.gl_order.specs.Rule.{PicksBelow, rule_of};
-ghost use Rattle.gl_calc.specs.Round.{Gives, Fails, Calls};
+ghost use Rattle.std.specs.Prelude.{◌≡◌, [], IfOk, IfErr, Err, ◌⊎◌};
+ghost use Rattle.gl_query.specs.InOrder.{AreOrdered};
+ghost use Rattle.gl_calculus.specs.Value.{Oracle as Permits};
+ghost use Rattle.gl_calculus.specs.Formula.{Version as PlainVersion, Cells as Sheet, IsSheet, formula_addresses};
+ghost use Rattle.gl_calculus.specs.Grid.{AreInOrder};
+ghost use Rattle.gl_core.specs.State.{notes_in, IsFor};
+ghost use Rattle.gl_calc.specs.Kept.{IsKeptBy};
+ghost use Rattle.gl_calc.specs.Starting.{IsEvaluated};
+ghost use Rattle.gl_calc.specs.Round.{Gives, Fails};
 
 use crate::collecting::collected;
 use crate::ending::RoundFault;
+use crate::keeping::begun;
 use crate::starting::evaluated;
+use crate::table::Table;
+use crate::tables::Tables;
 use gl_ast::Version;
 use gl_cells::Cells;
 use gl_core::Quiet;
 use gl_demand::{Steps, Watch};
 use gl_order::Order;
-use gl_plane::{Addr, NoMemory, Oracle, Sizes};
+use gl_plane::{Addr, NoMemory, Oracle, Range, Sizes};
 use gl_rounds::Round;
 use std::alloc::Global;
 use std::marker::PhantomData;
 
-/// Evaluates the sheet under one oracle after another, with no results kept from round to round,
-/// and keeps the core of the last round.
+/// Evaluates the sheet under one oracle after another. Each round begins with what of a table from
+/// before holds for it, and its own table is kept.
 #[derive(Drop)]
 pub struct TopRound<'a, F, L> {
     pub alloc: Global,
@@ -29,50 +34,39 @@ pub struct TopRound<'a, F, L> {
     pub version: Version,
     pub order: &'a Order<F>,
     pub kind: u8,
-    pub last: Option<Quiet>,
+    // the formulas of the sheet
+    pub places: &'a [Addr],
+    // what was touched since the tables from before were made, and the same as ranges
+    pub touched: &'a [Addr],
+    pub ranges: &'a [Range],
+    pub tables: Tables,
     pub watch: PhantomData<L>,
 }
 
-impl<F: Fn(u8, u64, u64) -> u64, L: Watch> TopRound<'_, F, L> {
-    /// The sizes of the arrays among the values of the formulas.
-    fn sizes_at(
-        &mut self,
-        places: &[Addr],
-        w: &Oracle,
-        steps: &mut Steps<L>,
-    ) -> Result<Sizes, RoundFault>
-        requires rule { PicksBelow (F.pre (rule_of self.old.order.now)) (F.post (rule_of self.old.order.now)) }
-        requires kind { self.old.kind ≤ 2 }
-        requires all { places.now ≡ formula_addresses (sheet self.old.cells.now) }
-        requires few { length (formula_addresses (sheet self.old.cells.now)) ≤ max_formulas }
-        requires ordered { IsSheet (sheet self.old.cells.now) }
-        ensures given { IfOk result (λ zs. Gives (version_tree self.old.version) (sheet self.old.cells.now) w.now zs) }
-        ensures failed { IfErr result (λ e. Fails (version_tree self.old.version) (sheet self.old.cells.now) w.now e) }
-        ensures called { Calls (version_tree self.old.version) (sheet self.old.cells.now) w.now result self.new.last steps.old steps.new }
-        ensures version { self.new.version ≡ self.old.version }
-        ensures cells { self.new.cells ≡ self.old.cells }
-        ensures order { self.new.order ≡ self.old.order }
-        ensures kind_kept { self.new.kind ≡ self.old.kind }
-    {
-        match evaluated(
-            self.alloc,
-            places,
-            self.cells,
-            w,
-            self.version,
-            self.order,
-            self.kind,
-            steps,
-        ) {
-            Ok(quiet) => match collected(self.alloc, places, &quiet) {
-                Ok(sizes) => {
-                    self.last = Some(quiet);
-                    Ok(sizes)
-                }
-                Err(fault) => Err(fault),
-            },
-            Err(fault) => Err(fault),
+/// The sizes of the arrays of a round, whose table is kept.
+fn finished(
+    alloc: Global,
+    tables: &mut Tables,
+    places: &[Addr],
+    quiet: Quiet,
+    w: &Oracle,
+) -> Result<Sizes, RoundFault>
+    requires placed { AreInOrder places.now }
+    requires ordered { AreOrdered [] (notes_in quiet) }
+    requires for_it { (version : PlainVersion) × (S : Sheet) × (v : Permits) × IsFor version S v quiet }
+    ensures given { IfOk result (λ zs. (version : PlainVersion) (S : Sheet) → IsEvaluated version S w.now quiet → places.now ≡ formula_addresses S → Gives version S w.now zs) }
+    ensures failed { IfErr result (λ e. (version : PlainVersion) (S : Sheet) → IsEvaluated version S w.now quiet → places.now ≡ formula_addresses S → Fails version S w.now e) }
+    ensures work { IfErr result (λ e. e ≡ RoundFault.Work → (version : PlainVersion) (S : Sheet) → IsEvaluated version S w.now quiet → places.now ≡ formula_addresses S → ⊥) }
+    ensures kept { (version : PlainVersion) (S : Sheet) → IsEvaluated version S w.now quiet → IsKeptBy version S tables.old w.now tables.new ⊎ ((tables.new ≡ tables.old) × (result ≡ Err RoundFault.NoMemory)) }
+{
+    let sizes = collected(alloc, places, &quiet);
+    match w.copy(alloc) {
+        Ok(oracle) => {
+            let results = quiet.into_results();
+            tables.keep(Table { oracle, results });
+            sizes
         }
+        Err(NoMemory) => Err(RoundFault::NoMemory),
     }
 }
 
@@ -81,7 +75,9 @@ impl<F: Fn(u8, u64, u64) -> u64, L: Watch> Round for TopRound<'_, F, L> {
     ghost use Rattle.gl_ast.specs.View.{version_tree};
     ghost use Rattle.gl_cells.specs.Sheet.{sheet};
     ghost use Rattle.gl_calculus.specs.Formula.{formula_addresses};
+    ghost use Rattle.gl_calculus.specs.Differences.{AreApart};
     ghost use Rattle.gl_order.specs.Rule.{PicksBelow, rule_of};
+    ghost use Rattle.gl_calc.specs.Kept.{IsSet};
     ghost use Rattle.gl_calc.specs.Round.{Gives, Fails, Calls};
     ghost use Rattle.gl_calc.specs.Single.{one_arrays};
 
@@ -89,17 +85,32 @@ impl<F: Fn(u8, u64, u64) -> u64, L: Watch> Round for TopRound<'_, F, L> {
 
     type Count = Steps<L>;
 
-    ghost can = { λ s. PicksBelow (F.pre (rule_of s.order.now)) (F.post (rule_of s.order.now)) × (s.kind ≤ 2) };
+    ghost can = { λ s. PicksBelow (F.pre (rule_of s.order.now)) (F.post (rule_of s.order.now)) × (s.kind ≤ 2) × IsSet (version_tree s.version) (sheet s.cells.now) s.places.now s.touched.now s.ranges.now s.tables };
+
+    ghost under = { λ s w. AreApart w };
 
     ghost gives = { λ s. Gives (version_tree s.version) (sheet s.cells.now) };
 
     ghost fails = { λ s. Fails (version_tree s.version) (sheet s.cells.now) };
 
-    ghost calls = { λ s c w r t d. (t.version ≡ s.version) × (t.cells.now ≡ s.cells.now) × Calls (version_tree s.version) (sheet s.cells.now) w r t.last c d };
+    ghost calls = { λ s c w r t d. (t.version ≡ s.version) × (t.cells.now ≡ s.cells.now) × (t.touched.now ≡ s.touched.now) × Calls (version_tree s.version) (sheet s.cells.now) s.touched.now s.tables w r t.tables c d };
 
     fn sizes(&mut self, w: &Oracle, steps: &mut Steps<L>) -> Result<Sizes, RoundFault> {
-        match self.cells.formula_addresses(self.alloc) {
-            Ok(places) => self.sizes_at(&places, w, steps),
+        match begun(self.alloc, &mut self.tables, self.ranges, w) {
+            Ok(results) => match evaluated(
+                self.alloc,
+                self.places,
+                results,
+                self.cells,
+                w,
+                self.version,
+                self.order,
+                self.kind,
+                steps,
+            ) {
+                Ok(quiet) => finished(self.alloc, &mut self.tables, self.places, quiet, w),
+                Err(fault) => Err(fault),
+            },
             Err(NoMemory) => Err(RoundFault::NoMemory),
         }
     }

@@ -14,13 +14,13 @@ ghost use Rattle.gl_plane.specs.Permit.{permit_tree};
 ghost use Rattle.gl_value.specs.Made.{shown_tree};
 ghost use Rattle.gl_value.specs.View.{scalar_tree};
 ghost use Rattle.gl_demand.specs.View.{outcome_tree};
-ghost use Rattle.gl_core.specs.State.{state_of};
-ghost use Rattle.gl_calc.specs.Shown.{IsRound, is_sound_shown};
+ghost use Rattle.gl_calculus.specs.Memory.{IsTableOf};
+ghost use Rattle.gl_calc.specs.Shown.{is_sound_shown};
 
+use crate::table::Table;
 use gl_cells::{Cells, Content};
-use gl_core::{Quiet, Seen};
 use gl_demand::{Key, Outcome, shown, spilled};
-use gl_plane::{Addr, NoMemory, Oracle, Permit, Share};
+use gl_plane::{Addr, NoMemory, Permit, Share};
 use gl_value::{Env, Scalar, Shown};
 
 /// What an address shows under the oracle of a round: a formula that loops is a cycle, an array
@@ -29,25 +29,25 @@ use gl_value::{Env, Scalar, Shown};
 ///
 /// A formula that ended as spent shows nothing, nor does an address under a root without a value;
 /// then the answer is `NoMemory`. A settled calculation has neither.
-pub fn shown_at(cells: &Cells, w: &Oracle, quiet: &Quiet, a: Addr) -> Result<Shown, NoMemory>
-    ensures shown { (version : Version) → IsRound version (sheet cells.now) w.now (state_of quiet.now) → IsUnspent version (sheet cells.now) w.now → IfOk result (λ x. IsShown version (sheet cells.now) w.now a (shown_tree x)) }
+pub fn shown_at(cells: &Cells, table: &Table, a: Addr) -> Result<Shown, NoMemory>
+    ensures shown { (version : Version) → IsTableOf version (sheet cells.now) table.now.oracle table.now → IsUnspent version (sheet cells.now) table.now.oracle → IfOk result (λ x. IsShown version (sheet cells.now) table.now.oracle a (shown_tree x)) }
     ensures sound { IfOk result (λ x. IsTrue (is_sound_shown (shown_tree x))) }
 {
     match cells.content(a) {
-        Some(held) => content_shown(held, w, quiet, a),
-        None => blank_shown(w, quiet, a),
+        Some(held) => content_shown(held, table, a),
+        None => blank_shown(table, a),
     }
 }
 
 /// What an address with this content shows.
-fn content_shown(held: &Content, w: &Oracle, quiet: &Quiet, a: Addr) -> Result<Shown, NoMemory>
+fn content_shown(held: &Content, table: &Table, a: Addr) -> Result<Shown, NoMemory>
     requires { IsProperContent (content_tree held.now) }
-    ensures shown { (version : Version) (S : Sheet) → content S a ≡ Some (content_tree held.now) → IsRound version S w.now (state_of quiet.now) → IfOk result (λ x. IsShown version S w.now a (shown_tree x)) }
+    ensures shown { (version : Version) (S : Sheet) → content S a ≡ Some (content_tree held.now) → IsTableOf version S table.now.oracle table.now → IfOk result (λ x. IsShown version S table.now.oracle a (shown_tree x)) }
     ensures sound { IfOk result (λ x. IsTrue (is_sound_shown (shown_tree x))) }
 {
     match held {
         Content::Const(x) => constant_shown(x),
-        Content::Form(_) => formula_shown(w, quiet, a),
+        Content::Form(_) => formula_shown(table, a),
     }
 }
 
@@ -61,16 +61,15 @@ fn constant_shown(x: &Scalar) -> Result<Shown, NoMemory>
     }
 }
 
-/// What a formula shows.
+/// What a formula shows: a cycle where the table, which is complete, has no note of it.
 #[tactic(auto, using(gl_value::specs::Forms::trees))]
-fn formula_shown(w: &Oracle, quiet: &Quiet, a: Addr) -> Result<Shown, NoMemory>
-    ensures shown { (version : Version) (S : Sheet) (f : Formula) → content S a ≡ Some (Form f) → IsRound version S w.now (state_of quiet.now) → IfOk result (λ x. IsShown version S w.now a (shown_tree x)) }
+fn formula_shown(table: &Table, a: Addr) -> Result<Shown, NoMemory>
+    ensures shown { (version : Version) (S : Sheet) (f : Formula) → content S a ≡ Some (Form f) → IsTableOf version S table.now.oracle table.now → IfOk result (λ x. IsShown version S table.now.oracle a (shown_tree x)) }
     ensures sound { IfOk result (λ x. IsTrue (is_sound_shown (shown_tree x))) }
 {
-    match quiet.seen(&Key::Cell(Env::Top, a)) {
-        Some(Seen::Known(outcome)) => outcome_shown(w.status(a), outcome),
-        Some(Seen::Loops) => Ok(Shown::Cycle),
-        None => Err(NoMemory),
+    match table.results.outcome(&Key::Cell(Env::Top, a)) {
+        Some(outcome) => outcome_shown(table.oracle.status(a), outcome),
+        None => Ok(Shown::Cycle),
     }
 }
 
@@ -91,25 +90,24 @@ fn outcome_shown(permit: Option<Permit>, outcome: &Outcome) -> Result<Shown, NoM
 }
 
 /// What an address without content shows.
-fn blank_shown(w: &Oracle, quiet: &Quiet, a: Addr) -> Result<Shown, NoMemory>
-    ensures shown { (version : Version) (S : Sheet) → content S a ≡ None → IsRound version S w.now (state_of quiet.now) → IfOk result (λ x. IsShown version S w.now a (shown_tree x)) }
+fn blank_shown(table: &Table, a: Addr) -> Result<Shown, NoMemory>
+    ensures shown { (version : Version) (S : Sheet) → content S a ≡ None → IsTableOf version S table.now.oracle table.now → IfOk result (λ x. IsShown version S table.now.oracle a (shown_tree x)) }
     ensures sound { IfOk result (λ x. IsTrue (is_sound_shown (shown_tree x))) }
 {
-    match w.cover(a) {
-        Some(cover) => element_shown(quiet, cover),
+    match table.oracle.cover(a) {
+        Some(cover) => element_shown(table, cover),
         None => Ok(Shown::Value(Scalar::Blank)),
     }
 }
 
 /// What an address shows by the root that covers it, and its rows and columns from there.
 #[tactic(auto, using(gl_value::specs::Forms::trees))]
-fn element_shown(quiet: &Quiet, cover: (Addr, u16, u16)) -> Result<Shown, NoMemory>
-    ensures shown { (version : Version) (S : Sheet) (w : V.Oracle) → IsRound version S w (state_of quiet.now) → IfOk result (λ x. (v : V.Value) × TopHas version S w cover.0 (K.Outcome.Value v) × (shown_tree x ≡ C.Shown.Value (spilled (Some v) cover.1 cover.2))) }
+fn element_shown(table: &Table, cover: (Addr, u16, u16)) -> Result<Shown, NoMemory>
+    ensures shown { (version : Version) (S : Sheet) (w : V.Oracle) → IsTableOf version S w table.now → IfOk result (λ x. (v : V.Value) × TopHas version S w cover.0 (K.Outcome.Value v) × (shown_tree x ≡ C.Shown.Value (spilled (Some v) cover.1 cover.2))) }
     ensures sound { IfOk result (λ x. IsTrue (is_sound_shown (shown_tree x))) }
 {
-    match quiet.seen(&Key::Cell(Env::Top, cover.0)) {
-        Some(Seen::Known(outcome)) => outcome_element(outcome, cover.1, cover.2),
-        Some(Seen::Loops) => Err(NoMemory),
+    match table.results.outcome(&Key::Cell(Env::Top, cover.0)) {
+        Some(outcome) => outcome_element(outcome, cover.1, cover.2),
         None => Err(NoMemory),
     }
 }

@@ -1,53 +1,39 @@
 //! The evaluation of all that the formulas demand.
-ghost use Rattle.std.specs.Prelude.{◌≡◌, ◌≤◌, IfOk, IfErr, map, length};
-ghost use Rattle.gl_calculus.specs.Value as V;
-ghost use Rattle.gl_calculus.specs.Key as K;
+ghost use Rattle.std.specs.Prelude.{◌≡◌, ◌≤◌, [], ℕ, List, IfOk, IfErr, length};
+ghost use Rattle.gl_query.specs.Remembered.{AreTrue};
+ghost use Rattle.gl_query.specs.InOrder.{AreOrdered};
+ghost use Rattle.gl_calculus.specs.Grid.{Addr as PlainAddr};
+ghost use Rattle.gl_calculus.specs.Key.{same_key};
+ghost use Rattle.gl_calculus.specs.Evaluation.{program};
+ghost use Rattle.gl_calculus.specs.Memory.{Table as Plain, Notes};
+ghost use Rattle.gl_calculus.specs.Costs.{Finishes};
 ghost use Rattle.gl_calculus.specs.Formula.{IsSheet, formula_addresses};
 ghost use Rattle.gl_calculus.specs.Limits.{max_formulas};
 ghost use Rattle.gl_calculus.specs.Calculation.{SpendsWork};
 ghost use Rattle.gl_ast.specs.View.{version_tree};
 ghost use Rattle.gl_cells.specs.Sheet.{sheet};
 ghost use Rattle.gl_order.specs.Rule.{PicksBelow, rule_of};
-ghost use Rattle.gl_demand.specs.View.{key_tree};
-ghost use Rattle.gl_core.specs.State.{state_of};
+ghost use Rattle.gl_core.specs.State.{state_of, notes_in, IsFor};
 ghost use Rattle.gl_calc.specs.Shown.{IsRound};
-ghost use Rattle.gl_calc.specs.Costs.{Finishes};
+ghost use Rattle.gl_calc.specs.Kept.{AreKept};
 ghost use Rattle.gl_calc.specs.Round.{Stops};
-ghost use Rattle.gl_calc.specs.Starting.{IsStarted};
+ghost use Rattle.gl_calc.specs.Starting.{IsStarted, IsEvaluated};
 
 use crate::ending::RoundFault;
 use gl_ast::Version;
 use gl_cells::Cells;
-use gl_core::{Core, CoreFault, Quiet, top_keys};
+use gl_core::{Core, CoreFault, Quiet, Results};
 use gl_demand::{Steps, Watch};
-use gl_memo::Memo;
 use gl_order::Order;
-use gl_plane::{Addr, NoMemory, Oracle};
+use gl_plane::{Addr, Oracle};
 use std::alloc::Global;
 
-/// The core in which each formula is to be evaluated, with no results from before.
-fn started(
-    alloc: Global,
-    places: &[Addr],
-    cells: &Cells,
-    w: &Oracle,
-    version: Version,
-) -> Result<Core, NoMemory>
-    requires all { places.now ≡ formula_addresses (sheet cells.now) }
-    requires few { length (formula_addresses (sheet cells.now)) ≤ max_formulas }
-    requires ordered { IsSheet (sheet cells.now) }
-    ensures { IfOk result (IsStarted (version_tree version) (sheet cells.now) w.now) }
-{
-    match top_keys(alloc, places) {
-        Ok(seeds) => Core::start(alloc, seeds, Memo::new(alloc), cells, w, version),
-        Err(NoMemory) => Err(NoMemory),
-    }
-}
-
-/// Evaluates all that the formulas of the sheet demand under an oracle.
+/// Evaluates all that the formulas of the sheet demand under an oracle, but for the keys of which
+/// there are results.
 pub fn evaluated<F: Fn(u8, u64, u64) -> u64, L: Watch>(
     alloc: Global,
     places: &[Addr],
+    results: Results,
     cells: &Cells,
     w: &Oracle,
     version: Version,
@@ -60,14 +46,15 @@ pub fn evaluated<F: Fn(u8, u64, u64) -> u64, L: Watch>(
     requires all { places.now ≡ formula_addresses (sheet cells.now) }
     requires few { length (formula_addresses (sheet cells.now)) ≤ max_formulas }
     requires ordered { IsSheet (sheet cells.now) }
-    ensures quiet { IfOk result (λ q. IsRound (version_tree version) (sheet cells.now) w.now (state_of q)) }
-    ensures few { IfOk result (λ q. SpendsWork (version_tree version) (sheet cells.now) w.now → ⊥) }
-    ensures steps { IfOk result (λ q. Finishes (version_tree version) (sheet cells.now) w.now steps.old steps.new) }
-    ensures stops { IfErr result (λ e. Stops (version_tree version) (sheet cells.now) w.now e steps.old steps.new) }
+    requires true_notes { AreTrue same_key (program (version_tree version) (sheet cells.now) w.now) results }
+    ensures evaluated { IfOk result (IsEvaluated (version_tree version) (sheet cells.now) w.now) }
+    ensures steps { IfOk result (λ q. (b : Plain × List PlainAddr) (i : ℕ) → AreKept b w.now results → Finishes (version_tree version) (sheet cells.now) b i w.now steps.old steps.new) }
+    ensures stops { IfErr result (λ e. (b : Plain × List PlainAddr) → AreKept b w.now results → Stops (version_tree version) (sheet cells.now) w.now b e steps.old steps.new) }
 {
-    match started(alloc, places, cells, w, version) {
+    match Core::resume(alloc, places, results, cells, w, version) {
         Ok(core) => run(alloc, core, cells, w, version, order, kind, steps),
-        Err(NoMemory) => Err(RoundFault::NoMemory),
+        Err(CoreFault::Work) => Err(RoundFault::Work),
+        Err(CoreFault::NoMemory) => Err(RoundFault::NoMemory),
     }
 }
 
@@ -85,10 +72,9 @@ fn run<F: Fn(u8, u64, u64) -> u64, L: Watch>(
     requires rule { PicksBelow (F.pre (rule_of order.now)) (F.post (rule_of order.now)) }
     requires kind { kind ≤ 2 }
     requires started { IsStarted (version_tree version) (sheet cells.now) w.now core }
-    ensures quiet { IfOk result (λ q. IsRound (version_tree version) (sheet cells.now) w.now (state_of q)) }
-    ensures few { IfOk result (λ q. SpendsWork (version_tree version) (sheet cells.now) w.now → ⊥) }
-    ensures steps { IfOk result (λ q. Finishes (version_tree version) (sheet cells.now) w.now steps.old steps.new) }
-    ensures stops { IfErr result (λ e. Stops (version_tree version) (sheet cells.now) w.now e steps.old steps.new) }
+    ensures evaluated { IfOk result (IsEvaluated (version_tree version) (sheet cells.now) w.now) }
+    ensures steps { IfOk result (λ q. (b : Plain × List PlainAddr) (i : ℕ) → AreKept b w.now (notes_in core) → Finishes (version_tree version) (sheet cells.now) b i w.now steps.old steps.new) }
+    ensures stops { IfErr result (λ e. (b : Plain × List PlainAddr) → AreKept b w.now (notes_in core) → Stops (version_tree version) (sheet cells.now) w.now b e steps.old steps.new) }
 {
     match core.run_all(alloc, order, kind, cells, w, version, steps) {
         Ok(quiet) => Ok(quiet),

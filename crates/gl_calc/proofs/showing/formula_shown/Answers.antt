@@ -1,8 +1,10 @@
-use Rattle.std.proofs.Common.{◌≡◌, option_map}
+use Rattle.std.proofs.Common.{◌≡◌, Some, None, option_map, subst}
 use Rattle.std.proofs.lemmas.Result.{IfOk-weaker}
 use Rattle.gl_calculus.specs.Calculation as C
 use Rattle.gl_calculus.specs.Calculation.{IsShown}
 use Rattle.gl_calculus.specs.Key as K
+use Rattle.gl_calculus.specs.Memory.{Table}
+use Rattle.gl_calculus.specs.Oracle.{status}
 use Rattle.gl_calculus.specs.Reference.{shown}
 use Rattle.gl_calculus.specs.Value as V
 use Rattle.gl_plane.specs.Permit.{permit_tree}
@@ -10,22 +12,24 @@ use Rattle.gl_value.specs.Forms.{frame_tree-Top}
 use Rattle.gl_value.specs.Made.{shown_tree}
 use Rattle.gl_value.specs.View.{frame_tree}
 use Rattle.gl_value.specs.declared.Env.{Top}
+use Rattle.gl_core.specs.Results.{outcome_in}
 use Rattle.gl_demand.specs.View.{outcome_tree}
-use Rattle.gl_core.specs.State.{state_of}
 use Rattle.gl_calc.proofs.Shows.{outcome_seen, cycle_seen}
 use Rattle.gl_calc.proofs.showing.formula_shown.Goals as goal
 
-pub returns-in-Some-Known-clause-shown : goal.returns-in-Some-Known-clause-shown
-returns-in-Some-Known-clause-shown c = λ version S f e q.
-    let o = outcome_tree c.in-Some-Known.outcome.now in
+pub returns-in-Some-clause-shown : goal.returns-in-Some-clause-shown
+returns-in-Some-clause-shown c = λ version S f e q.
+    let t = c.args.table.now in
+    let o = outcome_tree c.in-Some.outcome.now in
     let p = option_map permit_tree c.status.result in
     IfOk-weaker c.outcome_shown.result
     (λ x. (v : V.Value) × (o ≡ K.Outcome.Value v) × (shown_tree x ≡ C.Shown.Value (shown p v)))
-    (λ x. IsShown version S c.args.w.now c.args.a (shown_tree x))
-    (λ x r. outcome_seen version S c.args.w.now (state_of c.args.quiet.now) (frame_tree Top) c.args.a f o p (shown_tree x) frame_tree-Top e q (rw c.in-Some-Known.field-0-is at c.in-Some-Known.ensures.cases) c.status.ensures r)
+    (λ x. IsShown version S t.oracle c.args.a (shown_tree x))
+    (λ x r. outcome_seen version S t.oracle t (frame_tree Top) c.args.a f o p (shown_tree x) frame_tree-Top e q (subst (λ (u : Table). Some o ≡ outcome_in u.notes (K.Cell (frame_tree Top) c.args.a)) c.table.view_is c.in-Some.ensures.value)
+    (subst (λ (u : Table). p ≡ status u.oracle c.args.a) c.table.view_is c.status.ensures) r)
     c.outcome_shown.ensures.shown
 
-pub returns-in-Some-Loops-clause-shown : goal.returns-in-Some-Loops-clause-shown
-returns-in-Some-Loops-clause-shown c = λ version S f e q.
-    let (j, h) = rw c.in-Some-Loops.field-0-is at c.in-Some-Loops.ensures.cases in
-    cycle_seen version S c.args.w.now (state_of c.args.quiet.now) (frame_tree Top) c.args.a f j frame_tree-Top e q h
+pub returns-clause-shown : goal.returns-clause-shown
+returns-clause-shown c = λ version S f e q.
+    let t = c.args.table.now in
+    cycle_seen version S t.oracle t (frame_tree Top) c.args.a f frame_tree-Top e q (subst (λ (u : Table). None ≡ outcome_in u.notes (K.Cell (frame_tree Top) c.args.a)) c.table.view_is c.in-None.ensures.value)

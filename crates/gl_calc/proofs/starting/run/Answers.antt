@@ -1,10 +1,22 @@
 use Rattle.gl_ast.specs.View.{version_tree}
 use Rattle.gl_cells.specs.Sheet.{sheet}
-use Rattle.gl_calc.proofs.Finished.{quiet_round, finishes, stops_work}
+use Rattle.gl_calc.proofs.Finished.{quiet_round, few_demanded, still_started, finishes, stops_work}
 use Rattle.gl_calc.proofs.starting.run.Goals as goal
 
-pub returns-in-Ok-clause-quiet : goal.returns-in-Ok-clause-quiet
-returns-in-Ok-clause-quiet g c = quiet_round (version_tree c.args.version) (sheet c.args.cells.now) c.args.w.now c.args.core c.requires.started c.args.steps.now c.run_all.new.steps c.in-Ok.quiet c.in-Ok.ensures.quiet
+pub returns-in-Ok-clause-evaluated : goal.returns-in-Ok-clause-evaluated
+returns-in-Ok-clause-evaluated g c =
+    let V = version_tree c.args.version in
+    let S = sheet c.args.cells.now in
+    let w = c.args.w.now in
+    let core = c.args.core in
+    let h = c.requires.started in
+    let n = c.args.steps.now in
+    let m = c.run_all.new.steps in
+    record {
+      round = quiet_round V S w core h n m c.in-Ok.quiet c.in-Ok.ensures.quiet;
+      finished = few_demanded V S w core h n m c.in-Ok.ensures.no_work;
+      started = still_started V S w core h n m c.in-Ok.quiet c.in-Ok.ensures.seeds c.in-Ok.ensures.stays (c.in-Ok.ensures.ordered h.ordered);
+    }
 
 pub returns-in-Ok-clause-steps : goal.returns-in-Ok-clause-steps
 returns-in-Ok-clause-steps g c = finishes (version_tree c.args.version) (sheet c.args.cells.now) c.args.w.now c.args.core c.requires.started c.args.steps.now c.run_all.new.steps c.in-Ok.quiet c.in-Ok.ensures.quiet c.in-Ok.ensures.stays c.in-Ok.ensures.most c.in-Ok.ensures.least

@@ -1,0 +1,32 @@
+use Rattle.std.proofs.Common.{◌≡◌, Some, subst, sym, ap, ◌∙◌}
+use Rattle.std.proofs.lemmas.Result.{IfOk-weaker}
+use Rattle.gl_calculus.specs.Calculation as C
+use Rattle.gl_calculus.specs.Calculation.{TopHas}
+use Rattle.gl_calculus.specs.Key as K
+use Rattle.gl_calculus.specs.Memory.{Table}
+use Rattle.gl_calculus.specs.Reference.{spilled}
+use Rattle.gl_calculus.specs.Value as V
+use Rattle.gl_core.specs.Results.{outcome_in}
+use Rattle.gl_value.specs.Forms.{frame_tree-Top}
+use Rattle.gl_value.specs.Made.{shown_tree}
+use Rattle.gl_value.specs.View.{frame_tree}
+use Rattle.gl_value.specs.declared.Env.{Top}
+use Rattle.gl_demand.specs.View.{outcome_tree}
+use Rattle.gl_calc.proofs.Shows.{top_has}
+use Rattle.gl_calc.proofs.showing.element_shown.Goals as goal
+
+pub returns-in-Some-clause-shown : goal.returns-in-Some-clause-shown
+returns-in-Some-clause-shown c = λ version S w q.
+    let t = c.args.table.now in
+    let o = outcome_tree c.in-Some.outcome.now in
+    let root = c.args.cover.0 in
+    IfOk-weaker c.outcome_element.result
+    (λ x. (v : V.Value) × (o ≡ K.Outcome.Value v) × (shown_tree x ≡ C.Shown.Value (spilled (Some v) c.args.cover.1 c.args.cover.2)))
+    (λ x. (v : V.Value) × TopHas version S w root (K.Outcome.Value v) × (shown_tree x ≡ C.Shown.Value (spilled (Some v) c.args.cover.1 c.args.cover.2)))
+    (λ x (v, e, y). (
+      v,
+      subst (λ u. TopHas version S w root u) e (top_has version S w t (frame_tree Top) root o frame_tree-Top q
+          (subst (λ (u : Table). Some o ≡ outcome_in u.notes (K.Cell (frame_tree Top) root)) c.table.view_is c.in-Some.ensures.value)),
+      y,
+    ))
+    c.outcome_element.ensures.shown

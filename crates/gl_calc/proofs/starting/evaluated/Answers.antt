@@ -1,0 +1,45 @@
+use Rattle.std.proofs.Common.{◌≡◌, ℕ, List, IfOk, IfErr, map, ap, sym, subst, ◌∙◌, arith, length}
+use Rattle.gl_query.specs.Lists.{Member, AreDistinct, MoreThan}
+use Rattle.gl_query.specs.Machine.{Demanded}
+use Rattle.gl_calculus.specs.Value.{Top}
+use Rattle.gl_calculus.specs.Formula.{formula_addresses}
+use Rattle.gl_calculus.specs.Limits.{max_demanded}
+use Rattle.gl_calculus.specs.Key.{Cell, same_key}
+use Rattle.gl_calculus.specs.Evaluation.{program}
+use Rattle.gl_calculus.specs.Grid.{Addr}
+use Rattle.gl_calculus.specs.Memory.{Table}
+use Rattle.gl_calculus.specs.Costs.{Finishes}
+use Rattle.gl_ast.specs.View.{version_tree}
+use Rattle.gl_cells.specs.Sheet.{sheet}
+use Rattle.gl_calc.specs.Kept.{AreKept}
+use Rattle.gl_calc.specs.Round.{Stops}
+use Rattle.gl_calc.proofs.Formulas.{formulas_in_order, keys_distinct, keys_proper}
+use Rattle.gl_calc.proofs.Finished.{none_taken}
+use Rattle.gl_calc.proofs.starting.evaluated.Goals as goal
+
+pub resume-requires-clause-few : goal.resume-requires-clause-few
+resume-requires-clause-few g c = let l = ap length c.requires.all in omega (arith, l, c.requires.few)
+
+pub resume-requires-clause-apart : goal.resume-requires-clause-apart
+resume-requires-clause-apart g c = let S = sheet c.args.cells.now in subst (λ ps. AreDistinct (map (Cell Top) ps)) (sym c.requires.all) (keys_distinct (formula_addresses S) (formulas_in_order S c.requires.ordered))
+
+pub resume-requires-clause-proper : goal.resume-requires-clause-proper
+resume-requires-clause-proper g c = λ k m. keys_proper (sheet c.args.cells.now) c.requires.ordered k (subst (λ ps. Member k (map (Cell Top) ps)) c.requires.all m)
+
+pub run-requires-clause-started : goal.run-requires-clause-started
+run-requires-clause-started g c = record { seeds = c.in-Ok.ensures.seeds ∙ ap (map (Cell Top)) c.requires.all; ordered = c.in-Ok.ensures.ordered; for_it = c.in-Ok.ensures.for_it }
+
+pub returns-in-Ok-clause-steps : goal.returns-in-Ok-clause-steps
+returns-in-Ok-clause-steps g c =
+    subst (λ ns. IfOk c.run.result (λ q. (b : Table × List Addr) (i : ℕ) → AreKept b c.args.w.now ns → Finishes (version_tree c.args.version) (sheet c.args.cells.now) b i c.args.w.now c.args.steps.now c.run.new.steps)) c.in-Ok.ensures.notes c.run.ensures.steps
+
+pub returns-in-Ok-clause-stops : goal.returns-in-Ok-clause-stops
+returns-in-Ok-clause-stops g c =
+    subst (λ ns. IfErr c.run.result (λ e. (b : Table × List Addr) → AreKept b c.args.w.now ns → Stops (version_tree c.args.version) (sheet c.args.cells.now) c.args.w.now b e c.args.steps.now c.run.new.steps)) c.in-Ok.ensures.notes c.run.ensures.stops
+
+pub returns-in-Err-Work-clause-stops : goal.returns-in-Err-Work-clause-stops
+returns-in-Err-Work-clause-stops g c = λ b k.
+    let V = version_tree c.args.version in
+    let S = sheet c.args.cells.now in
+    let w = c.args.w.now in
+    (subst (λ ps. MoreThan max_demanded (Demanded (program V S w) (map (Cell Top) ps))) c.requires.all (c.in-Err-Work.ensures.work c.in-Err-Work.field-0-is), none_taken V S w b c.args.steps.now)
