@@ -96,9 +96,22 @@ fn obstacle_text(alloc: Global, obstacle: Obstacle) -> Result<String, Fail> {
 pub fn refreshed(alloc: Global, calc: &mut Calc, kind: u8, version: Version) -> Result<String, Fail>
     requires { kind ≤ 2 }
 {
-    let order = Order::new(by_kind);
     let mut steps = Steps::new(Silent);
-    match calc.refresh(alloc, &order, kind, version, &mut steps) {
+    refreshed_in(alloc, calc, kind, version, &mut steps)
+}
+
+/// The same, with its steps counted.
+pub fn refreshed_in(
+    alloc: Global,
+    calc: &mut Calc,
+    kind: u8,
+    version: Version,
+    steps: &mut Steps<Silent>,
+) -> Result<String, Fail>
+    requires { kind ≤ 2 }
+{
+    let order = Order::new(by_kind);
+    match calc.refresh(alloc, &order, kind, version, steps) {
         Ok(answer) => answer_text(alloc, answer),
         Err(fault) => Err(fault.into()),
     }

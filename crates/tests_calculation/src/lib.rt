@@ -8,6 +8,8 @@ mod held;
 #[cfg(test)]
 mod histories;
 #[cfg(test)]
+mod kept;
+#[cfg(test)]
 mod large;
 #[cfg(test)]
 mod sheets;
