@@ -73,7 +73,28 @@ def commands():
     return [], '\n'.join(lines) + '\n'
 
 
-WORKLOADS = [generator, chain, sums, spills, copies, table, commands]
+def products():
+    """16,000 formulas that read no cell."""
+    return ['set %s%d =%d*%d+1' % (column(c), r, r, c) for c in range(1, 17) for r in range(1, 1001)]
+
+
+def asked_again():
+    """16,000 formulas, asked 3,000 times with no edit between."""
+    lines = products()
+    for r in range(1, 1001):
+        lines += ['show A%d' % r, 'view A%d:P%d' % (r, r), 'calc']
+    return [], '\n'.join(lines) + '\n'
+
+
+def leaf_edits():
+    """16,000 formulas beside one cell and its reader, with 300 edits of the cell."""
+    lines = products() + ['set Z1 1', 'set Z2 =Z1+1', 'show Z2']
+    for i in range(300):
+        lines += ['set Z1 %d' % i, 'show Z2']
+    return [], '\n'.join(lines) + '\n'
+
+
+WORKLOADS = [generator, chain, sums, spills, copies, table, commands, asked_again, leaf_edits]
 
 
 def main():
