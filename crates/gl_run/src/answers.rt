@@ -6,11 +6,12 @@ ghost use Rattle.gl_protocol.specs.Framing.{Line};
 ghost use Rattle.gl_protocol.specs.Header.{payload_len};
 ghost use Rattle.gl_protocol.specs.Output.{is_line};
 ghost use Rattle.gl_ast.specs.View.{version_tree};
-ghost use Rattle.gl_calc.specs.View.{sheet_of};
+ghost use Rattle.gl_calc.specs.View.{sheet_of, memory_of};
 ghost use Rattle.gl_csvin.specs.Import.{csv_records};
 ghost use Rattle.gl_order.specs.Rule.{PicksBelow, rule_of};
 ghost use Rattle.gl_script.specs.Command.{Asks};
 ghost use Rattle.gl_run.specs.Replies.{IsProperRequest};
+ghost use Rattle.gl_run.specs.Spends.{Spends};
 
 use crate::edits::{clear, set};
 use crate::lines::{error_line, text_line};
@@ -47,6 +48,8 @@ pub fn answer_line<F: Fn(u8, u64, u64) -> u64, L: Watch>(
     requires line { payload_len line.now ≡ None }
     ensures acts { IfOk result (λ reply.
         Acts csv_records (version_tree version) (sheet_of calc.old) (Line line.now) (sheet_of calc.new) reply.items) }
+    ensures spends { IfOk result (λ reply. Spends (version_tree version) (memory_of calc.old)
+        (Line line.now) reply.items (memory_of calc.new) steps.old steps.new) }
     ensures err { OnErr result (sheet_of calc.new ≡ sheet_of calc.old) }
 {
     match command(alloc, line) {
@@ -70,6 +73,9 @@ fn answer_request<F: Fn(u8, u64, u64) -> u64, L: Watch>(
     requires proper { IsProperRequest request }
     ensures acts { IfOk result (λ reply. (l : Bytes) → payload_len l ≡ None → Asks l request
         → Acts csv_records (version_tree version) (sheet_of calc.old) (Line l) (sheet_of calc.new) reply.items) }
+    ensures spends { IfOk result (λ reply. (l : Bytes) → payload_len l ≡ None → Asks l request
+        → Spends (version_tree version) (memory_of calc.old) (Line l) reply.items
+        (memory_of calc.new) steps.old steps.new) }
     ensures err { OnErr result (sheet_of calc.new ≡ sheet_of calc.old) }
 {
     match request {

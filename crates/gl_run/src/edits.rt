@@ -1,13 +1,14 @@
 //! Edits of the sheet.
-ghost use Rattle.std.specs.Prelude.{◌≡◌, IfOk, OnErr};
+ghost use Rattle.std.specs.Prelude.{◌≡◌, ◌∷◌, [], IfOk, OnErr};
 ghost use Rattle.gl_calculus.specs.Formula.{Version as PlainVersion};
 ghost use Rattle.gl_language.specs.Content.{IsProperContent};
 ghost use Rattle.gl_protocol.specs.Commands as C;
-ghost use Rattle.gl_protocol.specs.Commands.{Does};
+ghost use Rattle.gl_protocol.specs.Commands.{Does, places_in};
 ghost use Rattle.gl_cells.specs.Content.{content_tree};
-ghost use Rattle.gl_calc.specs.View.{sheet_of};
+ghost use Rattle.gl_calc.specs.View.{sheet_of, memory_of};
 ghost use Rattle.gl_csvin.specs.Import.{csv_records};
 ghost use Rattle.gl_run.specs.Replies.{IsRefusal, put_word};
+ghost use Rattle.gl_run.specs.Spends.{Touches};
 
 use crate::lines::{error_line, text_line};
 use gl_calc::Calc;
@@ -36,6 +37,8 @@ pub(crate) fn set(
     requires { IsProperContent (content_tree content) }
     ensures does { IfOk result (λ reply. (version : PlainVersion)
         → Does csv_records version (sheet_of calc.old) (C.Request.Set a (content_tree content)) (sheet_of calc.new) reply.items) }
+    ensures touches { IfOk result (λ reply.
+        Touches reply.items (a ∷ []) (memory_of calc.old) (memory_of calc.new)) }
     ensures err { OnErr result (sheet_of calc.new ≡ sheet_of calc.old) }
 {
     let reply = text_line(alloc, "ok")?;
@@ -49,6 +52,8 @@ pub(crate) fn set(
 pub(crate) fn clear(alloc: Global, calc: &mut Calc, range: &Range) -> Result<Vec<u8>, NoMemory>
     ensures does { IfOk result (λ reply. (version : PlainVersion)
         → Does csv_records version (sheet_of calc.old) (C.Request.Clear range.now) (sheet_of calc.new) reply.items) }
+    ensures touches { IfOk result (λ reply. Touches reply.items
+        (places_in (sheet_of calc.old) range.now) (memory_of calc.old) (memory_of calc.new)) }
     ensures err { OnErr result (sheet_of calc.new ≡ sheet_of calc.old) }
 {
     let reply = text_line(alloc, "ok")?;

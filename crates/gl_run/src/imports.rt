@@ -1,15 +1,16 @@
 //! Imports.
-ghost use Rattle.std.specs.Prelude.{◌≡◌, Some, IfOk, IsSome, OnErr};
+ghost use Rattle.std.specs.Prelude.{◌≡◌, ℕ, Some, map, IfOk, IsSome, OnErr};
 ghost use Rattle.gl_calculus.specs.Formula.{Version as PlainVersion};
 ghost use Rattle.gl_language.specs.Text.{Bytes};
 ghost use Rattle.gl_protocol.specs.Commands.{Acts, allowed, with_contents};
 ghost use Rattle.gl_protocol.specs.Framing.{Import};
 ghost use Rattle.gl_protocol.specs.Header.{payload_len};
 ghost use Rattle.gl_cells.specs.Sheet.{sheet, AreProper};
-ghost use Rattle.gl_calc.specs.View.{sheet_of};
+ghost use Rattle.gl_calc.specs.View.{sheet_of, memory_of};
 ghost use Rattle.gl_csvin.specs.Import.{csv_records};
 ghost use Rattle.gl_script.specs.Command.{Asks};
 ghost use Rattle.gl_run.specs.Replies.{HasPlace, IsPut, IsRefusal, csv_word};
+ghost use Rattle.gl_run.specs.Spends.{Spends, Touches};
 
 use crate::edits::put_refusal;
 use crate::lines::{error_line, text_line};
@@ -31,6 +32,9 @@ pub fn answer_import(
     requires { IsSome (payload_len header.now) }
     ensures acts { IfOk result (λ reply. (version : PlainVersion)
         → Acts csv_records version (sheet_of calc.old) (Import header.now payload.now) (sheet_of calc.new) reply.items) }
+    ensures spends { IfOk result (λ reply. (version : PlainVersion) (n : ℕ)
+        → Spends version (memory_of calc.old) (Import header.now payload.now) reply.items
+        (memory_of calc.new) n n) }
     ensures err { OnErr result (sheet_of calc.new ≡ sheet_of calc.old) }
 {
     match place(alloc, header) {
@@ -64,6 +68,9 @@ fn import_place(request: &Request) -> Result<Option<Addr>, NoMemory>
 fn import_at(alloc: Global, calc: &mut Calc, at: Addr, payload: &[u8]) -> Result<Vec<u8>, NoMemory>
     ensures acts { IfOk result (λ reply. (version : PlainVersion) (l : Bytes) → HasPlace l (Some at)
         → Acts csv_records version (sheet_of calc.old) (Import l payload.now) (sheet_of calc.new) reply.items) }
+    ensures spends { IfOk result (λ reply. (version : PlainVersion) (l : Bytes) (n : ℕ)
+        → HasPlace l (Some at) → Spends version (memory_of calc.old) (Import l payload.now)
+        reply.items (memory_of calc.new) n n) }
     ensures err { OnErr result (sheet_of calc.new ≡ sheet_of calc.old) }
 {
     match contents(alloc, payload, at) {
@@ -80,6 +87,8 @@ fn put_fields(
 ) -> Result<Vec<u8>, NoMemory>
     requires { AreProper list.items }
     ensures puts { IfOk result (λ reply. IsPut (allowed (with_contents (sheet_of calc.old) (sheet list.items))) (sheet_of calc.old) (sheet_of calc.new) reply.items) }
+    ensures touches { IfOk result (λ reply. Touches reply.items (map (λ e. e.0) (sheet list.items))
+        (memory_of calc.old) (memory_of calc.new)) }
     ensures err { OnErr result (sheet_of calc.new ≡ sheet_of calc.old) }
 {
     let reply = text_line(alloc, "ok")?;

@@ -10,11 +10,12 @@ ghost use Rattle.gl_ast.specs.View.{version_tree};
 ghost use Rattle.gl_grant.specs.Obstacle.{obstacle_tree};
 ghost use Rattle.gl_order.specs.Rule.{PicksBelow, rule_of};
 ghost use Rattle.gl_value.specs.Made.{shown_tree};
-ghost use Rattle.gl_calc.specs.View.{sheet_of};
+ghost use Rattle.gl_calc.specs.View.{sheet_of, memory_of};
 ghost use Rattle.gl_calc.specs.Answers.{spent_tree};
 ghost use Rattle.gl_calc.specs.Why.{why_tree};
 ghost use Rattle.gl_csvin.specs.Import.{csv_records};
 ghost use Rattle.gl_run.specs.Replies.{RepliesBy, query_tree};
+ghost use Rattle.gl_run.specs.Spends.{Calculates};
 
 use crate::lines::{address_line, text_line};
 use crate::tables::{shown_at, view};
@@ -52,6 +53,8 @@ pub(crate) fn answer_query<F: Fn(u8, u64, u64) -> u64, L: Watch>(
     requires kind { kind ≤ 2 }
     ensures does { IfOk result (λ reply.
         Does csv_records (version_tree version) (sheet_of calc.old) (query_tree query) (sheet_of calc.new) reply.items) }
+    ensures calculates { IfOk result (λ reply. Calculates (version_tree version)
+        (memory_of calc.old) (memory_of calc.new) steps.old steps.new) }
     ensures sheet { sheet_of calc.new ≡ sheet_of calc.old }
 {
     match calc.refresh(alloc, order, kind, version, steps) {

@@ -1,6 +1,7 @@
 use Rattle.std.proofs.Common.{◌≡◌, ◌∙◌, ℕ, List, false, IsTrue, subst}
 use Rattle.gl_protocol.specs.Output.{is_within_limit, items_of, generated}
 use Rattle.gl_run.specs.Out.{WroteAll, WroteAllTelling, WroteSome, WroteCut, Fits}
+use Rattle.gl_run.specs.Spends.{SpendsScript}
 use Rattle.gl_run.specs.Status.{IfDone}
 use Rattle.gl_run.specs.declared.top.Status.TheVariants as status
 use Rattle.gl_run.proofs.Ends.{wrote_none}
@@ -11,6 +12,11 @@ returns-in-Ok-clause-done g c =
     let t = g.K.Sink.taken in
     let P : List ℕ → Type 0 = λ x. IfDone c.serve.result (λ refused. IsTrue (is_within_limit x) × WroteAllTelling (t c.args.sink.now) (t c.serve.new.sink) (items_of x) refused) in
     subst P (c.new-source.ensures.left ∙ c.in-Ok.ensures) c.serve.ensures.done
+
+pub returns-in-Ok-clause-bound : goal.returns-in-Ok-clause-bound
+returns-in-Ok-clause-bound g c =
+    let P : List ℕ → Type 0 = λ x. IfDone c.serve.result (λ refused. SpendsScript (items_of x) c.args.steps.now c.serve.new.steps) in
+    subst P (c.new-source.ensures.left ∙ c.in-Ok.ensures) c.serve.ensures.bound
 
 pub returns-in-Ok-clause-write_fault_wrote : goal.returns-in-Ok-clause-write_fault_wrote
 returns-in-Ok-clause-write_fault_wrote g c =
