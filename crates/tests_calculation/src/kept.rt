@@ -120,6 +120,85 @@ const A_RING: [Row; 4] = [
     },
 ];
 
+/// A budget of each kind is spent, and is spent at once where it is asked again: of rounds, of
+/// depth, and of rounds in a copy. Behind an edit that mends it the sheet settles.
+const SPENT: [Row; 9] = [
+    Row {
+        lines: &["set A1 =IF(C1=0,SEQUENCE(1,3),5)"],
+        version: Version::One,
+        ends: "spent rounds A1",
+        least: 8,
+        most: 200,
+    },
+    Row {
+        lines: &[],
+        version: Version::One,
+        ends: "spent rounds A1",
+        least: 0,
+        most: 0,
+    },
+    Row {
+        lines: &[
+            "set A1 0",
+            "set B1 =IF(A1=0,0,A1+VIEW(UPDATE(SHEET(A1:B1),A1,A1-1),B1))",
+            "set D1 =VIEW(UPDATE(SHEET(A1:B1),A1,96),B1)",
+        ],
+        version: Version::One,
+        ends: "spent depth D1",
+        least: 96,
+        most: 1000,
+    },
+    Row {
+        lines: &[],
+        version: Version::One,
+        ends: "spent depth D1",
+        least: 0,
+        most: 0,
+    },
+    Row {
+        lines: &["set D1 =VIEW(UPDATE(SHEET(A1:B1),A1,2),B1)"],
+        version: Version::One,
+        ends: "settled 1",
+        least: 3,
+        most: 20,
+    },
+    Row {
+        lines: &[
+            "clear A1:D1",
+            "set D1 0",
+            "set A2 =SEQUENCE(1,3)",
+            "set B1 =IF(D1=0,1,IF(ISERROR(ROWS(A2#)),1,SEQUENCE(3,1)))",
+            "set F1 =G(A1:D3,D1,1)",
+        ],
+        version: Version::One,
+        ends: "spent copyrounds F1",
+        least: 8,
+        most: 1000,
+    },
+    Row {
+        lines: &[],
+        version: Version::One,
+        ends: "spent copyrounds F1",
+        least: 0,
+        most: 0,
+    },
+    // the other version has an answer of its own, and the first is calculated anew behind it
+    Row {
+        lines: &["set F1 2"],
+        version: Version::Two,
+        ends: "settled 2",
+        least: 1,
+        most: 20,
+    },
+    Row {
+        lines: &[],
+        version: Version::Two,
+        ends: "settled 2",
+        least: 0,
+        most: 0,
+    },
+];
+
 /// The sheet settles as the row says, behind its edits.
 fn takes(alloc: Global, calc: &mut Calc, row: &Row, kind: u8) -> Result<bool, Fail>
     requires { kind ≤ 2 }
@@ -150,6 +229,15 @@ fn first_amiss(alloc: Global, rows: &[Row], kind: u8) -> Result<Option<usize>, F
 fn what_is_kept_takes_no_step(rt: HostRuntime) -> Result<(), Fail> {
     for kind in 0u8..3 {
         let amiss = first_amiss(rt.alloc(), &BESIDE_ARRAYS, kind)?;
+        assert!(rt; amiss.is_none(), "{amiss:?} by {kind}");
+    }
+    Ok(())
+}
+
+#[test]
+fn a_spent_budget_is_spent_at_once(rt: HostRuntime) -> Result<(), Fail> {
+    for kind in 0u8..3 {
+        let amiss = first_amiss(rt.alloc(), &SPENT, kind)?;
         assert!(rt; amiss.is_none(), "{amiss:?} by {kind}");
     }
     Ok(())

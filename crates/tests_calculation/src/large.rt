@@ -103,6 +103,26 @@ fn large_sheets(rt: HostRuntime) -> Result<(), Fail> {
     Ok(())
 }
 
+/// Asked again, it says so at once.
+const WORK_AGAIN: Sheet = Sheet {
+    lines: &[],
+    ends: "spent work",
+    oracle: "",
+    shows: &[],
+    whys: &[],
+};
+
+#[test]
+fn work_is_spent_again(rt: HostRuntime) -> Result<(), Fail> {
+    let alloc = rt.alloc();
+    let mut calc = Calc::new(alloc);
+    assert!(rt; goes_on(alloc, &mut calc, &WORK, 0, Version::One)?);
+    for _ in 0..1000 {
+        assert!(rt; goes_on(alloc, &mut calc, &WORK_AGAIN, 0, Version::One)?);
+    }
+    Ok(())
+}
+
 #[test]
 fn work_is_spent(rt: HostRuntime) -> Result<(), Fail> {
     for kind in 0u8..3 {

@@ -2,6 +2,8 @@
 #![tactic(auto)]
 
 #[cfg(test)]
+mod anew;
+#[cfg(test)]
 mod calculations;
 #[cfg(test)]
 mod held;

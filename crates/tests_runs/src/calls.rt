@@ -1,7 +1,7 @@
 //! Calls of `run` over sources and sinks in memory, and whether they end as they must.
 ghost use Rattle.gl_order.specs.Rule.{PicksBelow, rule_of};
 
-use gl_demand::{Silent, Steps};
+use gl_demand::{Silent, Steps, Watch};
 use gl_order::{Order, by_kind};
 use gl_port::{MemSink, MemSource};
 use gl_run::{Status, run};
@@ -53,12 +53,12 @@ fn strings(alloc: Global, words: &[&str]) -> Result<Vec<String>, Fail> {
 }
 
 /// By this rule the call ends so, with exactly these replies. The count of evaluations goes on.
-pub fn ends_by<F: Fn(u8, u64, u64) -> u64>(
+pub fn ends_by<F: Fn(u8, u64, u64) -> u64, L: Watch>(
     alloc: Global,
     call: &Call<'_>,
     plan: &Plan<'_>,
     order: &Order<F>,
-    steps: &mut Steps<Silent>,
+    steps: &mut Steps<L>,
 ) -> Result<bool, Fail>
     requires { PicksBelow (F.pre (rule_of order.now)) (F.post (rule_of order.now)) }
 {

@@ -16,4 +16,6 @@ mod scripts;
 #[cfg(test)]
 mod sheets;
 #[cfg(test)]
+mod steps;
+#[cfg(test)]
 mod words;
