@@ -1,0 +1,37 @@
+-- The statuses of calls from C, and what a call leaves.
+use Rattle.std.specs.Prelude.{◌≡◌, ℕ, nat_lt, Bool, true, false, ◌||◌, ◌==◌, IsTrue}
+use Rattle.std.specs.declared.option.Option.{Option}
+use Rattle.gl_language.specs.Text.{Bytes}
+use Rattle.gl_protocol.specs.Output.{is_within_limit, items_of}
+use Rattle.gl_run.specs.Out.{WroteAll, WroteAllTelling, WroteSome, WroteCut, Fits}
+use Rattle.gl_run.specs.declared.top.Status.{Status}
+use Rattle.gl_run.specs.declared.top.Status.TheVariants.{Done, Usage, NoMemory, ReadFault, WriteFault, InputLimit}
+
+-- the number of a status, as the program's exit status
+abbrev pub number_of : Status → ℕ
+number_of (Done false) = 0
+number_of (Done true) = 1
+number_of Usage = 2
+number_of NoMemory = 3
+number_of ReadFault = 4
+number_of WriteFault = 5
+number_of InputLimit = 6
+
+-- no rule has this order, or there is no room for a reply
+abbrev pub is_unusable : (order room : ℕ) → Bool
+is_unusable order room = nat_lt 2 order || room == 0
+
+-- What a call with this status leaves of a script, over the bytes taken before and after; and for which n so many bytes had room.
+abbrev pub Leaves : Status → Bytes → Option Bytes → Option Bytes → (ℕ → Type 0) → Type 0
+Leaves (Done refused) script old new room = IsTrue (is_within_limit script) × WroteAllTelling old new (items_of script) refused
+Leaves Usage script old new room = ⊥
+Leaves NoMemory script old new room = WroteSome old new (items_of script)
+Leaves ReadFault script old new room = ⊥
+Leaves WriteFault script old new room = WroteCut old new (items_of script) × ((n : ℕ) → room n → ¬ Fits n (items_of script))
+Leaves InputLimit script old new room = (is_within_limit script ≡ false) × WroteAll old new (items_of script)
+
+-- the call ended by its script, so that the replies are whole
+abbrev pub IsWhole : Status → Type 0
+IsWhole (Done refused) = Unit {0}
+IsWhole InputLimit = Unit {0}
+IsWhole x = ⊥

@@ -1,0 +1,52 @@
+// A sink in memory that grows.
+use gl_port::{Failed, Sink};
+use std::alloc::Global;
+
+/// It takes all bytes. A write fails only where no memory is left.
+#[derive(Drop)]
+pub struct Growing {
+    taken: Vec<u8>,
+    faults: u64,
+}
+
+impl Growing {
+    ghost use Rattle.std.specs.Prelude.{◌≡◌, []};
+
+    /// Nothing is taken yet.
+    pub fn new(alloc: Global) -> Growing
+        ensures nothing_taken { result.taken.items ≡ [] }
+        ensures faults { result.faults ≡ 0 }
+    {
+        Growing {
+            taken: Vec::new(alloc),
+            faults: 0,
+        }
+    }
+
+    /// All bytes that were taken, in order.
+    pub fn taken(&self) -> &[u8]
+        ensures { result.now ≡ self.now.taken.items }
+    {
+        &self.taken
+    }
+}
+
+impl Sink for Growing {
+    ghost use Rattle.std.specs.Prelude.{Some, None};
+
+    ghost taken = { λ s. Some s.taken.items };
+
+    ghost faults = { λ s. s.faults };
+
+    ghost plan = { λ _. None };
+
+    ghost takes = { λ _ _. ⊥ };
+
+    fn write(&mut self, bytes: &[u8]) -> Result<usize, Failed> {
+        let Ok(()) = self.taken.extend_from_slice(bytes) else {
+            self.faults = self.faults.saturating_add(1);
+            return Err(Failed);
+        };
+        Ok(bytes.len())
+    }
+}
