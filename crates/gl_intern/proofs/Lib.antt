@@ -1,0 +1,11 @@
+pub mod Options
+pub mod Positions
+pub mod Growing
+pub mod Chains
+pub mod Exact
+pub mod Trees
+pub mod Numbers
+pub mod Keys
+pub mod Pushing
+pub mod Interned
+pub mod Additions

@@ -1,0 +1,14 @@
+use Rattle.std.proofs.Common.{None, option_map, sym, ap, ◌∙◌}
+use Rattle.gl_value.specs.View.{override_trees}
+use Rattle.gl_value.specs.Forms.{sheet_tree_is}
+use Rattle.gl_intern.specs.Tables.{tables}
+use Rattle.gl_intern.specs.Places.{then_some, sheet_of, overrides_in}
+use Rattle.gl_intern.proofs.parts.Parts.+find.Goals as goal
+
+pub find_short_sheet-returns : goal.find_short_sheet-returns
+find_short_sheet-returns t c =
+    let s = c.args.s.now in
+    let these = tables c.args.self.now in
+    let frame = sym c.find_frame.ensures ∙ c.in-Some.is in
+    let last = ap (λ os. overrides_in these None (override_trees os)) (sym c.deref.ensures.value) ∙ sym c.find_overrides.ensures ∙ c.in-Some-find_overrides.is in
+    rw (sheet_tree_is s) (sym (ap (then_some (λ p. option_map (sheet_of s.region s.rank s.weight p) (overrides_in these None (override_trees s.overrides.items)))) frame ∙ ap (option_map (sheet_of s.region s.rank s.weight c.in-Some.parent)) last))

@@ -1,0 +1,5 @@
+pub mod Growth
+pub mod Tables
+pub mod Places
+pub mod Numbered
+pub mod Laws

@@ -1,0 +1,182 @@
+//! The short forms of values, with each part put into its table where it is new.
+ghost use Rattle.std.specs.Prelude.{◌≡◌, IfOk};
+ghost use Rattle.gl_value.specs.View.{scalar_tree, value_tree, array_tree, sheet_tree, frame_tree, override_trees};
+ghost use Rattle.gl_intern.specs.Tables.{tables, Grows};
+ghost use Rattle.gl_intern.specs.Places.{plain_in, scalar_in, array_in, value_in, override_link, override_behind, overrides_in, sheet_in, sheet_place, place_of_sheet, place_of_frame, frame_in};
+
+use crate::parts::{Parts, place, place_array, place_oracle, place_scalar};
+use crate::short::{ShortFrame, ShortOverride, ShortScalar, ShortSheet, ShortValue};
+use gl_plane::{Addr, NoMemory, Oracle};
+use gl_value::{Array, Env, Scalar, SheetVal, Value};
+use std::rc::Rc;
+
+type Override = (Addr, Value);
+
+impl Parts {
+    fn add_plain(&mut self, x: &Scalar) -> Result<ShortScalar, NoMemory>
+        ensures grows { Grows (tables self.old) (tables self.new) }
+        ensures ok { IfOk result (λ k. plain_in (tables self.new) (scalar_tree x.now) ≡ Some k) }
+    {
+        let i = place_scalar(&mut self.scalars, x)?;
+        Ok(ShortScalar::Plain(i))
+    }
+
+    #[cycle(add)]
+    fn add_scalar(&mut self, x: &Scalar) -> Result<ShortScalar, NoMemory>
+        ensures grows { Grows (tables self.old) (tables self.new) }
+        ensures ok { IfOk result (λ k. scalar_in (tables self.new) (scalar_tree x.now) ≡ Some k) }
+    {
+        match x {
+            Scalar::Int(n) => Ok(ShortScalar::Int(*n)),
+            Scalar::Sheet(s) => {
+                let i = self.add_sheet(s)?;
+                Ok(ShortScalar::Sheet(i))
+            }
+            Scalar::Blank => self.add_plain(x),
+            Scalar::Bool(_) => self.add_plain(x),
+            Scalar::Text(_) => self.add_plain(x),
+            Scalar::Err(_) => self.add_plain(x),
+        }
+    }
+
+    fn add_array(&mut self, a: &Rc<Array>) -> Result<ShortValue, NoMemory>
+        ensures grows { Grows (tables self.old) (tables self.new) }
+        ensures ok { IfOk result
+            (λ k. array_in (tables self.new) (array_tree a.now.value) ≡ Some k) }
+    {
+        let i = place_array(&mut self.arrays, a)?;
+        Ok(ShortValue::Array(i))
+    }
+
+    #[cycle(add)]
+    fn add_value(&mut self, v: &Value) -> Result<ShortValue, NoMemory>
+        ensures grows { Grows (tables self.old) (tables self.new) }
+        ensures ok { IfOk result (λ k. value_in (tables self.new) (value_tree v.now) ≡ Some k) }
+    {
+        match v {
+            Value::One(x) => {
+                let short = self.add_scalar(x)?;
+                Ok(ShortValue::One(short))
+            }
+            Value::Array(a) => self.add_array(a),
+        }
+    }
+
+    /// An override behind others, which get a place.
+    fn add_behind(
+        &mut self,
+        last: Option<ShortOverride>,
+        at: Addr,
+        value: ShortValue,
+    ) -> Result<ShortOverride, NoMemory>
+        ensures grows { Grows (tables self.old) (tables self.new) }
+        ensures ok { IfOk result
+            (λ n. override_behind (tables self.new) last (at, value) ≡ Some (Some n)) }
+    {
+        match last {
+            None => Ok(ShortOverride {
+                before: None,
+                at,
+                value,
+            }),
+            Some(short) => {
+                let i = place(&mut self.overrides, short)?;
+                Ok(ShortOverride {
+                    before: Some(i),
+                    at,
+                    value,
+                })
+            }
+        }
+    }
+
+    #[cycle(add)]
+    fn add_overrides(&mut self, overrides: &[Override]) -> Result<Option<ShortOverride>, NoMemory>
+        ensures grows { Grows (tables self.old) (tables self.new) }
+        ensures ok { IfOk result
+            (λ k. overrides_in (tables self.new) None (override_trees overrides.now) ≡ Some k) }
+    {
+        let mut last: Option<ShortOverride> = None;
+        for (at, value) in overrides {
+            let short = match self.add_value(value) {
+                Ok(short) => short,
+                Err(e) => return Err(e),
+            };
+            match self.add_behind(last, *at, short) {
+                Ok(next) => last = Some(next),
+                Err(e) => return Err(e),
+            }
+        }
+        Ok(last)
+    }
+
+    #[cycle(add)]
+    fn add_short_sheet(&mut self, s: &SheetVal) -> Result<ShortSheet, NoMemory>
+        ensures grows { Grows (tables self.old) (tables self.new) }
+        ensures ok { IfOk result (λ k. sheet_in (tables self.new) (sheet_tree s.now) ≡ Some k) }
+    {
+        let parent = self.add_frame(&s.env)?;
+        let last = self.add_overrides(&s.overrides)?;
+        Ok(ShortSheet {
+            parent,
+            last,
+            weight: s.weight,
+            rank: s.rank,
+            region: s.region,
+        })
+    }
+
+    /// The place of a sheet value.
+    #[cycle(add)]
+    pub fn add_sheet(&mut self, s: &SheetVal) -> Result<usize, NoMemory>
+        ensures grows { Grows (tables self.old) (tables self.new) }
+        ensures ok { IfOk result (λ n. sheet_place (tables self.new) (sheet_tree s.now) ≡ Some n) }
+    {
+        let parent = self.add_frame(&s.env)?;
+        let last = self.add_overrides(&s.overrides)?;
+        self.place_sheet(ShortSheet {
+            parent,
+            last,
+            weight: s.weight,
+            rank: s.rank,
+            region: s.region,
+        })
+    }
+
+    /// The place of a short form.
+    fn place_sheet(&mut self, short: ShortSheet) -> Result<usize, NoMemory>
+        ensures grows { Grows (tables self.old) (tables self.new) }
+        ensures ok { IfOk result (λ n. place_of_sheet (tables self.new) short ≡ Some n) }
+    {
+        match self.sheets.get_index_of(&short) {
+            Some(i) => Ok(i),
+            None => place(&mut self.sheets, short),
+        }
+    }
+
+    /// The place of a frame that has this sheet value.
+    fn add_copy(&mut self, sheet: ShortSheet, oracle: &Rc<Oracle>) -> Result<usize, NoMemory>
+        ensures grows { Grows (tables self.old) (tables self.new) }
+        ensures ok { IfOk result
+            (λ n. place_of_frame (tables self.new) oracle.now.value sheet ≡ Some (Some n)) }
+    {
+        let oracle = place_oracle(&mut self.oracles, oracle)?;
+        place(&mut self.frames, ShortFrame { oracle, sheet })
+    }
+
+    /// The place of a frame, and no place for the top.
+    #[cycle(add)]
+    pub fn add_frame(&mut self, e: &Env) -> Result<Option<usize>, NoMemory>
+        ensures grows { Grows (tables self.old) (tables self.new) }
+        ensures ok { IfOk result (λ n. frame_in (tables self.new) (frame_tree e.now) ≡ Some n) }
+    {
+        match e {
+            Env::Top => Ok(None),
+            Env::In(s, oracle) => {
+                let sheet = self.add_short_sheet(s)?;
+                let i = self.add_copy(sheet, oracle)?;
+                Ok(Some(i))
+            }
+        }
+    }
+}
