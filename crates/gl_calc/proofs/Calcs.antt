@@ -1,5 +1,5 @@
 -- What a calculator keeps across its calls.
-use Rattle.std.proofs.Common.{◌≡◌, ◌⊎◌, inl, inr, ℕ, suc, ◌+◌, ◌≤◌, Bool, true, false, not, cond, if◌then◌else◌, List, [], ◌∷◌, ◌++◌, length, map, filter, slice_get, vec_len, vec_capacity, Vec, Global, Option, Some, None, IsSome, IfSome, option_map, Result, Ok, Err, OnErr, refl, sym, ap, subst, ◌∙◌, arith}
+use Rattle.std.proofs.Common.{◌≡◌, ◌⊎◌, inl, inr, ℕ, suc, ◌+◌, ◌≤◌, Bool, true, false, not, cond, if◌then◌else◌, List, [], ◌∷◌, ◌++◌, length, slice_get, vec_len, vec_capacity, Vec, Global, Option, Some, None, IsSome, IfSome, option_map, Result, Ok, Err, OnErr, refl, sym, ap, subst, ◌∙◌, arith}
 use Rattle.gl_query.specs.Lists.{Member}
 use Rattle.gl_calculus.specs.Grid.{Addr, Range, same_addr, is_before, covers, grid}
 use Rattle.gl_calculus.specs.Value.{Oracle}
@@ -16,12 +16,12 @@ use Rattle.gl_calculus.proofs.Settles.{array_order}
 use Rattle.gl_calc.proofs.Formulas.{formulas_in_order}
 use Rattle.gl_calculus.proofs.Proved.{grant_gives_permits}
 use Rattle.gl_protocol.specs.Commands.{with_content, with_contents, without, places_in}
-use Rattle.gl_protocol.proofs.SheetChanges.{sets_one, sets_these, clears_these}
+use Rattle.gl_protocol.proofs.SheetChanges.{sets_these, clears_these}
 use Rattle.gl_ast.specs.View.{version_tree}
 use Rattle.gl_ast.specs.declared.Version.{Version}
 use Rattle.gl_calc.specs.Answers.{Answers, Takes}
-use Rattle.gl_calc.specs.Ending.{EndsWith, HasLast}
-use Rattle.gl_calc.specs.Kept.{IsEarlier, AreEarlier}
+use Rattle.gl_calc.specs.Ending.{EndsWith}
+use Rattle.gl_calc.specs.Kept.{AreEarlier}
 use Rattle.gl_calc.specs.Progress.{either, last_of}
 use Rattle.gl_calc.specs.Held.{table_of, answer_of, IsHeld, IsKept, HasOwn, IsOfLatest, Parts, Stands, HoldsLatest, held_by, IsCalc}
 use Rattle.gl_calc.specs.declared.answers.Answer.{Answer}

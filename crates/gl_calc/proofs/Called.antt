@@ -1,14 +1,14 @@
 -- What one round over the sheet begins with, gives and leaves.
 use Rattle.std.proofs.Common.{◌≡◌, ◌⊎◌, inl, inr, ℕ, List, [], ◌∷◌, ◌++◌, Bool, true, false, if◌then◌else◌, length, nat_lt, map, Option, Some, None, Result, Ok, Err, IfOk, IfErr, refl, sym, ap, ◌∙◌, subst}
-use Rattle.gl_query.specs.Lists.{Member}
+use Rattle.gl_query.specs.Lists.{Member, AreDistinct}
 use Rattle.gl_query.specs.InOrder.{note_keys}
 use Rattle.gl_query.specs.Laws.{IsQuiet}
-use Rattle.gl_query.specs.Machine.{Seed, Demanded}
+use Rattle.gl_query.specs.Machine.{Seed, Demanded, keys}
 use Rattle.gl_query.specs.Remembered.{Note, AreTrue}
 use Rattle.gl_query.proofs.Ordered.{key_of}
 use Rattle.gl_calculus.specs.Grid.{Addr, Range}
 use Rattle.gl_calculus.specs.Value.{Oracle, Top}
-use Rattle.gl_calculus.specs.Formula.{Version, Cells, content, formula_addresses}
+use Rattle.gl_calculus.specs.Formula.{Version, Cells, formula_addresses}
 use Rattle.gl_calculus.specs.Limits.{kept_rounds}
 use Rattle.gl_calculus.specs.Oracle.{Sizes}
 use Rattle.gl_calculus.specs.Key.{Key, Cell, same_key, Outcome}
@@ -24,8 +24,9 @@ use Rattle.gl_calc.specs.Shown.{IsRound}
 use Rattle.gl_calc.specs.Starting.{IsEvaluated}
 use Rattle.gl_calc.proofs.Finished.{noted_note}
 use Rattle.gl_calc.specs.Progress.{Progress, first_of, rest_of, last_of, either, before_of, next_base, made_with, beyond_with}
-use Rattle.gl_calc.specs.Kept.{AreRanges, AreKept, IsEarlier, AreEarlier, IsReady, IsTaken, IsKeptBy, IsSet}
-use Rattle.gl_calc.specs.Visits.{Collects}
+use Rattle.gl_calc.specs.Kept.{AreKept, IsEarlier, IsReady, IsTaken, IsKeptBy, IsSet}
+use Rattle.gl_calc.specs.Visits.{Collects, StandFirst}
+use Rattle.gl_calc.proofs.Seeds.{stand_first}
 use Rattle.gl_calculus.specs.Costs.{Finishes}
 use Rattle.gl_calc.specs.Round.{Gives, Fails, Stops, Keeps, Calls}
 use Rattle.gl_calc.specs.declared.ending.RoundFault.{RoundFault}
@@ -159,10 +160,13 @@ finished_table version S w v q notes e h f =
 
 module _ (w : Oracle) (places : List Addr) (q : Held) where
   abbrev Collected : Result Sizes RoundFault → Type 0
-  Collected r = (version : Version) (S : Cells) (v : Oracle) → IsRound version S v (state_of q) → ((a : Addr) → Member a places → DemandedIn version S v (Cell Top a)) → Collects version S v places r
+  Collected r = (version : Version) (S : Cells) (v : Oracle) → IsRound version S v (state_of q) → StandFirst places (state_of q) → AreDistinct (keys (state_of q))
+      → ((a : Addr) → Member a places → DemandedIn version S v (Cell Top a)) → Collects version S v places r
 
   collects : (r : Result Sizes RoundFault) → Collected r → (version : Version) (S : Cells) → IsEvaluated version S w q → places ≡ formula_addresses S → Collects version S w places r
-  collects r h version S e p = h version S w e.round (all_demanded version S w places p)
+  collects r h version S e p =
+      let first = stand_first q.seeds places (state_of q) (e.started.seeds ∙ sym (ap (map (Cell Top)) p)) in
+      h version S w e.round first e.started.for_it.sound.apart (all_demanded version S w places p)
 
   pub sizes_given : (r : Result Sizes RoundFault) → Collected r → IfOk r (λ zs. (version : Version) (S : Cells) → IsEvaluated version S w q → places ≡ formula_addresses S → Gives version S w zs)
   sizes_given (Ok zs) h = λ version S e p. gives version S w places zs p e.finished (collects (Ok zs) h version S e p)

@@ -1,13 +1,12 @@
 -- What a calculation leaves, what is held after it, and what is answered where nothing was touched since.
-use Rattle.std.proofs.Common.{◌≡◌, ◌⊎◌, inl, inr, ℕ, List, [], ◌∷◌, Bool, true, false, if◌then◌else◌, Option, Some, None, IsSome, IfSome, option_map, Err, refl, sym, ap, subst, ◌∙◌}
-use Rattle.gl_query.specs.Lists.{Member}
+use Rattle.std.proofs.Common.{◌≡◌, ℕ, List, [], Option, Some, option_map, Err, refl, sym, ap, subst, ◌∙◌}
 use Rattle.gl_calculus.specs.Grid.{Addr}
 use Rattle.gl_calculus.specs.Value.{Oracle}
 use Rattle.gl_calculus.specs.Formula as F
 use Rattle.gl_calculus.specs.Formula.{Cells, IsSheet}
 use Rattle.gl_calculus.specs.Calculation as C
 use Rattle.gl_calculus.specs.Calculation.{IsUnspent, IsAnswer, Ends}
-use Rattle.gl_calculus.specs.Memory.{Table, base, IsTableOf, AreTables}
+use Rattle.gl_calculus.specs.Memory.{Table, base, AreTables}
 use Rattle.gl_calculus.specs.Costs.{Finishes}
 use Rattle.gl_calculus.proofs.Keeps.{nothing_asked}
 use Rattle.gl_calculus.proofs.Settles.{settled_consistent}
@@ -21,7 +20,7 @@ use Rattle.gl_calc.specs.Costs.{Comes, first, later, Costs}
 use Rattle.gl_calc.specs.Answers.{Answers, Takes, spent_tree}
 use Rattle.gl_calc.specs.Progress.{Progress, either, last_of, before_of}
 use Rattle.gl_calc.specs.Ending.{IsSettledTable, HasLast, EndsWith}
-use Rattle.gl_calc.specs.Held.{table_of, answer_of, IsHeld, IsKept, held_by, HoldsLatest}
+use Rattle.gl_calc.specs.Held.{answer_of, IsHeld, IsKept, held_by, HoldsLatest}
 use Rattle.gl_calc.specs.declared.answers.Answer.{Answer}
 use Rattle.gl_calc.specs.declared.answers.Answer.TheVariants.{Settled, Spent}
 use Rattle.gl_calc.specs.declared.answers.SpentKind.{SpentKind}

@@ -1,26 +1,25 @@
 -- The steps of a round that is run to its end, beginning with what is kept of a table.
-use Rattle.std.proofs.Common.{◌≡◌, ◌⊎◌, ℕ, suc, ◌+◌, ◌-◌, ◌^◌, ◌≤◌, ◌<◌, List, [], ◌∷◌, ◌||◌, Bool, length, map, inl, inr, true, false, cond, Option, Some, None, refl, sym, ap, subst, ◌∙◌, arith}
+use Rattle.std.proofs.Common.{◌≡◌, ℕ, ◌+◌, ◌-◌, ◌^◌, ◌≤◌, ◌<◌, List, [], ◌∷◌, ◌||◌, Bool, length, inl, inr, true, false, cond, Some, refl, sym, ap, subst, ◌∙◌, arith}
 use Rattle.gl_query.specs.Lists.{Member, AreDistinct, MoreThan}
 use Rattle.gl_query.specs.Laws.{IsQuiet}
 use Rattle.gl_query.specs.InOrder.{AreOrdered}
-use Rattle.gl_query.specs.Query.{Has}
 use Rattle.gl_query.specs.Machine.{Demanded, Entry, Status, Idle, Waiting, Resolved, at, keys}
-use Rattle.gl_query.specs.Remembered.{Note, IsReached, Here, IsKept, IsDropped}
-use Rattle.gl_query.specs.Costs.{unnoted, settled, settled_of, step_of, counted_keys}
+use Rattle.gl_query.specs.Remembered.{Note, Here, IsDropped}
+use Rattle.gl_query.specs.Costs.{unnoted, settled, settled_of, step_of}
 use Rattle.gl_query.proofs.Quiet.{distinct_within}
 use Rattle.gl_query.proofs.Lookups.{member_known}
 use Rattle.gl_query.proofs.Credit.{at-entry}
 use Rattle.gl_query.proofs.Proved.{kept_or_dropped}
 use Rattle.gl_calculus.specs.Grid.{Addr, Range}
-use Rattle.gl_calculus.specs.Value.{Oracle, Top}
-use Rattle.gl_calculus.specs.Formula.{Version, Cells, formula_addresses}
+use Rattle.gl_calculus.specs.Value.{Oracle}
+use Rattle.gl_calculus.specs.Formula.{Version, Cells}
 use Rattle.gl_calculus.specs.Key as K
 use Rattle.gl_calculus.specs.Key.{Cell, same_key}
 use Rattle.gl_calculus.specs.Evaluation.{program}
 use Rattle.gl_calculus.specs.Limits.{max_demanded}
-use Rattle.gl_calculus.specs.Calculation.{DemandedIn, SpendsWork}
+use Rattle.gl_calculus.specs.Calculation.{SpendsWork}
 use Rattle.gl_calculus.specs.Memory.{Table, Notes, differs_in, IsKeptKey}
-use Rattle.gl_calculus.specs.Costs.{IsAnew, Finishes}
+use Rattle.gl_calculus.specs.Costs.{Finishes}
 use Rattle.gl_calculus.proofs.Tests.{key_equality}
 use Rattle.gl_core.specs.Held.{Held}
 use Rattle.gl_core.specs.State.{State, state_of, seeds_of, notes_in, is_noted, IsFor}

@@ -1,5 +1,5 @@
 -- The formulas of a sheet: they stand in row-major order, and are proper keys.
-use Rattle.std.proofs.Common.{◌≡◌, ◌⊎◌, inl, inr, suc, List, [], ◌∷◌, ◌++◌, append_assoc, length, map, true, false, Some, refl, sym, ◌∙◌, subst, ap, IsTrue}
+use Rattle.std.proofs.Common.{◌≡◌, ◌⊎◌, inl, inr, suc, List, [], ◌∷◌, length, map, true, false, Some, refl, sym, ◌∙◌, subst, ap, IsTrue}
 use Rattle.gl_query.specs.Lists.{Member, AreDistinct}
 use Rattle.gl_calculus.specs.Grid.{Addr, same_addr, AreInOrder}
 use Rattle.gl_calculus.specs.Value.{Top}

@@ -1,5 +1,5 @@
 -- What is kept of notes goes by the places that are touched, however they are told.
-use Rattle.std.proofs.Common.{◌≡◌, inl, inr, ◌||◌, Bool, true, false, not, List, [], ◌∷◌, length, Option, refl, sym, ap, subst, ◌∙◌}
+use Rattle.std.proofs.Common.{◌≡◌, inl, inr, ◌||◌, Bool, true, false, not, List, [], ◌∷◌, length, refl, sym, ap, subst, ◌∙◌}
 use Rattle.std.specs.List.{list_any}
 use Rattle.gl_query.specs.Lists.{Member, AreDistinct}
 use Rattle.gl_query.specs.InOrder.{note_keys}

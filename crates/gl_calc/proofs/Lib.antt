@@ -5,6 +5,7 @@ pub mod KeptNotes
 pub mod Following
 pub mod Rounds
 pub mod Ended
+pub mod Seeds
 pub mod Called
 pub mod Marks
 pub mod Calcs

@@ -1,5 +1,5 @@
 -- The rounds that iteration makes are those of the calculation.
-use Rattle.std.proofs.Common.{◌≡◌, ℕ, suc, List, [], Option, Some, None, Result, Ok, Err, refl, sym, ap, subst, ◌∙◌}
+use Rattle.std.proofs.Common.{◌≡◌, ℕ, suc, List, [], Some, None, Result, Err, refl, sym, subst, ◌∙◌}
 use Rattle.gl_calculus.specs.Grid.{Addr, Range, grid}
 use Rattle.gl_calculus.specs.Value.{Oracle}
 use Rattle.gl_calculus.specs.Oracle.{Sizes, grant}
@@ -19,7 +19,7 @@ use Rattle.gl_rounds.specs.Answers as A
 use Rattle.gl_rounds.specs.declared.IterFault.{IterFault}
 use Rattle.gl_rounds.specs.declared.IterFault.TheVariants as iter
 use Rattle.gl_calc.specs.Costs.{Breaks, Comes, first, later, Costs}
-use Rattle.gl_calc.specs.Progress.{Progress, next_base, either, last_of, before_of}
+use Rattle.gl_calc.specs.Progress.{Progress, next_base, before_of}
 use Rattle.gl_calc.specs.Round.{Gives, Fails, Keeps, Calls}
 use Rattle.gl_calc.specs.Answers.{spent_tree}
 use Rattle.gl_calc.specs.Ending.{spent_by, IsSettledTable}

@@ -1,5 +1,5 @@
 -- What a round begins with, and why it is true.
-use Rattle.std.specs.Prelude.{◌≡◌, ◌≤◌, List, [], length, Option, Some}
+use Rattle.std.specs.Prelude.{◌≡◌, ◌≤◌, List, [], length, Some}
 use Rattle.std.specs.List.{list_any}
 use Rattle.gl_query.specs.Lists.{Member}
 use Rattle.gl_query.specs.Remembered.{AreTrue, AreClosed, AreSingle, AreTheKept}

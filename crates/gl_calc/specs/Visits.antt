@@ -1,15 +1,26 @@
 -- What a visit of a formula cell adds to the sizes of a round, by the cell's status in the quiet core.
-use Rattle.std.specs.Prelude.{◌≡◌, List, [], ◌∷◌, ◌++◌, Option, Some, None, Result, Ok, Err}
+use Rattle.std.specs.Prelude.{◌≡◌, ℕ, List, [], ◌∷◌, ◌++◌, slice_get, option_map, Option, Some, None, Result, Ok, Err}
 use Rattle.std.specs.List.{AllByRecursion}
 use Rattle.gl_query.specs.Machine.{Status, Resolved}
 use Rattle.gl_calculus.specs.Grid.{Addr}
 use Rattle.gl_calculus.specs.Value as V
 use Rattle.gl_calculus.specs.Oracle.{Sizes}
 use Rattle.gl_calculus.specs.Formula.{Version, Cells}
-use Rattle.gl_calculus.specs.Key.{Key, Budget, Outcome, Abort}
+use Rattle.gl_calculus.specs.Key.{Key, Cell, Budget, Outcome, Abort}
+use Rattle.gl_core.specs.State.{State}
 use Rattle.gl_calculus.specs.Calculation.{Arrays, FirstAbort, TopFails, is_abort}
 use Rattle.gl_calc.specs.declared.ending.RoundFault.{RoundFault}
 use Rattle.gl_calc.specs.declared.ending.RoundFault.TheVariants as fault
+
+-- the status of the key at a place
+abbrev pub status_at : State → ℕ → Option (Status Key Outcome)
+status_at st i = option_map (λ x. x.status) (slice_get st i)
+
+-- the keys of these formula cells stand first among the known ones
+abbrev pub StandFirst : List Addr → State → Type 0
+StandFirst [] st = Unit {0}
+StandFirst (a ∷ rest) [] = ⊥
+StandFirst (a ∷ rest) (x ∷ xs) = (x.key ≡ Cell V.Top a) × StandFirst rest xs
 
 -- the size of an array
 abbrev pub sizes_by : Addr → Option (Status Key Outcome) → Sizes

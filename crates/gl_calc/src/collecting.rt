@@ -1,12 +1,11 @@
 //! The sizes of the arrays of a round.
 ghost use Rattle.std.specs.Prelude.{◌++◌, ◌∷◌, [], Some};
-ghost use Rattle.gl_query.specs.Lists.{Member};
+ghost use Rattle.gl_query.specs.Lists.{Member, AreDistinct};
 ghost use Rattle.gl_query.specs.Machine as Machine;
-ghost use Rattle.gl_query.specs.Machine.{at};
+ghost use Rattle.gl_query.specs.Machine.{keys};
 ghost use Rattle.gl_calculus.specs.Grid.{Addr as PlainAddr, Size as PlainSize, AreInOrder};
 ghost use Rattle.gl_calculus.specs.Value as V;
 ghost use Rattle.gl_calculus.specs.Key as K;
-ghost use Rattle.gl_calculus.specs.Key.{same_key};
 ghost use Rattle.gl_calculus.specs.Formula.{Version as PlainVersion, Cells as Sheet};
 ghost use Rattle.gl_calculus.specs.Oracle.{AreSizes};
 ghost use Rattle.gl_calculus.specs.Calculation.{DemandedIn};
@@ -14,38 +13,43 @@ ghost use Rattle.gl_value.specs.View.{value_tree};
 ghost use Rattle.gl_demand.specs.View.{outcome_tree};
 ghost use Rattle.gl_core.specs.State.{state_of};
 ghost use Rattle.gl_calc.specs.Shown.{IsRound};
-ghost use Rattle.gl_calc.specs.Visits.{Visits, Collects};
+ghost use Rattle.gl_calc.specs.Visits.{Visits, Collects, status_at, StandFirst};
 
 use crate::ending::RoundFault;
 use gl_core::{Quiet, Seen};
-use gl_demand::{Budget, Key, Outcome};
+use gl_demand::{Budget, Outcome};
 use gl_plane::{Addr, NoMemory, Sizes};
-use gl_value::{Env, Value};
+use gl_value::Value;
 use std::alloc::Global;
 
 /// The sizes of the arrays among the values of these formula cells, or the first of them that ended
 /// as spent.
 pub fn collected(alloc: Global, places: &[Addr], quiet: &Quiet) -> Result<Sizes, RoundFault>
     requires { AreInOrder places.now }
-    ensures { (version : PlainVersion) (S : Sheet) (w : V.Oracle) → IsRound version S w (state_of quiet.now) → ((a : PlainAddr) → Member a places.now → DemandedIn version S w (K.Cell V.Top a)) → Collects version S w places.now result }
+    ensures { (version : PlainVersion) (S : Sheet) (w : V.Oracle) → IsRound version S w (state_of quiet.now)
+        → StandFirst places.now (state_of quiet.now) → AreDistinct (keys (state_of quiet.now))
+        → ((a : PlainAddr) → Member a places.now → DemandedIn version S w (K.Cell V.Top a))
+        → Collects version S w places.now result }
 {
     let mut sizes = Sizes::new(alloc);
+    let mut i = 0;
     for a in places {
-        match visit(quiet, *a, &mut sizes) {
+        match visit(quiet, i, *a, &mut sizes) {
             Ok(()) => {}
             Err(fault) => return Err(fault),
         }
+        i += 1;
     }
     Ok(sizes)
 }
 
-/// Adds the size of a formula cell's value, if that is an array.
+/// Adds the size of a formula cell's value, if that is an array. The cell is the seed of this number.
 #[tactic(auto, using(gl_value::specs::Forms::trees))]
-fn visit(quiet: &Quiet, a: Addr, sizes: &mut Sizes) -> Result<(), RoundFault>
+fn visit(quiet: &Quiet, i: usize, a: Addr, sizes: &mut Sizes) -> Result<(), RoundFault>
     requires { (z : PlainSize) → AreSizes (sizes.old ++ (a, z) ∷ []) }
-    ensures { Visits a (at same_key (state_of quiet.now) (K.Cell V.Top a)) sizes.old result sizes.new }
+    ensures { Visits a (status_at (state_of quiet.now) i) sizes.old result sizes.new }
 {
-    match quiet.seen(&Key::Cell(Env::Top, a)) {
+    match quiet.seen_at(i) {
         Some(Seen::Known(outcome)) => add(a, outcome, sizes),
         Some(Seen::Loops) => Ok(()),
         None => Ok(()),

@@ -1,5 +1,6 @@
-use Rattle.std.proofs.Common.{◌++◌, map, drop}
-use Rattle.gl_query.specs.Lists.{Member}
+use Rattle.std.proofs.Common.{◌≡◌, ◌++◌, map, drop}
+use Rattle.gl_query.specs.Lists.{Member, AreDistinct}
+use Rattle.gl_query.specs.Machine.{keys}
 use Rattle.gl_calculus.specs.Grid.{Addr, AreInOrder}
 use Rattle.gl_calculus.specs.Value.{Oracle, Top}
 use Rattle.gl_calculus.specs.Formula.{Version, Cells}
@@ -7,12 +8,14 @@ use Rattle.gl_calculus.specs.Key.{Cell}
 use Rattle.gl_calculus.specs.Calculation.{DemandedIn}
 use Rattle.gl_core.specs.State.{state_of}
 use Rattle.gl_calc.specs.Shown.{IsRound}
+use Rattle.gl_calc.specs.Visits.{StandFirst}
 use Rattle.gl_calc.proofs.Arrays.{Goes}
 use Rattle.gl_calc.proofs.collecting.collected.Given as goal
 
 -- What was found so far goes on with the formulas that are left, and stays in order before them.
 abbrev pub invariant-loop-a : goal.invariant-loop-a
 invariant-loop-a l = record {
-  goes : (version : Version) (S : Cells) (w : Oracle) → IsRound version S w (state_of l.quiet) → ((a : Addr) → Member a l.places → DemandedIn version S w (Cell Top a)) → Goes version S w l.places l.sizes (drop l.a-index l.places);
+  goes : (version : Version) (S : Cells) (w : Oracle) → IsRound version S w (state_of l.quiet) → StandFirst l.places (state_of l.quiet) → AreDistinct (keys (state_of l.quiet)) → ((a : Addr) → Member a l.places → DemandedIn version S w (Cell Top a)) → Goes version S w l.places l.sizes (drop l.a-index l.places);
+  count : l.i ≡ l.a-index;
   ordered : AreInOrder (map (λ x. x.0) l.sizes ++ drop l.a-index l.places);
 }

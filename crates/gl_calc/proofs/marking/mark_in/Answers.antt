@@ -1,5 +1,4 @@
-use Rattle.std.proofs.Common.{◌≡◌, ◌+◌, ◌++◌, ◌∷◌, [], ◌≤◌, ◌<◌, take, length, slice_get, vec_len, Some, None, refl, sym, ap, subst, ◌∙◌, append_assoc, append-nil, arith}
-use Rattle.gl_calculus.specs.Formula.{formula_addresses}
+use Rattle.std.proofs.Common.{◌≡◌, ◌++◌, ◌∷◌, [], take, slice_get, Some, refl, sym, ap, ◌∙◌, append_assoc, append-nil, arith}
 use Rattle.gl_protocol.specs.Commands.{places_in}
 use Rattle.gl_cells.specs.Sheet.{sheet}
 use Rattle.gl_calc.proofs.Calcs.{clear_length}

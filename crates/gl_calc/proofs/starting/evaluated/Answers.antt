@@ -1,10 +1,10 @@
-use Rattle.std.proofs.Common.{◌≡◌, ℕ, List, IfOk, IfErr, map, ap, sym, subst, ◌∙◌, arith, length}
+use Rattle.std.proofs.Common.{ℕ, List, IfOk, IfErr, map, ap, sym, subst, ◌∙◌, arith, length}
 use Rattle.gl_query.specs.Lists.{Member, AreDistinct, MoreThan}
 use Rattle.gl_query.specs.Machine.{Demanded}
 use Rattle.gl_calculus.specs.Value.{Top}
 use Rattle.gl_calculus.specs.Formula.{formula_addresses}
 use Rattle.gl_calculus.specs.Limits.{max_demanded}
-use Rattle.gl_calculus.specs.Key.{Cell, same_key}
+use Rattle.gl_calculus.specs.Key.{Cell}
 use Rattle.gl_calculus.specs.Evaluation.{program}
 use Rattle.gl_calculus.specs.Grid.{Addr}
 use Rattle.gl_calculus.specs.Memory.{Table}

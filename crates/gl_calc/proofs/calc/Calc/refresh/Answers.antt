@@ -1,4 +1,4 @@
-use Rattle.std.proofs.Common.{◌≡◌, ◌+◌, ◌≤◌, [], Vec, Global, OnErr, vec_len, vec_capacity, length, Some, if◌then◌else◌, refl, sym, ap, subst, ◌∙◌, arith}
+use Rattle.std.proofs.Common.{◌≡◌, [], Vec, Global, OnErr, Some, if◌then◌else◌, sym, ap, subst, ◌∙◌, arith}
 use Rattle.gl_calculus.specs.Memory as M
 use Rattle.gl_calculus.specs.Memory.{Table, tables_for}
 use Rattle.gl_ast.specs.View.{version_tree}
