@@ -60,6 +60,7 @@ pub fn wanted<O, A>(
     ensures seeds { IfOk result (λ m. (s : ℕ) → Member s seeds.now → is_marked m.items s ≡ true) }
     ensures closed { IfOk result (λ m. AreFollowed (notes_of rows.now) m.items) }
     ensures reached { IfOk result (λ m. AreReached (notes_of rows.now) seeds.now m.items) }
+    ensures size { IfOk result (λ m. vec_len m ≡ numbers) }
 {
     let mut marks = vec![in alloc; false; numbers]?;
     mark_all(&mut marks, seeds);
