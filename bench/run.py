@@ -94,19 +94,63 @@ def leaf_edits():
     return [], '\n'.join(lines) + '\n'
 
 
-WORKLOADS = [generator, chain, sums, spills, copies, table, commands, asked_again, leaf_edits]
+def siblings():
+    """3,000 copies that differ in one cell, each with a copy inside that changes nothing."""
+    lines = ['set A1 1', 'set B1 =A1*10', 'set C1 =VIEW(SHEET(B1),B1)']
+    lines += ['set E%d =VIEW(UPDATE(SHEET(A1:C1),A1,%d),C1)' % (i, i) for i in range(1, 3001)]
+    lines += ['show E3000', 'set B1 =A1*20', 'show E3000', 'set E7 1', 'show E8']
+    return [], '\n'.join(lines) + '\n'
+
+
+def gridlets():
+    """2,000 gridlets of one small function, with 200 edits of what they are given."""
+    lines = ['set A1 3', 'set B1 4', 'set C1 =A1*A1+B1*B1']
+    for i in range(1, 2001):
+        given = 'UPDATE(UPDATE(SHEET(A1:C1),A1,E%d),B1,E%d+1)' % (i, i)
+        lines += ['set E%d %d' % (i, i), 'set F%d =VIEW(%s,C1)' % (i, given)]
+    lines += ['calc']
+    for i in range(1, 201):
+        lines += ['set E%d %d' % (i, i + 7), 'show F%d' % i]
+    return [], '\n'.join(lines) + '\n'
+
+
+def recursion(n):
+    """A recursion of copies in which the keys double at each level."""
+    inner = 'UPDATE(UPDATE(SHEET(A1:B3),A1,A1-2),A2,SEQUENCE(2,1))'
+    lines = ['gridlet 2', 'set A1 2', 'set B1 =IF(A1<=1,NA(),A1+VIEW(%s,B1))' % inner]
+    lines += ['set D1 =G(A1:B1,A1,%d)' % n, 'show D1']
+    return [], '\n'.join(lines) + '\n'
+
+
+def recursion22():
+    """That recursion at 22."""
+    return recursion(22)
+
+
+def recursion26():
+    """That recursion at 26, with four times the keys."""
+    return recursion(26)
+
+
+def recursion64():
+    """That recursion at 64, which is beyond the limit of demanded keys."""
+    return recursion(64)
+
+
+WORKLOADS = [generator, chain, sums, spills, copies, table, commands, asked_again, leaf_edits,
+             siblings, gridlets, recursion22, recursion26, recursion64]
 
 
 def main():
     program, names = sys.argv[1], sys.argv[2:]
-    print('%-10s %10s %10s %6s %8s' % ('workload', 'in', 'out', 'status', 'seconds'))
+    print('%-11s %10s %10s %6s %8s' % ('workload', 'in', 'out', 'status', 'seconds'))
     for workload in WORKLOADS:
         if names and workload.__name__ not in names:
             continue
         words, script = workload()
         start = time.time()
         done = subprocess.run([program] + words, input=script.encode(), capture_output=True)
-        print('%-10s %10d %10d %6d %8.2f' % (workload.__name__, len(script), len(done.stdout), done.returncode, time.time() - start))
+        print('%-11s %10d %10d %6d %8.2f' % (workload.__name__, len(script), len(done.stdout), done.returncode, time.time() - start))
 
 
 if __name__ == '__main__':
