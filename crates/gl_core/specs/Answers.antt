@@ -1,5 +1,5 @@
 -- What picks and runs answer, and the steps that they take.
-use Rattle.std.specs.Prelude.{◌≡◌, ℕ, ◌+◌, ◌≤◌, List, length, Option, Some, None, Bool, false, cond, IsTrue, IfSome, IsSome}
+use Rattle.std.specs.Prelude.{◌≡◌, ℕ, ◌+◌, ◌≤◌, List, length, slice_get, Option, Some, None, Bool, false, cond, IsTrue, IfSome, IsSome}
 use Rattle.gl_query.specs.Lists.{Member, AreDistinct}
 use Rattle.gl_query.specs.Query.{Query}
 use Rattle.gl_query.specs.Machine as Machine
@@ -17,6 +17,7 @@ use Rattle.gl_core.specs.declared.quiet.Seen.{Seen}
 use Rattle.gl_core.specs.declared.quiet.Seen.TheVariants.{Known, Loops}
 use Rattle.gl_demand.specs.declared.outcome.Outcome.{Outcome}
 use Rattle.gl_core.specs.declared.status.Status.{Status}
+use Rattle.gl_support.specs.declared.row.Row.{Row}
 use Rattle.gl_core.specs.State.{State}
 
 abbrev pub picked_tree : Picked → Machine.Picked
@@ -64,8 +65,8 @@ IsKnown o (Known x) = x.now ≡ o
 IsKnown o Loops = ⊥
 
 -- what is seen by a status: nothing where there is none, or it is idle
-abbrev pub IsSeenStatus : Option Seen → Option Status → Type 0
-IsSeenStatus r None = r ≡ None
-IsSeenStatus r (Some Status.Idle) = r ≡ None
-IsSeenStatus r (Some (Status.Waiting p)) = r ≡ Some Loops
-IsSeenStatus r (Some (Status.Resolved o)) = IfSome r (IsKnown o) × IsSome r
+abbrev pub IsSeenStatus : List (Row Outcome Range) → Option Seen → Option Status → Type 0
+IsSeenStatus rows r None = r ≡ None
+IsSeenStatus rows r (Some Status.Idle) = r ≡ None
+IsSeenStatus rows r (Some (Status.Waiting p)) = r ≡ Some Loops
+IsSeenStatus rows r (Some (Status.Resolved i)) = (x : Row Outcome Range) → slice_get rows i ≡ Some x → IfSome r (IsKnown x.outcome) × IsSome r

@@ -1,5 +1,5 @@
 //! The core: known keys, each idle, waiting for another or resolved, and what a pick does.
-ghost use Rattle.std.specs.Prelude.{[], true, false, ◌≡◌, ◌≤◌, ◌<◌, ◌+◌, ◌-◌, ◌^◌, ℕ, length, map, OnOk, OnErr, IfOk, IfErr, vec_len};
+ghost use Rattle.std.specs.Prelude.{[], true, false, ◌≡◌, ◌≤◌, ◌<◌, ◌+◌, ◌-◌, ◌^◌, ℕ, length, map, slice_index, OnOk, OnErr, IfOk, IfErr, vec_len};
 ghost use Rattle.gl_query.specs.Lists.{Member, AreDistinct, MoreThan};
 ghost use Rattle.gl_query.specs.Laws.{IsQuiet};
 ghost use Rattle.gl_query.specs.Machine as Machine;
@@ -21,14 +21,17 @@ ghost use Rattle.gl_demand.specs.View.{key_tree};
 ghost use Rattle.gl_demand.specs.Sound.{AreSoundKeys};
 ghost use Rattle.gl_core.specs.State.{state_of, seeds_of, notes_in, note_trees, is_noted, noted_after, HaveSoundParts, IsFor};
 ghost use Rattle.gl_query.specs.InOrder.{note_keys};
-ghost use Rattle.gl_core.specs.Table.{table_of, IsTable};
+ghost use Rattle.gl_core.specs.Table.{IsTable, AreIdle};
 ghost use Rattle.gl_core.specs.Answers.{picked_tree, counted, AllowsDemanded, AllowsKnown};
 
 use crate::answers::{CoreFault, Picked};
+use crate::converting::ledger_of;
 use crate::entries::Entries;
+use crate::ledger::Ledger;
 use crate::picking::pick_at;
 use crate::quiet::Quiet;
 use crate::results::Results;
+use crate::resuming::resumed;
 use gl_ast::Version;
 use gl_cells::Cells;
 use gl_demand::{Key, Outcome, Steps, Watch};
@@ -48,26 +51,23 @@ use std::marker::Model;
 pub struct Core {
     entries: Entries,
     seeds: usize,
-    notes: Memo<Key, Outcome, Range>,
+    ledger: Ledger,
 }
 
 impl Model for Core {
     ghost use Rattle.std.specs.Coded.{codes};
-    ghost use Rattle.gl_value.specs.contracts.Env as env;
-    ghost use Rattle.gl_value.specs.contracts.SheetVal as sheet_val;
-    ghost use Rattle.gl_value.specs.contracts.Value as value;
-    ghost use Rattle.gl_memo.specs.Notes.{notes_of};
+    ghost use Rattle.gl_calculus.specs.Codes.{coded_key, coded_outcome, coded_note};
     ghost use Rattle.gl_core.specs.Held.{Held};
+    ghost use Rattle.gl_core.specs.Ledger.{written};
+    ghost use Rattle.gl_core.specs.Table.{table_of, IsCore};
 
     ghost Value = { Held };
 
-    ghost coded = { Prim.hlevel (codes, env.the_row.coded, sheet_val.the_row.coded, value.the_row.coded) };
+    ghost coded = { Prim.hlevel (codes, coded_key, coded_outcome, coded_note) };
 
-    ghost view = { λ c. record { keys = c.entries.keys.keys; statuses = c.entries.statuses.items.items; seeds = c.seeds; notes = notes_of c.notes } };
+    ghost view = { λ c. record { state = table_of c.ledger c.entries; seeds = c.seeds; notes = written c.ledger } };
 
-    ghost use Rattle.gl_core.specs.Table.{IsCore};
-
-    ghost invariant = { λ c. IsCore c.entries (notes_of c.notes) };
+    ghost invariant = { λ c. IsCore c.ledger c.entries };
 }
 
 fn is_full(picked: Picked) -> bool
@@ -81,18 +81,18 @@ fn is_full(picked: Picked) -> bool
     }
 }
 
-/// The seeds, all idle.
-fn seeded(alloc: Global, seeds: Vec<Key>) -> Result<Entries, NoMemory>
-    requires few { vec_len seeds ≤ max_demanded }
-    requires apart { AreDistinct (map key_tree seeds.items) }
-    requires sound { AreSoundKeys (map key_tree seeds.items) }
-    ensures keys { IfOk result (λ e. e.keys.keys ≡ seeds.items) }
-    ensures state { IfOk result (λ e. table_of e ≡ Machine.start (map key_tree seeds.items)) }
+/// These numbers, all idle.
+fn seeded(alloc: Global, seeds: &[u32]) -> Result<Entries, NoMemory>
+    requires few { length seeds.now ≤ max_demanded }
+    requires apart { AreDistinct seeds.now }
+    ensures known { IfOk result (λ e. e.known.items ≡ seeds.now) }
+    ensures idle { IfOk result (λ e. AreIdle e.statuses.items.items) }
+    ensures passed { IfOk result (λ e. (q : ℕ) → slice_index e.passed.items q ≡ 0) }
     ensures table { IfOk result IsTable }
 {
     let mut entries = Entries::new(alloc);
-    for seed in seeds {
-        entries.add_idle(alloc, seed, Vec::new(alloc))?;
+    for n in seeds {
+        entries.add_idle(alloc, *n, Vec::new(alloc))?;
     }
     Ok(entries)
 }
@@ -129,12 +129,14 @@ impl Core {
         ensures notes { IfOk result (λ core. notes_in core ≡ note_trees (notes_of kept)) }
         ensures for_it { IfOk result (λ core. IsFor (version_tree version) (sheet cells.now) w.now core) }
     {
+        let mut ledger = ledger_of(alloc, &kept)?;
         let count = seeds.len();
-        let entries = seeded(alloc, seeds)?;
+        let seeds = ledger.numbers(alloc, &seeds)?;
+        let entries = seeded(alloc, &seeds)?;
         Ok(Core {
             entries,
             seeds: count,
-            notes: kept,
+            ledger,
         })
     }
 
@@ -157,12 +159,14 @@ impl Core {
         ensures for_it { IfOk result (λ core. IsFor (version_tree version) (sheet cells.now) w.now core) }
         ensures work { IfErr result (λ e. e ≡ CoreFault.Work → MoreThan max_demanded (Demanded (program (version_tree version) (sheet cells.now) w.now) (map (K.Cell V.Top) places.now))) }
     {
-        let Ok(seeds) = top_keys(alloc, places) else {
-            return Err(CoreFault::NoMemory);
-        };
-        match Core::start(alloc, seeds, results.into_memo(), cells, w, version) {
-            Ok(core) => Ok(core),
-            Err(_) => Err(CoreFault::NoMemory),
+        let mut ledger = results.into_ledger();
+        match resumed(alloc, places, &mut ledger) {
+            Ok(entries) => Ok(Core {
+                entries,
+                seeds: places.len(),
+                ledger,
+            }),
+            Err(fault) => Err(fault),
         }
     }
 
@@ -202,7 +206,7 @@ impl Core {
         pick_at(
             alloc,
             &mut self.entries,
-            &mut self.notes,
+            &mut self.ledger,
             p,
             cells,
             w,
@@ -259,6 +263,6 @@ impl Core {
         requires { length (idle_keys (state_of self)) ≡ 0 }
         ensures { result ≡ self }
     {
-        Quiet::new(self.entries, self.seeds, self.notes)
+        Quiet::new(self.entries, self.seeds, self.ledger)
     }
 }

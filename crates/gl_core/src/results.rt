@@ -6,43 +6,55 @@ ghost use Rattle.gl_query.specs.Query.{Ready};
 ghost use Rattle.gl_query.specs.Remembered.{AreClosed, AreTheKept};
 ghost use Rattle.gl_query.specs.InOrder.{AreOrdered, note_keys, kept_after};
 ghost use Rattle.gl_calculus.specs.Key.{same_key};
-ghost use Rattle.gl_memo.specs.Notes.{notes_of};
 ghost use Rattle.gl_plane.specs.Changes.{reaches};
 ghost use Rattle.gl_demand.specs.View.{key_tree, outcome_tree};
 ghost use Rattle.gl_demand.specs.Sound.{IsSoundFound};
-ghost use Rattle.gl_core.specs.State.{note_trees};
+ghost use Rattle.gl_core.specs.Ledger.{written, IsLedger};
 ghost use Rattle.gl_core.specs.Results.{outcome_in, AreResults};
 
-use crate::copies::copy_notes;
-use crate::dropping::affected_keys;
+use crate::converting::copy_ledger;
+use crate::ledger::Ledger;
+use crate::outcomes::row_outcome;
 use gl_demand::{Key, Outcome};
-use gl_memo::Memo;
-use gl_plane::{Changes, NoMemory, Range};
+use gl_plane::{Changes, NoMemory};
 use std::alloc::Global;
 use std::marker::Model;
+
+/// So many keys without a note may stay in the book for each half of those with one.
+const SPARE: usize = 512;
 
 /// The notes of keys, each with the key's outcome, the keys that it read and the ranges that it
 /// looked at, in the order of noting: what a note read stands before it.
 #[derive(Drop)]
 pub struct Results {
-    notes: Memo<Key, Outcome, Range>,
+    ledger: Ledger,
 }
 
 impl Model for Results {
     ghost use Rattle.std.specs.Coded.{codes};
     ghost use Rattle.gl_calculus.specs.Codes.{coded_note};
     ghost use Rattle.gl_calculus.specs.Memory.{Notes};
-    ghost use Rattle.gl_memo.specs.Notes.{notes_of};
-    ghost use Rattle.gl_core.specs.State.{note_trees};
+    ghost use Rattle.gl_core.specs.Ledger.{written, IsLedger};
     ghost use Rattle.gl_core.specs.Results.{AreResults};
 
     ghost Value = { Notes };
 
     ghost coded = { Prim.hlevel (codes, coded_note) };
 
-    ghost view = { λ r. note_trees (notes_of r.notes) };
+    ghost view = { λ r. written r.ledger };
 
-    ghost invariant = { λ r. AreResults (note_trees (notes_of r.notes)) };
+    ghost invariant = { λ r. IsLedger r.ledger × AreResults (written r.ledger) };
+}
+
+/// The same notes in a book of their keys alone, if there is memory for it.
+fn give_back(alloc: Global, ledger: &mut Ledger)
+    requires { IsLedger ledger.old }
+    ensures notes { written ledger.new ≡ written ledger.old }
+    ensures kept { IsLedger ledger.new }
+{
+    if let Ok(copy) = copy_ledger(alloc, ledger) {
+        *ledger = copy;
+    }
 }
 
 impl Results {
@@ -51,24 +63,26 @@ impl Results {
         ensures { result ≡ [] }
     {
         Results {
-            notes: Memo::new(alloc),
+            ledger: Ledger::new(alloc),
         }
     }
 
     /// These notes.
-    pub(crate) fn of(notes: Memo<Key, Outcome, Range>) -> Results
-        requires { AreResults (note_trees (notes_of notes)) }
-        ensures { result ≡ note_trees (notes_of notes) }
+    pub(crate) fn of(ledger: Ledger) -> Results
+        requires kept { IsLedger ledger }
+        requires results { AreResults (written ledger) }
+        ensures { result ≡ written ledger }
     {
-        Results { notes }
+        Results { ledger }
     }
 
-    /// The notes, as a table.
-    pub(crate) fn into_memo(self) -> Memo<Key, Outcome, Range>
-        ensures notes { note_trees (notes_of result) ≡ self }
-        ensures kept { AreResults (note_trees (notes_of result)) }
+    /// The notes by numbers.
+    pub(crate) fn into_ledger(self) -> Ledger
+        ensures notes { written result ≡ self }
+        ensures kept { IsLedger result }
+        ensures results { AreResults (written result) }
     {
-        self.notes
+        self.ledger
     }
 
     /// How many notes there are.
@@ -77,7 +91,7 @@ impl Results {
         ensures apart { AreDistinct (note_keys self.now) }
         ensures ordered { AreOrdered [] self.now }
     {
-        self.notes.len()
+        self.ledger.rows.len()
     }
 
     /// The outcome of a key: `None` exactly where it has no note.
@@ -85,8 +99,8 @@ impl Results {
         ensures value { option_map outcome_tree (option_copied result) ≡ outcome_in self.now (key_tree k.now) }
         ensures sound { IfSome result (λ o. IsSoundFound (key_tree k.now) (Ready (outcome_tree o.now))) }
     {
-        match self.notes.get(k) {
-            Some(note) => Some(&note.outcome),
+        match self.ledger.book.find(k) {
+            Some(n) => row_outcome(&self.ledger, self.ledger.row(n)),
             None => None,
         }
     }
@@ -95,15 +109,17 @@ impl Results {
     pub fn copy(&self, alloc: Global) -> Result<Results, NoMemory>
         ensures { IfOk result (λ r. r ≡ self.now) }
     {
-        let notes = copy_notes(alloc, &self.notes)?;
-        Ok(Results { notes })
+        let ledger = copy_ledger(alloc, &self.ledger)?;
+        Ok(Results { ledger })
     }
 
     /// Gives back room that notes which are gone have left, as far as there is memory to do so.
-    pub fn tidy(&mut self, _alloc: Global)
+    pub fn tidy(&mut self, alloc: Global)
         ensures { self.new ≡ self.old }
     {
-        self.notes.shrink();
+        if self.ledger.book.len() / 2 > self.ledger.rows.len() + SPARE {
+            give_back(alloc, &mut self.ledger);
+        }
     }
 
     /// Drops the notes that rest on something that was changed: each that looked at a changed
@@ -115,8 +131,6 @@ impl Results {
         ensures closed { AreClosed self.old }
         ensures err { OnErr result (self.new ≡ self.old) }
     {
-        let gone = affected_keys(alloc, &self.notes, changes)?;
-        self.notes.remove_all(&gone);
-        Ok(())
+        self.ledger.keep(alloc, changes)
     }
 }

@@ -7,42 +7,39 @@ use Rattle.gl_calculus.specs.Key.{same_key}
 use Rattle.gl_calculus.specs.Evaluation.{program}
 use Rattle.gl_ast.specs.View.{version_tree}
 use Rattle.gl_cells.specs.Sheet.{sheet}
-use Rattle.gl_memo.specs.Notes.{notes_of}
 use Rattle.gl_core.specs.Held.{Held}
 use Rattle.gl_core.specs.State.{state_of, seeds_of, notes_in, is_noted, noted_after, IsFor}
 use Rattle.gl_core.specs.Statuses.{count_idle}
+use Rattle.gl_core.specs.Ledger.{written}
 use Rattle.gl_core.specs.Answers.{picked_tree, counted}
-use Rattle.gl_core.proofs.Wakes.{get_there}
 use Rattle.gl_core.proofs.Idle.{at_most_length}
-use Rattle.gl_core.proofs.Places.{length-idle, on_ok, if_ok}
-use Rattle.gl_core.proofs.Picks.{held, there, the_key, proper_there, outcomes_true, picked_state, picked_answer, picked_notes, picked_stays, picked_seeds, picked_sound, picked_order}
+use Rattle.gl_core.proofs.Places.{on_ok, if_ok}
+use Rattle.gl_core.proofs.Cores.{idle_count, the_key_at}
+use Rattle.gl_core.proofs.Picks.{there, the_key, proper_there, outcomes_true, picked_state, picked_answer, picked_notes, picked_stays, picked_seeds, picked_order}
 use Rattle.gl_core.proofs.machine.Core.pick.Goals as goal
 
 pub idle_place-p-requires-clause-there : goal.idle_place-p-requires-clause-there
 idle_place-p-requires-clause-there g c =
-    let e = c.self.inside.entries in
-    let t = c.self.invariant.table in
-    let l : length (idle_keys (state_of c.args.self.now)) ≡ count_idle e.statuses.items.items = ap (λ (h : Held). length (idle_keys (state_of h))) (sym c.self.view_is) ∙ length-idle e.keys.keys e.keys.keys e.statuses.items.items t.statuses t.known in
+    let l : length (idle_keys (state_of c.args.self.now)) ≡ count_idle c.self.inside.entries.statuses.items.items = ap (λ (h : Held). length (idle_keys (state_of h))) (sym c.self.view_is) ∙ idle_count c.self.inside.ledger c.self.inside.entries c.self.invariant in
     subst (λ n. c.args.i < n) l c.requires.there
 
 pub overflow_cast-i : goal.overflow_cast-i
 overflow_cast-i g c =
-    let e = c.self.inside.entries in
+    let l : length (idle_keys (state_of c.args.self.now)) ≡ count_idle c.self.inside.entries.statuses.items.items = ap (λ (h : Held). length (idle_keys (state_of h))) (sym c.self.view_is) ∙ idle_count c.self.inside.ledger c.self.inside.entries c.self.invariant in
     let t = c.self.invariant.table in
-    let l : length (idle_keys (state_of c.args.self.now)) ≡ count_idle e.statuses.items.items = ap (λ (h : Held). length (idle_keys (state_of h))) (sym c.self.view_is) ∙ length-idle e.keys.keys e.keys.keys e.statuses.items.items t.statuses t.known in
-    let m = at_most_length e.statuses.items.items in
+    let m = at_most_length c.self.inside.entries.statuses.items.items in
     let k : c.args.i < 2 ^ 32 = omega (arith, l, m, t.statuses, t.few, c.requires.there) in
     search (rules, k)
 
 pub pick_at-requires-clause-there : goal.pick_at-requires-clause-there
 pick_at-requires-clause-there g c =
     let h = subst (IsFor (version_tree c.args.version) (sheet c.args.cells.now) c.args.w.now) (sym c.self.view_is) c.requires.for_it in
-    there (version_tree c.args.version) (sheet c.args.cells.now) c.args.w.now c.self.inside.entries c.self.inside.seeds (notes_of c.self.inside.notes) h c.self.invariant.table c.args.i c.idle_place-p.result c.idle_place-p.ensures.before c.idle_place-p.ensures.idle
+    there (version_tree c.args.version) (sheet c.args.cells.now) c.args.w.now c.self.inside.ledger c.self.inside.entries c.self.inside.seeds h c.self.invariant c.args.i c.idle_place-p.result c.idle_place-p.ensures.before c.idle_place-p.ensures.idle
 
 pub pick_at-requires-clause-proper : goal.pick_at-requires-clause-proper
 pick_at-requires-clause-proper g c =
     let h = subst (IsFor (version_tree c.args.version) (sheet c.args.cells.now) c.args.w.now) (sym c.self.view_is) c.requires.for_it in
-    proper_there (version_tree c.args.version) (sheet c.args.cells.now) c.args.w.now c.self.inside.entries c.self.inside.seeds (notes_of c.self.inside.notes) h c.self.invariant.table c.args.i c.idle_place-p.result c.idle_place-p.ensures.before c.idle_place-p.ensures.idle
+    proper_there (version_tree c.args.version) (sheet c.args.cells.now) c.args.w.now c.self.inside.ledger c.self.inside.entries c.self.inside.seeds h c.self.invariant c.args.i c.idle_place-p.result c.idle_place-p.ensures.before c.idle_place-p.ensures.idle
 
 pub pick_at-requires-clause-true_notes : goal.pick_at-requires-clause-true_notes
 pick_at-requires-clause-true_notes g c =
@@ -52,45 +49,43 @@ pick_at-requires-clause-true_notes g c =
 pub pick_at-requires-clause-outcomes : goal.pick_at-requires-clause-outcomes
 pick_at-requires-clause-outcomes g c =
     let h = subst (IsFor (version_tree c.args.version) (sheet c.args.cells.now) c.args.w.now) (sym c.self.view_is) c.requires.for_it in
-    outcomes_true (version_tree c.args.version) (sheet c.args.cells.now) c.args.w.now c.self.inside.entries c.self.inside.seeds (notes_of c.self.inside.notes) h c.self.invariant.table c.args.i c.idle_place-p.result c.idle_place-p.ensures.before c.idle_place-p.ensures.idle
-
-pub invariant_of-self : goal.invariant_of-self
-invariant_of-self g c =
-    let h = subst (IsFor (version_tree c.args.version) (sheet c.args.cells.now) c.args.w.now) (sym c.self.view_is) c.requires.for_it in
-    picked_sound (version_tree c.args.version) (sheet c.args.cells.now) c.args.w.now c.self.inside.entries c.self.inside.seeds (notes_of c.self.inside.notes) h c.self.invariant.table c.args.i c.idle_place-p.result c.idle_place-p.ensures.before c.idle_place-p.ensures.idle c.pick_at.new.entries (notes_of c.pick_at.new.notes) c.pick_at.result c.pick_at.ensures.state c.pick_at.ensures.answer c.pick_at.ensures.keys_err c.pick_at.ensures.statuses_err c.pick_at.ensures.notes_err c.pick_at.ensures.table c.self.invariant.sound_notes
+    outcomes_true (version_tree c.args.version) (sheet c.args.cells.now) c.args.w.now c.self.inside.ledger c.self.inside.entries c.self.inside.seeds h c.self.invariant c.args.i c.idle_place-p.result c.idle_place-p.ensures.before c.idle_place-p.ensures.idle
 
 pub returns-clause-state : goal.returns-clause-state
 returns-clause-state g c =
     let h = subst (IsFor (version_tree c.args.version) (sheet c.args.cells.now) c.args.w.now) (sym c.self.view_is) c.requires.for_it in
-    on_ok c.pick_at.result (picked_state (version_tree c.args.version) (sheet c.args.cells.now) c.args.w.now c.self.inside.entries c.self.inside.seeds (notes_of c.self.inside.notes) h c.self.invariant.table c.args.i c.idle_place-p.result c.idle_place-p.ensures.before c.idle_place-p.ensures.idle c.pick_at.new.entries (notes_of c.pick_at.new.notes) c.pick_at.result c.pick_at.ensures.state c.pick_at.ensures.answer c.pick_at.ensures.keys_err c.pick_at.ensures.statuses_err c.pick_at.ensures.notes_err) (λ e. e ∙ ap (λ (x : Held). pick same_key max_demanded (program (version_tree c.args.version) (sheet c.args.cells.now) c.args.w.now) (state_of x) c.args.i) c.self.view_is)
+    on_ok c.pick_at.result (picked_state (version_tree c.args.version) (sheet c.args.cells.now) c.args.w.now c.self.inside.ledger c.self.inside.entries c.self.inside.seeds h c.self.invariant c.args.i c.idle_place-p.result c.idle_place-p.ensures.before c.idle_place-p.ensures.idle c.pick_at.new.ledger c.pick_at.new.entries c.pick_at.result c.pick_at.ensures.state c.pick_at.ensures.answer c.pick_at.ensures.err) (λ e. e ∙ ap (λ (x : Held). pick same_key max_demanded (program (version_tree c.args.version) (sheet c.args.cells.now) c.args.w.now) (state_of x) c.args.i) c.self.view_is)
 
 pub returns-clause-answer : goal.returns-clause-answer
 returns-clause-answer g c =
     let h = subst (IsFor (version_tree c.args.version) (sheet c.args.cells.now) c.args.w.now) (sym c.self.view_is) c.requires.for_it in
-    if_ok c.pick_at.result (picked_answer (version_tree c.args.version) (sheet c.args.cells.now) c.args.w.now c.self.inside.entries c.self.inside.seeds (notes_of c.self.inside.notes) h c.self.invariant.table c.args.i c.idle_place-p.result c.idle_place-p.ensures.before c.idle_place-p.ensures.idle c.pick_at.new.entries (notes_of c.pick_at.new.notes) c.pick_at.result c.pick_at.ensures.state c.pick_at.ensures.answer c.pick_at.ensures.keys_err c.pick_at.ensures.statuses_err c.pick_at.ensures.notes_err) (λ a e. e ∙ ap (λ (x : Held). answer_at same_key max_demanded (program (version_tree c.args.version) (sheet c.args.cells.now) c.args.w.now) (state_of x) (nth (idle_keys (state_of x)) c.args.i)) c.self.view_is)
+    if_ok c.pick_at.result (picked_answer (version_tree c.args.version) (sheet c.args.cells.now) c.args.w.now c.self.inside.ledger c.self.inside.entries c.self.inside.seeds h c.self.invariant c.args.i c.idle_place-p.result c.idle_place-p.ensures.before c.idle_place-p.ensures.idle c.pick_at.new.ledger c.pick_at.new.entries c.pick_at.result c.pick_at.ensures.state c.pick_at.ensures.answer c.pick_at.ensures.err) (λ a e. e ∙ ap (λ (x : Held). answer_at same_key max_demanded (program (version_tree c.args.version) (sheet c.args.cells.now) c.args.w.now) (state_of x) (nth (idle_keys (state_of x)) c.args.i)) c.self.view_is)
 
 pub returns-clause-notes : goal.returns-clause-notes
 returns-clause-notes g c =
     let h = subst (IsFor (version_tree c.args.version) (sheet c.args.cells.now) c.args.w.now) (sym c.self.view_is) c.requires.for_it in
-    if_ok c.pick_at.result (picked_notes (version_tree c.args.version) (sheet c.args.cells.now) c.args.w.now c.self.inside.entries c.self.inside.seeds (notes_of c.self.inside.notes) h c.self.invariant.table c.args.i c.idle_place-p.result c.idle_place-p.ensures.before c.idle_place-p.ensures.idle c.pick_at.new.entries (notes_of c.pick_at.new.notes) c.pick_at.result c.pick_at.ensures.state c.pick_at.ensures.answer c.pick_at.ensures.keys_err c.pick_at.ensures.statuses_err c.pick_at.ensures.notes_err) (λ a e. e ∙ ap (λ (x : Held). noted_after (notes_in x) (nth (idle_keys (state_of x)) c.args.i) (picked_tree a)) c.self.view_is)
+    if_ok c.pick_at.result (picked_notes (version_tree c.args.version) (sheet c.args.cells.now) c.args.w.now c.self.inside.ledger c.self.inside.entries c.self.inside.seeds h c.self.invariant c.args.i c.idle_place-p.result c.idle_place-p.ensures.before c.idle_place-p.ensures.idle c.pick_at.new.ledger c.pick_at.new.entries c.pick_at.result c.pick_at.ensures.state c.pick_at.ensures.answer c.pick_at.ensures.err) (λ a e. e ∙ ap (λ (x : Held). noted_after (notes_in x) (nth (idle_keys (state_of x)) c.args.i) (picked_tree a)) c.self.view_is)
 
 pub returns-clause-seeds : goal.returns-clause-seeds
 returns-clause-seeds g c =
     let h = subst (IsFor (version_tree c.args.version) (sheet c.args.cells.now) c.args.w.now) (sym c.self.view_is) c.requires.for_it in
-    picked_seeds (version_tree c.args.version) (sheet c.args.cells.now) c.args.w.now c.self.inside.entries c.self.inside.seeds (notes_of c.self.inside.notes) h c.self.invariant.table c.args.i c.idle_place-p.result c.idle_place-p.ensures.before c.idle_place-p.ensures.idle c.pick_at.new.entries (notes_of c.pick_at.new.notes) c.pick_at.result c.pick_at.ensures.state c.pick_at.ensures.answer c.pick_at.ensures.keys_err c.pick_at.ensures.statuses_err c.pick_at.ensures.notes_err ∙ ap seeds_of c.self.view_is
+    picked_seeds (version_tree c.args.version) (sheet c.args.cells.now) c.args.w.now c.self.inside.ledger c.self.inside.entries c.self.inside.seeds h c.self.invariant c.args.i c.idle_place-p.result c.idle_place-p.ensures.before c.idle_place-p.ensures.idle c.pick_at.new.ledger c.pick_at.new.entries c.pick_at.result c.pick_at.ensures.state c.pick_at.ensures.answer c.pick_at.ensures.err ∙ ap seeds_of c.self.view_is
 
 pub returns-clause-stays : goal.returns-clause-stays
 returns-clause-stays g c =
     let h = subst (IsFor (version_tree c.args.version) (sheet c.args.cells.now) c.args.w.now) (sym c.self.view_is) c.requires.for_it in
-    picked_stays (version_tree c.args.version) (sheet c.args.cells.now) c.args.w.now c.self.inside.entries c.self.inside.seeds (notes_of c.self.inside.notes) h c.self.invariant.table c.args.i c.idle_place-p.result c.idle_place-p.ensures.before c.idle_place-p.ensures.idle c.pick_at.new.entries (notes_of c.pick_at.new.notes) c.pick_at.result c.pick_at.ensures.state c.pick_at.ensures.answer c.pick_at.ensures.keys_err c.pick_at.ensures.statuses_err c.pick_at.ensures.notes_err
+    picked_stays (version_tree c.args.version) (sheet c.args.cells.now) c.args.w.now c.self.inside.ledger c.self.inside.entries c.self.inside.seeds h c.self.invariant c.args.i c.idle_place-p.result c.idle_place-p.ensures.before c.idle_place-p.ensures.idle c.pick_at.new.ledger c.pick_at.new.entries c.pick_at.result c.pick_at.ensures.state c.pick_at.ensures.answer c.pick_at.ensures.err
 
 pub returns-clause-counted : goal.returns-clause-counted
 returns-clause-counted g c =
     let h = subst (IsFor (version_tree c.args.version) (sheet c.args.cells.now) c.args.w.now) (sym c.self.view_is) c.requires.for_it in
-    let (k, ek) = get_there c.self.inside.entries.keys.keys c.idle_place-p.result (there (version_tree c.args.version) (sheet c.args.cells.now) c.args.w.now c.self.inside.entries c.self.inside.seeds (notes_of c.self.inside.notes) h c.self.invariant.table c.args.i c.idle_place-p.result c.idle_place-p.ensures.before c.idle_place-p.ensures.idle) in
-    c.pick_at.ensures.counted k ek ∙ ap (λ v. counted (is_noted (notes_in (held c.self.inside.entries c.self.inside.seeds (notes_of c.self.inside.notes)))) v c.args.steps.now) (sym (the_key (version_tree c.args.version) (sheet c.args.cells.now) c.args.w.now c.self.inside.entries c.self.inside.seeds (notes_of c.self.inside.notes) h c.self.invariant.table c.args.i c.idle_place-p.result c.idle_place-p.ensures.before c.idle_place-p.ensures.idle k ek)) ∙ ap (λ (x : Held). counted (is_noted (notes_in x)) (nth (idle_keys (state_of x)) c.args.i) c.args.steps.now) c.self.view_is
+    let (k, ek) = the_key_at c.self.inside.ledger c.self.inside.entries c.self.invariant c.idle_place-p.result (there (version_tree c.args.version) (sheet c.args.cells.now) c.args.w.now c.self.inside.ledger c.self.inside.entries c.self.inside.seeds h c.self.invariant c.args.i c.idle_place-p.result c.idle_place-p.ensures.before c.idle_place-p.ensures.idle) in
+    c.pick_at.ensures.counted k ek ∙ ap (λ v. counted (is_noted (written c.self.inside.ledger)) v c.args.steps.now) (sym (the_key (version_tree c.args.version) (sheet c.args.cells.now) c.args.w.now c.self.inside.ledger c.self.inside.entries c.self.inside.seeds h c.self.invariant c.args.i c.idle_place-p.result c.idle_place-p.ensures.before c.idle_place-p.ensures.idle k ek)) ∙ ap (λ (x : Held). counted (is_noted (notes_in x)) (nth (idle_keys (state_of x)) c.args.i) c.args.steps.now) c.self.view_is
 
 pub returns-clause-ordered : goal.returns-clause-ordered
 returns-clause-ordered g c o =
     let h = subst (IsFor (version_tree c.args.version) (sheet c.args.cells.now) c.args.w.now) (sym c.self.view_is) c.requires.for_it in
-    picked_order (version_tree c.args.version) (sheet c.args.cells.now) c.args.w.now c.self.inside.entries c.self.inside.seeds (notes_of c.self.inside.notes) h c.self.invariant.table c.args.i c.idle_place-p.result c.idle_place-p.ensures.before c.idle_place-p.ensures.idle c.pick_at.new.entries (notes_of c.pick_at.new.notes) c.pick_at.result c.pick_at.ensures.state c.pick_at.ensures.answer c.pick_at.ensures.keys_err c.pick_at.ensures.statuses_err c.pick_at.ensures.notes_err (subst (λ (x : Held). AreOrdered [] (notes_in x)) (sym c.self.view_is) o)
+    picked_order (version_tree c.args.version) (sheet c.args.cells.now) c.args.w.now c.self.inside.ledger c.self.inside.entries c.self.inside.seeds h c.self.invariant c.args.i c.idle_place-p.result c.idle_place-p.ensures.before c.idle_place-p.ensures.idle c.pick_at.new.ledger c.pick_at.new.entries c.pick_at.result c.pick_at.ensures.state c.pick_at.ensures.answer c.pick_at.ensures.err (subst (λ (x : Held). AreOrdered [] (notes_in x)) (sym c.self.view_is) o)
+
+pub pick_at-requires-clause-idle : goal.pick_at-requires-clause-idle
+pick_at-requires-clause-idle g c = c.idle_place-p.ensures.idle

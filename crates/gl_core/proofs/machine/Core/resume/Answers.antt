@@ -1,10 +1,51 @@
-use Rattle.std.proofs.Common.{subst}
-use Rattle.gl_query.specs.Lists.{Member}
-use Rattle.gl_core.proofs.Runs.{top_sound}
+use Rattle.std.proofs.Common.{◌≡◌, [], length, map, ap, sym, subst, ◌∙◌}
+use Rattle.gl_query.specs.Remembered.{AreTrue}
+use Rattle.gl_calculus.specs.Value.{Top}
+use Rattle.gl_calculus.specs.Key as K
+use Rattle.gl_calculus.specs.Key.{same_key}
+use Rattle.gl_calculus.specs.Evaluation.{program}
+use Rattle.gl_calculus.specs.Memory.{Notes}
+use Rattle.gl_ast.specs.View.{version_tree}
+use Rattle.gl_cells.specs.Sheet.{sheet}
+use Rattle.gl_query.specs.InOrder.{AreOrdered}
+use Rattle.gl_core.specs.State.{first_keys, IsFor}
+use Rattle.gl_core.specs.Table.{table_of}
+use Rattle.gl_core.proofs.Numbered.{length-map}
+use Rattle.gl_core.proofs.Picks.{held}
+use Rattle.gl_core.proofs.Resumed.{resumed_seeds, for_resumed, too_many}
 use Rattle.gl_core.proofs.machine.Core.resume.Goals as goal
 
-pub start-requires-clause-sound_seeds : goal.start-requires-clause-sound_seeds
-start-requires-clause-sound_seeds c = λ k m. top_sound c.args.places.now k (subst (Member k) c.in-Ok.ensures m)
+pub resumed-requires-clause-ordered : goal.resumed-requires-clause-ordered
+resumed-requires-clause-ordered c = c.into_ledger-ledger.ensures.results.ordered
 
-pub start-requires-clause-sound_notes : goal.start-requires-clause-sound_notes
-start-requires-clause-sound_notes c = λ n m. (let s = c.into_memo.ensures.kept.sound n m in record { key = s.key; outcome = s.outcome; reads = s.reads })
+pub returns-in-Ok-clause-notes : goal.returns-in-Ok-clause-notes
+returns-in-Ok-clause-notes c = c.resumed.ensures.notes ∙ c.into_ledger-ledger.ensures.notes
+
+pub returns-in-Ok-clause-ordered : goal.returns-in-Ok-clause-ordered
+returns-in-Ok-clause-ordered c = subst (λ (ns : Notes). AreOrdered [] ns) (sym c.resumed.ensures.notes) c.into_ledger-ledger.ensures.results.ordered
+
+pub returns-in-Ok-clause-seeds : goal.returns-in-Ok-clause-seeds
+returns-in-Ok-clause-seeds c =
+    let seeds = map (K.Cell Top) c.args.places.now in
+    let l = c.resumed.new.ledger in
+    let e = c.in-Ok.entries in
+    let trues = subst (λ (ns : Notes). AreTrue same_key (program (version_tree c.args.version) (sheet c.args.cells.now) c.args.w.now) ns) (sym (c.resumed.ensures.notes ∙ c.into_ledger-ledger.ensures.notes)) c.requires.true_notes in
+    let n : length c.args.places.now ≡ length seeds = sym (length-map (K.Cell Top) c.args.places.now) in
+    ap (λ m. first_keys m (table_of l e)) n ∙ resumed_seeds l e c.in-Ok.ensures.core seeds c.in-Ok.ensures.known c.in-Ok.ensures.begun (version_tree c.args.version) (sheet c.args.cells.now) c.args.w.now trues c.requires.proper
+
+pub returns-in-Ok-clause-for_it : goal.returns-in-Ok-clause-for_it
+returns-in-Ok-clause-for_it c =
+    let seeds = map (K.Cell Top) c.args.places.now in
+    let l = c.resumed.new.ledger in
+    let e = c.in-Ok.entries in
+    let trues = subst (λ (ns : Notes). AreTrue same_key (program (version_tree c.args.version) (sheet c.args.cells.now) c.args.w.now) ns) (sym (c.resumed.ensures.notes ∙ c.into_ledger-ledger.ensures.notes)) c.requires.true_notes in
+    let n : length c.args.places.now ≡ length seeds = sym (length-map (K.Cell Top) c.args.places.now) in
+    subst (λ m. IsFor (version_tree c.args.version) (sheet c.args.cells.now) c.args.w.now (held l e m)) (sym n)
+    (for_resumed l e c.in-Ok.ensures.core seeds c.in-Ok.ensures.known c.in-Ok.ensures.begun (version_tree c.args.version) (sheet c.args.cells.now) c.args.w.now trues c.requires.proper)
+
+pub returns-in-Err-clause-work : goal.returns-in-Err-clause-work
+returns-in-Err-clause-work c = λ e.
+    let l = c.resumed.new.ledger in
+    let trues = subst (λ (ns : Notes). AreTrue same_key (program (version_tree c.args.version) (sheet c.args.cells.now) c.args.w.now) ns) (sym (c.resumed.ensures.notes ∙ c.into_ledger-ledger.ensures.notes)) c.requires.true_notes in
+    let (known, r, h) = c.in-Err.ensures.work e in
+    too_many l (map (K.Cell Top) c.args.places.now) known r (version_tree c.args.version) (sheet c.args.cells.now) c.args.w.now trues c.resumed.ensures.kept.book.apart h

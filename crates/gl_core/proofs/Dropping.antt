@@ -1,0 +1,66 @@
+-- What one pass over numbers drops, by keys.
+use Rattle.std.proofs.Common.{◌≡◌, ℕ, ◌<◌, ◌||◌, nat_eq, not, Bool, true, false, cond, if◌then◌else◌, List, [], ◌∷◌, length, map, filter, refl, sym, ap, ◌∙◌, subst, eqb-true, eq-eqb}
+use Rattle.std.specs.List.{list_any}
+use Rattle.gl_query.specs.Lists.{AreDistinct, has_member}
+use Rattle.gl_query.specs.Remembered.{Note}
+use Rattle.gl_query.specs.InOrder.{must_go, kept_after, note_keys}
+use Rattle.gl_query.proofs.Orders.{kept_by_gone}
+use Rattle.gl_calculus.specs.Grid.{Range}
+use Rattle.gl_calculus.specs.Key as K
+use Rattle.gl_calculus.specs.Key.{same_key}
+use Rattle.gl_support.specs.Reach.{is_marked}
+use Rattle.gl_support.specs.Rows.{notes_of, AreMarked, gone_numbers}
+use Rattle.gl_support.specs.declared.row.Row.{Row}
+use Rattle.gl_demand.specs.declared.outcome.Outcome.{Outcome}
+use Rattle.gl_core.specs.Numbers.{Each, key_at, keys_at, named, row_notes, numbers_of, IsBelow}
+use Rattle.gl_core.proofs.Numbered.{same_number}
+
+module _ (ks : List K.Key) (apart : AreDistinct ks) (touched : Range → Bool) where
+  same_member : (n : ℕ) → n < length ks → (ns : List ℕ) → Each (λ j. j < length ks) ns → has_member same_key (key_at ks n) (keys_at ks ns) ≡ has_member nat_eq n ns
+  same_member n h [] a = refl
+  same_member n h (m ∷ ns) a = let b = same_number ks apart n m h a.0 in let c = same_member n h ns a.1 in rw (b, c) refl
+
+  same_reads : (gone : List ℕ) → Each (λ j. j < length ks) gone → (reads : List ℕ) → Each (λ j. j < length ks) reads → list_any (λ j. has_member same_key j (keys_at ks gone)) (keys_at ks reads) ≡ list_any (λ j. has_member nat_eq j gone) reads
+  same_reads gone g [] a = refl
+  same_reads gone g (j ∷ reads) a = let b = same_member j a.0 gone g in let c = same_reads gone g reads a.1 in rw (b, c) refl
+
+  kept_named : (gone : List ℕ) → Each (λ j. j < length ks) gone → (rs : List (Row Outcome Range)) → Each (IsBelow (length ks)) rs → kept_after same_key touched (keys_at ks gone) (row_notes ks rs) ≡ map (named ks) (kept_after nat_eq touched gone (notes_of rs))
+  kept_named gone g [] a = refl
+  kept_named gone g (r ∷ rs) a =
+      let m = ap (λ b. list_any touched r.looked.items || b) (same_reads gone g r.reads.items a.0.1) in
+      ap (λ b. cond b (kept_after same_key touched (key_at ks r.by ∷ keys_at ks gone) (row_notes ks rs)) (named ks (note r) ∷ kept_after same_key touched (keys_at ks gone) (row_notes ks rs))) m
+      ∙ by (must_go nat_eq touched gone (note r)) (kept_named (r.by ∷ gone) (a.0.0, g) rs a.1) (kept_named gone g rs a.1)
+    where
+      note : Row Outcome Range → Note ℕ Outcome Range
+      note x = record { key = x.by; outcome = x.outcome; reads = x.reads.items; looked = x.looked.items }
+
+      by : (b : Bool) → kept_after same_key touched (key_at ks r.by ∷ keys_at ks gone) (row_notes ks rs) ≡ map (named ks) (kept_after nat_eq touched (r.by ∷ gone) (notes_of rs)) → kept_after same_key touched (keys_at ks gone) (row_notes ks rs) ≡ map (named ks) (kept_after nat_eq touched gone (notes_of rs)) →
+          cond b (kept_after same_key touched (key_at ks r.by ∷ keys_at ks gone) (row_notes ks rs)) (named ks (note r) ∷ kept_after same_key touched (keys_at ks gone) (row_notes ks rs))
+          ≡ map (named ks) (cond b (kept_after nat_eq touched (r.by ∷ gone) (notes_of rs)) (note r ∷ kept_after nat_eq touched gone (notes_of rs)))
+      by true e f = e
+      by false e f = ap (λ t. named ks (note r) ∷ t) f
+
+pub keys_of_rows : (rs : List (Row Outcome Range)) → note_keys (notes_of rs) ≡ numbers_of rs
+keys_of_rows [] = refl
+keys_of_rows (r ∷ rs) = ap (λ t. r.by ∷ t) (keys_of_rows rs)
+
+filter_rows : (p : ℕ → Bool) (rs : List (Row Outcome Range)) → filter (λ (n : Note ℕ Outcome Range). p n.key) (notes_of rs) ≡ notes_of (filter (λ (r : Row Outcome Range). p r.by) rs)
+filter_rows p [] = refl
+filter_rows p (r ∷ rs) = by (p r.by) (filter_rows p rs)
+  where
+    by : (b : Bool) → filter (λ (n : Note ℕ Outcome Range). p n.key) (notes_of rs) ≡ notes_of (filter (λ (r : Row Outcome Range). p r.by) rs) →
+        (if b then record { key = r.by; outcome = r.outcome; reads = r.reads.items; looked = r.looked.items } ∷ filter (λ (n : Note ℕ Outcome Range). p n.key) (notes_of rs) else filter (λ (n : Note ℕ Outcome Range). p n.key) (notes_of rs))
+        ≡ notes_of (if b then r ∷ filter (λ (r : Row Outcome Range). p r.by) rs else filter (λ (r : Row Outcome Range). p r.by) rs)
+    by true e = ap (λ t. record { key = r.by; outcome = r.outcome; reads = r.reads.items; looked = r.looked.items } ∷ t) e
+    by false e = e
+
+pub kept_rows : (ks : List K.Key) → AreDistinct ks → (touched : Range → Bool) (rs : List (Row Outcome Range)) → Each (IsBelow (length ks)) rs → AreDistinct (numbers_of rs) → (gone : List Bool) → AreMarked gone (gone_numbers touched rs) →
+    row_notes ks (filter (λ (r : Row Outcome Range). not (is_marked gone r.by)) rs) ≡ kept_after same_key touched [] (row_notes ks rs)
+kept_rows ks d touched rs a apart gone marked =
+    ap (λ (p : ℕ → Bool). row_notes ks (filter (λ (r : Row Outcome Range). not (p r.by)) rs)) (λ i k. marked k i)
+    ∙ ap (map (named ks)) (sym (filter_rows (λ k. not (has_member nat_eq k (gone_numbers touched rs))) rs))
+    ∙ ap (map (named ks)) (sym (kept_by_gone ℕ Outcome Range nat_eq touched (notes_of rs) ((λ x y e. eqb-true x y e), λ x. eq-eqb x x refl) (subst_apart rs apart)))
+    ∙ sym (kept_named ks d touched [] tt rs a)
+  where
+    subst_apart : (rs : List (Row Outcome Range)) → AreDistinct (numbers_of rs) → AreDistinct (note_keys (notes_of rs))
+    subst_apart rs e = subst AreDistinct (sym (keys_of_rows rs)) e

@@ -1,0 +1,157 @@
+//! Notes by numbers.
+ghost use Rattle.std.specs.Prelude.{◌≡◌, ◌<◌, ◌-◌, ◌^◌, ◌++◌, ◌∷◌, [], Some, IsTrue, length, map, slice_get, OnOk, OnErr, IfOk};
+ghost use Rattle.gl_query.specs.Lists.{Member, AreDistinct};
+ghost use Rattle.gl_query.specs.InOrder.{kept_after};
+ghost use Rattle.gl_calculus.specs.Key.{same_key};
+ghost use Rattle.gl_calculus.specs.Sound.{is_sound_key};
+ghost use Rattle.gl_plane.specs.Changes.{reaches};
+ghost use Rattle.gl_demand.specs.View.{key_tree};
+ghost use Rattle.gl_demand.specs.Sound.{AreSoundKeys};
+ghost use Rattle.gl_core.specs.State.{IsSoundNote};
+ghost use Rattle.gl_core.specs.Numbers.{Each, named, numbers_of, AreNumbers, Grows, IsIndex, IsRowOf};
+ghost use Rattle.gl_core.specs.Ledger.{written, IsLedger};
+
+use crate::book::Book;
+use crate::index::{forget, give_place, place_in, put};
+use gl_demand::{Key, Outcome};
+use gl_plane::{Changes, NoMemory, Range, Share};
+use gl_support::{Row, keep_unmarked, mark};
+use std::alloc::Global;
+
+/// The most notes of a ledger.
+const MOST: usize = 4_000_000_000;
+
+/// Keys by numbers, and notes in the order of noting, each with the numbers of its key and of the
+/// keys that it read.
+#[derive(Drop)]
+pub struct Ledger {
+    pub book: Book,
+    pub rows: Vec<Row<Outcome, Range>>,
+    // the places of the keys' rows
+    pub row_of: Vec<u32>,
+}
+
+/// The places of the rows anew.
+fn number_rows(places: &mut Vec<u32>, rows: &[Row<Outcome, Range>])
+    requires there { Each (λ n. n < length places.old.items) (numbers_of rows.now) }
+    requires apart { AreDistinct (numbers_of rows.now) }
+    requires few { length rows.now < 2 ^ 32 - 1 }
+    ensures { IsIndex (numbers_of rows.now) places.new.items }
+{
+    forget(places);
+    for r in 0..rows.len() {
+        put(places, rows[r].by, r);
+    }
+}
+
+impl Ledger {
+    /// No note.
+    pub fn new(alloc: Global) -> Ledger
+        ensures book { result.book ≡ [] }
+        ensures rows { result.rows.items ≡ [] }
+        ensures kept { IsLedger result }
+    {
+        Ledger {
+            book: Book::new(alloc),
+            rows: Vec::new(alloc),
+            row_of: Vec::new(alloc),
+        }
+    }
+
+    /// The place of the note of a number.
+    pub fn row(&self, n: u32) -> Option<usize>
+        requires { IsLedger self.now }
+        ensures { IsRowOf self.now.rows.items n result }
+    {
+        place_in(&self.row_of, n)
+    }
+
+    /// The number of a key, which gets one where it has none. After `NoMemory` all is as before.
+    pub fn number(&mut self, key: Key) -> Result<u32, NoMemory>
+        requires kept { IsLedger self.old }
+        requires sound { IsTrue (is_sound_key (key_tree key)) }
+        ensures number { IfOk result (λ n. slice_get self.new.book n ≡ Some (key_tree key)) }
+        ensures grows { Grows self.old.book self.new.book }
+        ensures rows { self.new.rows.items ≡ self.old.rows.items }
+        ensures kept { IsLedger self.new }
+    {
+        self.book.number(key)
+    }
+
+    /// The numbers of keys, which get some where they have none.
+    pub fn numbers(&mut self, alloc: Global, keys: &[Key]) -> Result<Vec<u32>, NoMemory>
+        requires kept { IsLedger self.old }
+        requires sound { AreSoundKeys (map key_tree keys.now) }
+        ensures numbers { IfOk result (λ ns. AreNumbers self.new.book ns.items (map key_tree keys.now)) }
+        ensures grows { Grows self.old.book self.new.book }
+        ensures rows { self.new.rows.items ≡ self.old.rows.items }
+        ensures kept { IsLedger self.new }
+    {
+        let mut numbers = Vec::new(alloc);
+        for key in keys {
+            let key = key.share()?;
+            let n = self.number(key)?;
+            numbers.push(n)?;
+        }
+        Ok(numbers)
+    }
+
+    /// One more note, of a number that has none.
+    pub fn add(
+        &mut self,
+        by: u32,
+        outcome: Outcome,
+        reads: Vec<u32>,
+        looked: Vec<Range>,
+    ) -> Result<(), NoMemory>
+        requires kept { IsLedger self.old }
+        requires there { by < length self.old.book }
+        requires reads { Each (λ j. j < length self.old.book) reads.items }
+        requires new { Member by (numbers_of self.old.rows.items) → ⊥ }
+        requires sound { IsSoundNote (named self.old.book (record { key = by; outcome = outcome; reads = reads.items; looked = looked.items })) }
+        ensures rows { OnOk result (self.new.rows.items ≡ self.old.rows.items ++ record { by = by; outcome = outcome; reads = reads; looked = looked } ∷ []) }
+        ensures err { OnErr result (self.new.rows.items ≡ self.old.rows.items) }
+        ensures book { self.new.book ≡ self.old.book }
+        ensures kept { IsLedger self.new }
+    {
+        let r = self.rows.len();
+        if r >= MOST {
+            return Err(NoMemory);
+        }
+        give_place(&mut self.row_of, by)?;
+        self.rows.push(Row {
+            by,
+            outcome,
+            reads,
+            looked,
+        })?;
+        put(&mut self.row_of, by, r);
+        Ok(())
+    }
+
+    /// Drops the notes that rest on something that was changed. After `NoMemory` the notes are as
+    /// before.
+    pub fn keep(&mut self, alloc: Global, changes: &Changes) -> Result<(), NoMemory>
+        requires { IsLedger self.old }
+        ensures ok { OnOk result (written self.new ≡ kept_after same_key (reaches changes.now) [] (written self.old)) }
+        ensures err { OnErr result (written self.new ≡ written self.old) }
+        ensures kept { IsLedger self.new }
+    {
+        let gone = mark(alloc, &self.rows, self.book.len(), changes)?;
+        keep_unmarked(&mut self.rows, &gone);
+        number_rows(&mut self.row_of, &self.rows);
+        Ok(())
+    }
+
+    /// The places of the rows anew, some of which are gone.
+    pub fn renumber(&mut self)
+        requires there { Each (λ n. n < length self.old.row_of.items) (numbers_of self.old.rows.items) }
+        requires apart { AreDistinct (numbers_of self.old.rows.items) }
+        requires few { length self.old.rows.items < 2 ^ 32 - 1 }
+        ensures index { IsIndex (numbers_of self.new.rows.items) self.new.row_of.items }
+        ensures rows { self.new.rows.items ≡ self.old.rows.items }
+        ensures book { self.new.book ≡ self.old.book }
+    {
+        number_rows(&mut self.row_of, &self.rows);
+    }
+}

@@ -1,0 +1,157 @@
+//! What a round knows at its start.
+ghost use Rattle.std.specs.Prelude.{◌≡◌, ◌<◌, ◌≤◌, ◌++◌, ◌&&◌, ◌∷◌, [], ℕ, List, All, Some, not, if◌then◌else◌, length, map, filter, slice_get, IfOk, OnOk, IfErr, vec_len};
+ghost use Rattle.gl_query.specs.Lists.{AreDistinct};
+ghost use Rattle.gl_query.specs.InOrder.{AreOrdered};
+ghost use Rattle.gl_calculus.specs.Limits.{max_demanded};
+ghost use Rattle.gl_calculus.specs.Grid.{Range};
+ghost use Rattle.gl_calculus.specs.Key as K;
+ghost use Rattle.gl_calculus.specs.Value as V;
+ghost use Rattle.gl_support.specs.declared.row.Row.{Row};
+ghost use Rattle.gl_support.specs.Reach.{is_marked, has};
+ghost use Rattle.gl_support.specs.Rows.{notes_of};
+ghost use Rattle.gl_demand.specs.declared.outcome.Outcome.{Outcome};
+ghost use Rattle.gl_core.specs.Numbers.{Each, numbers_of, AreNumbers, Grows};
+ghost use Rattle.gl_core.specs.Ledger.{written, IsLedger};
+ghost use Rattle.gl_core.specs.Table.{IsCore, AreBegun};
+ghost use Rattle.gl_core.specs.Resuming.{IsClosure, IsResumed};
+
+use crate::MAX_DEMANDED;
+use crate::answers::CoreFault;
+use crate::beginning::begun;
+use crate::entries::Entries;
+use crate::ledger::Ledger;
+use gl_demand::{Key, Outcome};
+use gl_plane::{Addr, NoMemory, Range};
+use gl_support::{Row, wanted};
+use gl_value::Env;
+use std::alloc::Global;
+
+/// The number of a cell of the sheet, which is likely to be this one.
+fn top_number(ledger: &mut Ledger, near: usize, a: Addr) -> Result<u32, NoMemory>
+    requires { IsLedger ledger.old }
+    ensures number { IfOk result (λ n. slice_get ledger.new.book n ≡ Some (K.Cell V.Top a)) }
+    ensures grows { Grows ledger.old.book ledger.new.book }
+    ensures rows { ledger.new.rows.items ≡ ledger.old.rows.items }
+    ensures kept { IsLedger ledger.new }
+{
+    let key = Key::Cell(Env::Top, a);
+    if ledger.book.is_at(near, &key) {
+        return Ok(near as u32);
+    }
+    ledger.number(key)
+}
+
+/// The numbers of cells of the sheet. Those of neighbours mostly stand side by side.
+fn top_numbers(alloc: Global, ledger: &mut Ledger, places: &[Addr]) -> Result<Vec<u32>, NoMemory>
+    requires { IsLedger ledger.old }
+    ensures numbers { IfOk result
+        (λ ns. AreNumbers ledger.new.book ns.items (map (K.Cell V.Top) places.now)) }
+    ensures grows { Grows ledger.old.book ledger.new.book }
+    ensures rows { ledger.new.rows.items ≡ ledger.old.rows.items }
+    ensures kept { IsLedger ledger.new }
+{
+    let mut numbers = Vec::new(alloc);
+    let mut near = 0;
+    for a in places {
+        let n = top_number(ledger, near, *a)?;
+        numbers.push(n)?;
+        near = n as usize + 1;
+    }
+    Ok(numbers)
+}
+
+/// None of these is marked any more.
+fn unmark(marks: &mut Vec<bool>, numbers: &[u32])
+    requires { All (λ k. k < vec_len marks.old) numbers.now }
+    ensures marks { (k : ℕ) → is_marked marks.new.items k
+        ≡ (is_marked marks.old.items k && not (has numbers.now k)) }
+    ensures size { vec_len marks.new ≡ vec_len marks.old }
+{
+    for n in numbers {
+        marks[*n as usize] = false;
+    }
+}
+
+/// The number too, where it is marked.
+fn add_marked(all: &mut Vec<u32>, marks: &[bool], n: u32) -> Result<(), NoMemory>
+    requires { n < length marks.now }
+    ensures { OnOk result
+        (all.new.items ≡ all.old.items ++ (if is_marked marks.now n then n ∷ [] else [])) }
+{
+    if marks[n as usize] {
+        all.push(n)?;
+    }
+    Ok(())
+}
+
+/// The numbers, and those of the rows that are marked.
+fn with_marked(
+    numbers: Vec<u32>,
+    marks: &[bool],
+    rows: &[Row<Outcome, Range>],
+) -> Result<Vec<u32>, NoMemory>
+    requires { Each (λ n. n < length marks.now) (numbers_of rows.now) }
+    ensures { IfOk result (λ all. all.items ≡ numbers.items
+        ++ numbers_of (filter (λ (r : Row Outcome Range). is_marked marks.now r.by) rows.now)) }
+{
+    let mut all = numbers;
+    for row in rows {
+        add_marked(&mut all, marks, row.by)?;
+    }
+    Ok(all)
+}
+
+/// The numbers of the seeds, and those that they reach through notes.
+fn reached(alloc: Global, seeds: Vec<u32>, ledger: &Ledger) -> Result<Vec<u32>, NoMemory>
+    requires kept { IsLedger ledger.now }
+    requires ordered { AreOrdered [] (notes_of ledger.now.rows.items) }
+    requires below { Each (λ n. n < length ledger.now.book) seeds.items }
+    requires apart { AreDistinct seeds.items }
+    ensures { IfOk result (λ all. IsClosure ledger.now seeds.items all.items) }
+{
+    let mut marks = wanted(alloc, &ledger.rows, ledger.book.len(), &seeds)?;
+    unmark(&mut marks, &seeds);
+    with_marked(seeds, &marks, &ledger.rows)
+}
+
+/// The numbers that are known at the start.
+fn known(alloc: Global, places: &[Addr], ledger: &mut Ledger) -> Result<Vec<u32>, NoMemory>
+    requires kept { IsLedger ledger.old }
+    requires ordered { AreOrdered [] (written ledger.old) }
+    requires apart { AreDistinct (map (K.Cell V.Top) places.now) }
+    ensures known { IfOk result
+        (λ all. IsResumed ledger.new (map (K.Cell V.Top) places.now) all.items) }
+    ensures notes { written ledger.new ≡ written ledger.old }
+    ensures kept { IsLedger ledger.new }
+{
+    let seeds = top_numbers(alloc, ledger, places)?;
+    reached(alloc, seeds, ledger)
+}
+
+/// The seeds and what they reach through notes, each resolved where it has a note.
+pub fn resumed(alloc: Global, places: &[Addr], ledger: &mut Ledger) -> Result<Entries, CoreFault>
+    requires kept { IsLedger ledger.old }
+    requires ordered { AreOrdered [] (written ledger.old) }
+    requires apart { AreDistinct (map (K.Cell V.Top) places.now) }
+    ensures known { IfOk result
+        (λ e. IsResumed ledger.new (map (K.Cell V.Top) places.now) e.known.items) }
+    ensures begun { IfOk result
+        (λ e. AreBegun ledger.new.rows.items e.known.items e.statuses.items.items) }
+    ensures core { IfOk result (IsCore ledger.new) }
+    ensures work { IfErr result (λ e. e ≡ CoreFault.Work
+        → (known : List ℕ) × IsResumed ledger.new (map (K.Cell V.Top) places.now) known
+        × (max_demanded < length known)) }
+    ensures notes { written ledger.new ≡ written ledger.old }
+    ensures kept { IsLedger ledger.new }
+{
+    let Ok(known) = known(alloc, places, ledger) else {
+        return Err(CoreFault::NoMemory);
+    };
+    if known.len() > MAX_DEMANDED {
+        return Err(CoreFault::Work);
+    }
+    match begun(alloc, known, ledger) {
+        Ok(entries) => Ok(entries),
+        Err(NoMemory) => Err(CoreFault::NoMemory),
+    }
+}
