@@ -15,3 +15,5 @@ mod kept;
 mod large;
 #[cfg(test)]
 mod sheets;
+#[cfg(test)]
+mod siblings;

@@ -2,11 +2,16 @@
 #![tactic(auto)]
 
 mod addresses;
+mod frames;
 mod scalars;
 mod sheets;
 mod texts;
 
 pub use addresses::{address, range, size};
+pub use frames::{
+    frame, holding, in_copy, made, one_entry, plain_sheet, share_sheet, sheet_in, update_in,
+    with_number,
+};
 pub use scalars::{copy, number, scalar, text};
 pub use sheets::{content_of, put_line, sheet_of};
 pub use texts::{formula_word, push_times, scalar_text, value_text};

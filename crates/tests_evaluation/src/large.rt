@@ -13,7 +13,7 @@ use std::test::Fail;
 use tests_common::{put_line, sheet_of};
 
 /// The formula that adds 1 to the cell below, in this row of the first column.
-fn put_link(alloc: Global, cells: &mut Cells, row: usize) -> Result<(), Fail>
+pub fn put_link(alloc: Global, cells: &mut Cells, row: usize) -> Result<(), Fail>
     requires { row < 9999 }
 {
     let mut line = String::new(alloc);
@@ -26,7 +26,7 @@ fn put_link(alloc: Global, cells: &mut Cells, row: usize) -> Result<(), Fail>
 }
 
 /// A chain of 5,000 formulas whose last one goes on with the first of a copy, through 39 copies.
-fn chain(alloc: Global) -> Result<Cells, Fail> {
+pub fn chain(alloc: Global) -> Result<Cells, Fail> {
     let mut cells = sheet_of(
         alloc,
         &[

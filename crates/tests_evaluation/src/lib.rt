@@ -10,6 +10,8 @@ mod evaluations;
 #[cfg(test)]
 mod large;
 #[cfg(test)]
+mod many;
+#[cfg(test)]
 mod notes;
 #[cfg(test)]
 mod picks;
@@ -27,5 +29,7 @@ mod sheets;
 mod table;
 #[cfg(test)]
 mod texts;
+#[cfg(test)]
+mod tidied;
 #[cfg(test)]
 mod turns;

@@ -1,11 +1,11 @@
 //! What references look at, read and come to.
 use crate::texts::{found_text, keys_text, ranges_text};
-use crate::turns::{Setting, last_turn, one_entry};
+use crate::turns::{Setting, last_turn};
 use gl_ast::Version;
 use gl_plane::{Oracle, Permit};
 use std::alloc::Global;
 use std::test::Fail;
-use tests_common::{put_line, sheet_of};
+use tests_common::{one_entry, put_line, sheet_of};
 
 /// An array of four elements, a number that is computed, and one that is not.
 const REFERENCES: [&str; 3] = ["set A1 =SEQUENCE(2,2)", "set D1 =7", "set A5 3"];

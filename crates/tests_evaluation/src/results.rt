@@ -39,7 +39,8 @@ const SEEN: [Sight; 4] = [
 /// The formulas that don't loop.
 const CHAIN: [&str; 3] = ["B1", "C1", "D1"];
 
-fn setting<'a>(alloc: Global, cells: &'a Cells, w: &'a Oracle) -> Setting<'a> {
+/// What runs over a sheet go by, under an oracle.
+pub fn setting<'a>(alloc: Global, cells: &'a Cells, w: &'a Oracle) -> Setting<'a> {
     Setting {
         alloc,
         cells,
@@ -82,7 +83,7 @@ fn a_run_without_results_is_one_from_the_start(rt: HostRuntime) -> Result<(), Fa
 }
 
 /// The results that stay where the range has changed.
-fn kept_after(at: &Setting<'_>, results: Results, place: &str) -> Result<Results, Fail>
+pub fn kept_after(at: &Setting<'_>, results: Results, place: &str) -> Result<Results, Fail>
     requires { AreTrue same_key (program (version_tree at.now.version) (sheet at.now.cells.now) at.now.w.now) results }
     ensures { IfOk result (AreTrue same_key (program (version_tree at.now.version) (sheet at.now.cells.now) at.now.w.now)) }
 {
@@ -177,7 +178,7 @@ fn what_rests_on_a_change_takes_steps(rt: HostRuntime) -> Result<(), Fail> {
 }
 
 /// The outcome that the results have of a cell.
-fn outcome_of(results: &Results, name: &str) -> Result<Option<Sight>, Fail> {
+pub fn outcome_of(results: &Results, name: &str) -> Result<Option<Sight>, Fail> {
     match results.outcome(&cell(name)?) {
         Some(outcome) => Ok(Some(outcome_seen(outcome))),
         None => Ok(None),

@@ -7,11 +7,11 @@ use crate::table::Table;
 use gl_ast::Version;
 use gl_cells::Cells;
 use gl_demand::{Found, Key, Silent, Steps, Turn, Watch, proper, step};
-use gl_plane::{Entry, Oracle, Permit};
+use gl_plane::Oracle;
 use gl_value::Env;
 use std::alloc::Global;
 use std::test::Fail;
-use tests_common::{address, size};
+use tests_common::address;
 
 /// What evaluations go by: the sheet, the oracle and the version.
 #[derive(Clone, Copy)]
@@ -34,21 +34,6 @@ pub fn cells_at(alloc: Global, names: &[&str]) -> Result<Vec<Key>, Fail> {
         keys.push(cell(name)?)?;
     }
     Ok(keys)
-}
-
-/// An oracle with one entry.
-pub fn one_entry(
-    alloc: Global,
-    root: &str,
-    rows: u16,
-    cols: u16,
-    permit: Permit,
-) -> Result<Oracle, Fail> {
-    let root = address(root)?;
-    let size = size(rows, cols)?;
-    let mut oracle = Oracle::new(alloc);
-    oracle.push(Entry { root, size, permit })?;
-    Ok(oracle)
 }
 
 /// One evaluation against what the table tells.

@@ -1,60 +1,20 @@
 //! Sheet values and frames: equality, overrides, ranks and weights; elements and texts.
 use crate::values::array;
-use gl_plane::{Addr, Entry, NoMemory, Oracle, Permit, Range, Share};
-use gl_value::{
-    Env, ErrKind, MAX_RANK, MAX_TEXT, Made, Scalar, SheetVal, Shown, Value, sheet, update,
-};
+use gl_plane::{NoMemory, Oracle, Permit, Share};
+use gl_value::{Env, ErrKind, MAX_RANK, MAX_TEXT, Made, Scalar, SheetVal, Shown, Value};
 use std::alloc::Global;
 use std::hash::{DefaultHasher, Hash, Hasher};
 use std::rc::{Rc, RcStr};
 use std::test::Fail;
-use tests_common::{address, number, range, size};
+use tests_common::{
+    address, frame, holding, in_copy, made, number, plain_sheet, range, share_sheet, sheet_in,
+    update_in, with_number,
+};
 
 fn hash_of<T: Hash>(x: &T) -> u64 {
     let mut state = DefaultHasher::new();
     x.hash(&mut state);
     state.finish()
-}
-
-fn made(made: Made) -> Result<Rc<SheetVal>, Fail> {
-    match made {
-        Made::Sheet(s) => Ok(s),
-        _ => Err(Fail::new("no sheet value")),
-    }
-}
-
-fn sheet_in(alloc: Global, env: &Env, region: Range) -> Result<Made, Fail> {
-    if env.is_sound() {
-        Ok(sheet(alloc, env, region)?)
-    } else {
-        Err(Fail::new("not sound"))
-    }
-}
-
-fn update_in(alloc: Global, env: &Env, s: &SheetVal, a: Addr, v: Value) -> Result<Made, Fail> {
-    if env.is_sound() && s.is_sound() && v.is_sound() {
-        Ok(update(alloc, env, s, a, v)?)
-    } else {
-        Err(Fail::new("not sound"))
-    }
-}
-
-/// A sheet value of this region, in the sheet itself.
-fn plain(alloc: Global, region: &str) -> Result<Rc<SheetVal>, Fail> {
-    made(sheet_in(alloc, &Env::Top, range(region)?)?)
-}
-
-/// The sheet value with this number at an address.
-fn with(alloc: Global, s: &SheetVal, a: &str, n: i64) -> Result<Rc<SheetVal>, Fail> {
-    made(update_in(alloc, &Env::Top, s, address(a)?, number(n))?)
-}
-
-fn share_sheet(s: &Rc<SheetVal>) -> Result<Rc<SheetVal>, NoMemory> {
-    Ok(s.clone()?)
-}
-
-fn frame(alloc: Global, s: Rc<SheetVal>, oracle: Oracle) -> Result<Env, NoMemory> {
-    Ok(Env::In(s, Rc::new(alloc, oracle)?))
 }
 
 /// A frame of this rank, each level made in the one before.
@@ -74,20 +34,6 @@ fn blanks(alloc: Global, rows: u16, cols: u16) -> Result<Value, Fail> {
         items.push(Scalar::Blank).map_err(NoMemory::from)?;
     }
     array(alloc, rows, cols, items)
-}
-
-/// An oracle with one entry.
-fn one_entry(alloc: Global, permit: Permit) -> Result<Oracle, Fail> {
-    let root = address("A1")?;
-    let size = size(1, 2)?;
-    let mut oracle = Oracle::new(alloc);
-    oracle.push(Entry { root, size, permit })?;
-    Ok(oracle)
-}
-
-/// A sheet value with 2x2 cells and a number in B1.
-fn holding(alloc: Global, n: i64) -> Result<Rc<SheetVal>, Fail> {
-    with(alloc, &*plain(alloc, "A1:B2")?, "B1", n)
 }
 
 #[test]
@@ -124,7 +70,7 @@ fn sheets_that_differ_in_their_rank(rt: HostRuntime) -> Result<(), Fail> {
     let t = made(update_in(
         alloc,
         &deeper,
-        &*plain(alloc, "A1:B2")?,
+        &*plain_sheet(alloc, "A1:B2")?,
         address("B1")?,
         number(1),
     )?)?;
@@ -132,12 +78,6 @@ fn sheets_that_differ_in_their_rank(rt: HostRuntime) -> Result<(), Fail> {
     assert_eq!(rt; s.weight, t.weight);
     assert!(rt; s != t);
     Ok(())
-}
-
-/// A sheet value that is made in a copy whose oracle has one entry.
-fn in_copy(alloc: Global, permit: Permit) -> Result<Rc<SheetVal>, Fail> {
-    let env = frame(alloc, holding(alloc, 1)?, one_entry(alloc, permit)?)?;
-    made(sheet_in(alloc, &env, range("A1:B2")?)?)
 }
 
 #[test]
@@ -153,7 +93,7 @@ fn sheets_that_differ_in_a_permit(rt: HostRuntime) -> Result<(), Fail> {
 fn put_in_turn(alloc: Global) -> Result<Rc<SheetVal>, Fail> {
     let mut s = holding(alloc, 1)?;
     for (a, n) in [("A2", 3), ("A1", 4), ("A2", 5)] {
-        s = with(alloc, &*s, a, n)?;
+        s = with_number(alloc, &*s, a, n)?;
     }
     Ok(s)
 }
@@ -190,7 +130,7 @@ fn sheets_in_sheets(rt: HostRuntime) -> Result<(), Fail> {
 
 /// A sheet value of seven cells, six of which hold 10,000 blanks each.
 fn six_arrays(alloc: Global) -> Result<Rc<SheetVal>, Fail> {
-    let mut s = plain(alloc, "A1:G1")?;
+    let mut s = plain_sheet(alloc, "A1:G1")?;
     for a in ["A1", "B1", "C1", "D1", "E1", "F1"] {
         s = made(update_in(alloc, &Env::Top, &*s, address(a)?, blanks(alloc, 100, 100)?)?)?;
     }

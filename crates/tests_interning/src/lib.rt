@@ -1,0 +1,5 @@
+//! Tests of the numbers of sheet values and frames.
+#![tactic(auto)]
+
+#[cfg(test)]
+mod numbers;
