@@ -1,4 +1,3 @@
 pub mod Reached
 pub mod Texts
 pub mod Placing
-pub mod Rising

@@ -5,28 +5,11 @@ use Rattle.gl_calculus.specs.Formula.{Const}
 use Rattle.gl_calculus.specs.Grid.{Addr, addr, shifted}
 use Rattle.gl_language.specs.Text.{Bytes}
 use Rattle.gl_protocol.specs.Commands.{Read, Is, Not, Word, FieldWord, GridWord, plain_scalar, fields_of_record, field_fault, contents}
+use Rattle.gl_protocol.proofs.Rising.{Fields, constant, contents_by}
 use Rattle.gl_cells.specs.Sheet.{Table, sheet}
 use Rattle.gl_csvin.specs.declared.fault.CsvFault.{CsvFault}
 use Rattle.gl_csvin.specs.declared.fault.CsvFault.TheVariants as f
 use Rattle.gl_csvin.specs.Import.{behind, Adds}
-
-abbrev pub Fields : Type 0
-Fields = List (Addr × Bytes)
-
-abbrev pub constant : Addr × Bytes → Addr × F.Content
-constant x = (x.0, Const (plain_scalar x.1))
-
--- ---- the contents of a field and of those behind it
-
-abbrev then_contents : Option Word → Addr × Bytes → Read F.Cells → Read F.Cells
-then_contents (Some w) x r = Not w
-then_contents None x (Is cs) = Is (constant x ∷ cs)
-then_contents None x (Not w) = Not w
-
-pub contents_by : (x : Addr × Bytes) (xs : Fields) (o : Option Word) (r : Read F.Cells) → field_fault x ≡ o → contents xs ≡ r → contents (x ∷ xs) ≡ then_contents o x r
-contents_by x xs (Some w) r h k = rw h refl
-contents_by x xs None (Is cs) h k = rw (h, k) refl
-contents_by x xs None (Not w) h k = rw (h, k) refl
 
 not_behind : (cs : F.Cells) (r : Read F.Cells) (w : Word) → behind cs r ≡ Not w → r ≡ Not w
 not_behind cs (Is ds) w h = absurd (is_not _ w h)

@@ -1,7 +1,7 @@
 -- The plain replica that a replica of the code stands for.
-use Rattle.std.specs.Prelude.{ℕ, ◌+◌, ◌-◌, ◌<◌, ◌≤◌, min, List, [], ◌∷◌, ◌++◌, length, Option, is_some, if◌then◌else◌, Result, Ok, Err, Vec, vec_len, vec_capacity}
+use Rattle.std.specs.Prelude.{ℕ, ◌+◌, ◌-◌, ◌<◌, ◌≤◌, min, List, [], ◌∷◌, ◌++◌, map, length, Option, is_some, if◌then◌else◌, Result, Ok, Err, Vec, vec_len, vec_capacity}
 use Rattle.std.specs.List.{AllByRecursion}
-use Rattle.gl_calculus.specs.Grid.{Addr}
+use Rattle.gl_calculus.specs.Grid.{Addr, AreInOrder}
 use Rattle.gl_edits.specs.Limits.{max_time, max_site, max_registers}
 use Rattle.gl_edits.specs.Joins.{HasTaken}
 use Rattle.gl_edits.specs.Replicas as R
@@ -41,6 +41,10 @@ value_of s t es ix = record { site = s; clock = t; registers = listed es.items i
 -- the register of an address
 abbrev pub register_of : ReplicaValue → Addr → Option R.Edit
 register_of r a = R.register_at (registers_of r) a
+
+-- the registers are in the order of their addresses
+abbrev pub AreOrdered : ReplicaValue → Type 0
+AreOrdered r = AreInOrder (map (λ (e : R.Edit). e.place) (registers_of r))
 
 -- every edit with this stamp wins
 abbrev pub IsLatest : ReplicaValue → R.Stamp → Type 0

@@ -5,7 +5,7 @@ ghost use Rattle.gl_edits.specs.Replicas.{IsTakeable, new_replica, next_stamp, t
 ghost use Rattle.gl_merge.specs.Edit.{edit_tree, told};
 ghost use Rattle.gl_merge.specs.Judging.{IsFor};
 ghost use Rattle.gl_merge.specs.Replica.{registers_of, replica_tree, register_of};
-ghost use Rattle.gl_merge.specs.Replica.{IsLatest, Joins, Makes, spare_after};
+ghost use Rattle.gl_merge.specs.Replica.{AreOrdered, IsLatest, Joins, Makes, spare_after};
 
 use crate::judging::compared;
 use crate::keeping::{count_missing, find, keep, register};
@@ -111,10 +111,11 @@ impl Replica {
         register(&self.edits, &self.index, i as usize)
     }
 
-    /// How many registers there are.
+    /// How many registers there are. They are in the order of their addresses.
     pub fn len(&self) -> u32
         ensures count { result ≡ length (registers_of self.now) }
         ensures few { result ≤ max_registers }
+        ensures ordered { AreOrdered self.now }
     {
         self.index.len() as u32
     }

@@ -3,11 +3,14 @@ use Rattle.std.proofs.Common.{◌≡◌, ◌∙◌, ◌⊎◌, inl, inr, Bool, t
 use Rattle.std.proofs.lemmas.Grind.{common_steps}
 use Rattle.std.proofs.Common.{arith}
 use Rattle.gl_query.specs.Lists.{Member}
-use Rattle.gl_calculus.specs.Grid.{Addr, same_addr, is_before, Range, covers}
-use Rattle.gl_calculus.specs.Formula.{Content, Cells, content}
+use Rattle.gl_calculus.specs.Grid.{Addr, same_addr, is_before, Range, single, covers}
+use Rattle.gl_calculus.specs.Formula.{Content, Cells, IsSheet, content}
+use Rattle.gl_edits.specs.Replicas.{Changes}
 use Rattle.gl_calculus.proofs.Tests.{addr_exact}
 use Rattle.gl_calculus.proofs.Grants.{split}
 use Rattle.gl_protocol.specs.Commands.{with_content, without, places_in}
+use Rattle.gl_protocol.specs.Script.{with_change, with_changes}
+use Rattle.gl_protocol.proofs.SheetOrders.{order_with, order_filter}
 use Rattle.gl_protocol.specs.Laws.{SetsOne, SetsThese, ClearsThese}
 
 abbrev pub found : Addr → Addr → Option Content → Option Content → Option Content
@@ -87,3 +90,20 @@ clears_these S r b n = found_without S r b ∙ by (split (covers r b)) (none_the
     by : (covers r b ≡ true) ⊎ (covers r b ≡ false) → (covers r b ≡ true → content S b ≡ None) → cond (covers r b) None (content S b) ≡ content S b
     by (inl e) h = ap (λ t. cond t None (content S b)) e ∙ sym (h e)
     by (inr e) h = ap (λ t. cond t None (content S b)) e
+
+-- ---- changes
+
+covers_single : (a b : Addr) → covers (single a) b ≡ same_addr b a
+covers_single a b = grind (arith, common_steps)
+
+pub found_change : (S : Cells) (a b : Addr) (c : Option Content) → content (with_change S a c) b ≡ found b a c (content S b)
+found_change S a b (Some c) = found_with S a b c
+found_change S a b None = found_without S (single a) b ∙ ap (λ (t : Bool). cond t None (content S b)) (covers_single a b)
+
+pub order_change : (S : Cells) (a : Addr) (c : Option Content) → IsSheet S → IsSheet (with_change S a c)
+order_change S a (Some c) o = order_with S a c o
+order_change S a None o = order_filter (λ x. not (covers (single a) x.0)) S o
+
+pub order_changes : (cs : Changes) (S : Cells) → IsSheet S → IsSheet (with_changes S cs)
+order_changes [] S o = o
+order_changes (c ∷ cs) S o = order_changes cs (with_change S c.0 c.1) (order_change S c.0 c.1 o)

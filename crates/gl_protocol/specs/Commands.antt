@@ -17,7 +17,8 @@ use Rattle.gl_language.specs.Token.{is_digit, digits_value, Decodes, LexFault}
 use Rattle.gl_language.specs.Token as T
 use Rattle.gl_language.specs.Grammar.{Parses, IsParseFault, ParseFault}
 use Rattle.gl_language.specs.Grammar as G
-use Rattle.gl_protocol.specs.Framing.{Item, Line, Import, Long, Truncated}
+use Rattle.gl_edits.specs.Limits.{max_site}
+use Rattle.gl_edits.specs.Replicas.{Edit, stamp, is_stamp}
 use Rattle.gl_protocol.specs.Pieces.{cut_at, pieces, is_number}
 use Rattle.gl_calculus.specs.Calculation.{Answer, SpentKind, IsAnswer, Shown, IsShown}
 use Rattle.gl_calculus.specs.Calculation as A
@@ -49,6 +50,7 @@ plain_scalar t = number_or (signed_value t)
 -- the words of refusals
 pub data Word : Type 0 where
   LineWord Utf8Word CommandWord PayloadWord TruncatedWord AddressWord RangeWord LongWord TokenWord NumberWord TextWord DeepWord SyntaxWord NameWord ArityWord FieldWord GridWord FormulasWord ContentsWord : Word
+  StampWord SiteWord ConflictWord EditsWord UndoWord RedoWord : Word
 
 abbrev pub lex_word : LexFault → Word
 lex_word T.LexFault.TokenFault = TokenWord
@@ -79,13 +81,21 @@ pub data ReadsContent : Bytes → Read F.Content → Type 0 where
   number : {b : ℕ} {t : Bytes} {n : ℤ} → b ≢ 61 → b ≢ 34 → max_text < length (b ∷ t) → plain_scalar (b ∷ t) ≡ V.Scalar.Int n → ReadsContent (b ∷ t) (Is (Const (V.Scalar.Int n)))
   long : {b : ℕ} {t : Bytes} → b ≢ 61 → b ≢ 34 → max_text < length (b ∷ t) → ((n : ℤ) → plain_scalar (b ∷ t) ≢ V.Scalar.Int n) → ReadsContent (b ∷ t) (Not FieldWord)
 
+-- the content of a text, or none where there is no text
+pub data ReadsText : Option Bytes → Read (Option F.Content) → Type 0 where
+  no_text : ReadsText None (Is None)
+  text : {t : Bytes} {c : F.Content} → ReadsContent t (Is c) → ReadsText (Some t) (Is (Some c))
+  text_fault : {t : Bytes} {w : Word} → ReadsContent t (Not w) → ReadsText (Some t) (Not w)
+
 -- ---- requests
 
 pub data Request : Type 0 where
-  Nothing ListAll Calculate ShowOracle Quit : Request
+  Nothing ListAll Calculate ShowOracle Quit Export Undo Redo : Request
   Set : Addr → F.Content → Request
   Clear View : Range → Request
   Show Get Why : Addr → Request
+  Site : ℕ → Request
+  Merge : Edit → Request
 
 abbrev pub IsAddress : Bytes → Addr → Type 0
 IsAddress bs a = IsTrue (covers grid a) × (bs ≡ address_text a)
@@ -111,10 +121,12 @@ is_viewable r = nat_le ((extents r).rows * (extents r).cols) max_cells
 
 -- the words of a command, with its arguments as they stand
 pub data Words : Type 0 where
-  ListWords CalcWords OracleWords QuitWords : Words
+  ListWords CalcWords OracleWords QuitWords ExportWords UndoWords RedoWords : Words
   SetWords : (place text : Bytes) → Words
   ClearWords ViewWords ShowWords GetWords WhyWords : (place : Bytes) → Words
   ImportWords : (place count : Bytes) → Words
+  SiteWords : (site : Bytes) → Words
+  EditWords : (time site place : Bytes) → (text : Option Bytes) → Words
 
 abbrev pub some_words : Bool → Words → Option Words
 some_words true x = Some x
@@ -123,13 +135,16 @@ some_words false x = None
 abbrev pub one_word : Bytes → Option Words
 one_word w =
     if bytes_eq w (codes "list") then Some ListWords else if bytes_eq w (codes "calc") then Some CalcWords
-    else if bytes_eq w (codes "oracle") then Some OracleWords else if bytes_eq w (codes "quit") then Some QuitWords else None
+    else if bytes_eq w (codes "oracle") then Some OracleWords else if bytes_eq w (codes "quit") then Some QuitWords
+    else if bytes_eq w (codes "export") then Some ExportWords else if bytes_eq w (codes "undo") then Some UndoWords
+    else if bytes_eq w (codes "redo") then Some RedoWords else None
 
 abbrev pub two_words : Bytes → Bytes → Option Words
 two_words w place =
     if bytes_eq w (codes "clear") then Some (ClearWords place) else if bytes_eq w (codes "view") then Some (ViewWords place)
     else if bytes_eq w (codes "show") then Some (ShowWords place) else if bytes_eq w (codes "get") then Some (GetWords place)
-    else if bytes_eq w (codes "why") then Some (WhyWords place) else None
+    else if bytes_eq w (codes "why") then Some (WhyWords place)
+    else if bytes_eq w (codes "site") then some_words (is_number place && nat_le (digits_value place) max_site) (SiteWords place) else None
 
 abbrev pub words_of_pieces : List Bytes → Option Words
 words_of_pieces (w ∷ []) = one_word w
@@ -146,14 +161,39 @@ set_words (Some rest) = let c = cut_at 32 rest in with_text c.0 c.1
     with_text place None = None
     with_text place (Some t) = some_words (nat_lt 0 (length place) && nat_lt 0 (length t)) (SetWords place t)
 
+abbrev pub behind : Option Bytes → (Bytes → Option Words) → Option Words
+behind None f = None
+behind (Some t) f = f t
+
+abbrev pub is_text : Option Bytes → Bool
+is_text None = true
+is_text (Some t) = nat_lt 0 (length t)
+
+-- of `edit` a time, a site and an address, and all behind the fourth space is its text, if there is one
+abbrev pub edit_words : Option Bytes → Option Words
+edit_words o =
+    behind o (λ r. let t = cut_at 32 r in behind t.1 (λ r. let n = cut_at 32 r in behind n.1 (λ r. let p = cut_at 32 r in
+    some_words ((is_number t.0 && is_number n.0) && (nat_lt 0 (length p.0) && is_text p.1)) (EditWords t.0 n.0 p.0 p.1))))
+
 abbrev pub words_of : Bytes → Option Words
-words_of l = let c = cut_at 32 l in if bytes_eq c.0 (codes "set") then set_words c.1 else words_of_pieces (pieces 32 l)
+words_of l =
+    let c = cut_at 32 l in
+    if bytes_eq c.0 (codes "set") then set_words c.1 else if bytes_eq c.0 (codes "edit") then edit_words c.1 else words_of_pieces (pieces 32 l)
 
 pub data ReadsWords : Words → Read Request → Type 0 where
   list : ReadsWords ListWords (Is ListAll)
   calc : ReadsWords CalcWords (Is Calculate)
   oracle : ReadsWords OracleWords (Is ShowOracle)
   quit : ReadsWords QuitWords (Is Quit)
+  export : ReadsWords ExportWords (Is Export)
+  undo : ReadsWords UndoWords (Is Undo)
+  redo : ReadsWords RedoWords (Is Redo)
+  site : {n : Bytes} → ReadsWords (SiteWords n) (Is (Site (digits_value n)))
+  edit : {t n place : Bytes} {text : Option Bytes} {a : Addr} {c : Option F.Content} → IsAddress place a → IsTrue (is_stamp (digits_value t) (digits_value n)) → ReadsText text (Is c) →
+      ReadsWords (EditWords t n place text) (Is (Merge (record { stamp = stamp (digits_value t) (digits_value n); place = a; content = c })))
+  edit_fault : {t n place : Bytes} {text : Option Bytes} {w : Word} (a : Addr) → IsAddress place a → IsTrue (is_stamp (digits_value t) (digits_value n)) → ReadsText text (Not w) → ReadsWords (EditWords t n place text) (Not w)
+  edit_stamp : {t n place : Bytes} {text : Option Bytes} (a : Addr) → IsAddress place a → IsFalse (is_stamp (digits_value t) (digits_value n)) → ReadsWords (EditWords t n place text) (Not StampWord)
+  edit_place : {t n place : Bytes} {text : Option Bytes} → NoAddress place → ReadsWords (EditWords t n place text) (Not AddressWord)
   set : {place t : Bytes} {a : Addr} {c : F.Content} → IsAddress place a → ReadsContent t (Is c) → ReadsWords (SetWords place t) (Is (Set a c))
   set_fault : {place t : Bytes} {w : Word} (a : Addr) → IsAddress place a → ReadsContent t (Not w) → ReadsWords (SetWords place t) (Not w)
   set_place : {place t : Bytes} → NoAddress place → ReadsWords (SetWords place t) (Not AddressWord)
@@ -256,6 +296,12 @@ word_text FieldWord = codes "field"
 word_text GridWord = codes "grid"
 word_text FormulasWord = codes "formulas"
 word_text ContentsWord = codes "contents"
+word_text StampWord = codes "stamp"
+word_text SiteWord = codes "site"
+word_text ConflictWord = codes "conflict"
+word_text EditsWord = codes "edits"
+word_text UndoWord = codes "undo"
+word_text RedoWord = codes "redo"
 
 abbrev pub error_line : Word → Bytes
 error_line w = line (codes "error " ++ word_text w)
@@ -317,26 +363,3 @@ module _ (records : Bytes → List (List Bytes)) (version : Version) (S : Cells)
   asks_calculation ShowOracle = true
   asks_calculation (Why a) = true
   asks_calculation x = false
-
-  -- what a request leaves and replies
-  pub data Does : Request → Cells → Bytes → Type 0 where
-    nothing : Does Nothing S []
-    set : {a : Addr} {c : F.Content} {S' : Cells} → allowed (with_content S a c) ≡ Is S' → Does (Set a c) S' ok_line
-    set_refused : {a : Addr} {c : F.Content} {w : Word} → allowed (with_content S a c) ≡ Not w → Does (Set a c) S (error_line w)
-    clear : {r : Range} → Does (Clear r) (without S r) ok_line
-    get : {a : Addr} → Does (Get a) S (line (get_text (content S a)))
-    list : Does ListAll S (list_text version S)
-    quit : Does Quit S (line (codes "bye"))
-    settled : {x : Request} {w : Oracle} {rounds : ℕ} {reply : Bytes} → IsAnswer version S (A.Answer.Settled w rounds) → SettledReply w rounds x reply → Does x S reply
-    spent : {x : Request} {k : SpentKind} → IsTrue (asks_calculation x) → IsAnswer version S (A.Answer.Spent k) → Does x S (spent_line k)
-
-  -- the sheet and the reply after an item: a refused one leaves the sheet
-  pub data Acts : Item → Cells → Bytes → Type 0 where
-    request : {l reply : Bytes} {x : Request} {S' : Cells} → ReadsLine l (Is x) → Does x S' reply → Acts (Line l) S' reply
-    refused : {l : Bytes} {w : Word} → ReadsLine l (Not w) → Acts (Line l) S (error_line w)
-    long : Acts Long S (error_line LineWord)
-    truncated : Acts Truncated S (error_line TruncatedWord)
-    import : {l p : Bytes} {S' : Cells} (place n : Bytes) (a : Addr) (cs : Cells) → words_of l ≡ Some (ImportWords place n) → IsAddress place a → imported a (records (without_mark p)) ≡ Is cs → allowed (with_contents S cs) ≡ Is S' → Acts (Import l p) S' ok_line
-    import_place : {l p : Bytes} (place n : Bytes) → words_of l ≡ Some (ImportWords place n) → NoAddress place → Acts (Import l p) S (error_line AddressWord)
-    import_fields : {l p : Bytes} {w : Word} (place n : Bytes) (a : Addr) → words_of l ≡ Some (ImportWords place n) → IsAddress place a → imported a (records (without_mark p)) ≡ Not w → Acts (Import l p) S (error_line w)
-    import_refused : {l p : Bytes} {w : Word} (place n : Bytes) (a : Addr) (cs : Cells) → words_of l ≡ Some (ImportWords place n) → IsAddress place a → imported a (records (without_mark p)) ≡ Is cs → allowed (with_contents S cs) ≡ Not w → Acts (Import l p) S (error_line w)

@@ -12,11 +12,12 @@ use Rattle.gl_calculus.specs.Value as V
 use Rattle.gl_calculus.specs.Formula.{Content, Const, Cells}
 use Rattle.gl_language.specs.Text.{Bytes, truth_text}
 use Rattle.gl_language.specs.Content.{IsProperContent}
+use Rattle.gl_edits.specs.Replicas.{Edit, is_stamp}
 use Rattle.gl_protocol.specs.Commands as C
-use Rattle.gl_protocol.specs.Commands.{Read, Is, Not, Word, FieldWord, Utf8Word, Request, ReadsContent, ReadsWords, ReadsLine, SetWords, words_of, signed_value, plain_scalar, fields_of_record, fields, field_fault, contents, imported}
+use Rattle.gl_protocol.specs.Commands.{Read, Is, Not, Word, FieldWord, Request, ReadsContent, ReadsText, ReadsWords, ReadsLine, words_of, signed_value, plain_scalar, fields_of_record, fields, field_fault, contents, imported}
 use Rattle.gl_script.proofs.Contents.{well_formed}
 use Rattle.gl_script.proofs.Decoded.{decoded_text}
-use Rattle.gl_replies.proofs.Texts.{text_of_set}
+use Rattle.gl_replies.proofs.Texts.{text_of_set, text_of_edit, IsTextIn}
 
 -- ---- plain texts
 
@@ -66,8 +67,23 @@ read_proper (C.ReadsContent.plain {b = b} {t = t} p q l) u = plain_proper (b ∷
 read_proper (C.ReadsContent.number p q l e) u = tt
 read_proper (C.ReadsContent.long p q l h) u = tt
 
+abbrev pub IsProperOption : Option Content → Type 0
+IsProperOption (Some c) = IsProperContent c
+IsProperOption None = ⊤
+
+abbrev IfProperText : Read (Option Content) → Type 0
+IfProperText (Is o) = IsProperOption o
+IfProperText (Not w) = ⊤
+
+text_proper : {o : Option Bytes} {x : Read (Option Content)} → ReadsText o x → IsTextIn o → IfProperText x
+text_proper C.ReadsText.no_text u = tt
+text_proper (C.ReadsText.text r) u = read_proper r u
+text_proper (C.ReadsText.text_fault r) u = tt
+
+-- what is set is proper, and an edit has a stamp
 abbrev IfSet : Read Request → Type 0
 IfSet (Is (C.Request.Set a c)) = IsProperContent c
+IfSet (Is (C.Request.Merge e)) = IsTrue (is_stamp e.stamp.time e.stamp.site) × IsProperOption e.content
 IfSet x = ⊤
 
 words_set : (l : Bytes) {ws : C.Words} {x : Read Request} → IsUtf8 l → words_of l ≡ Some ws → ReadsWords ws x → IfSet x
@@ -75,6 +91,14 @@ words_set l u h C.ReadsWords.list = tt
 words_set l u h C.ReadsWords.calc = tt
 words_set l u h C.ReadsWords.oracle = tt
 words_set l u h C.ReadsWords.quit = tt
+words_set l u h C.ReadsWords.export = tt
+words_set l u h C.ReadsWords.undo = tt
+words_set l u h C.ReadsWords.redo = tt
+words_set l u h C.ReadsWords.site = tt
+words_set l u h (C.ReadsWords.edit {t = t} {n = n} {place = place} {text = o} k b r) = (b, text_proper r (text_of_edit l t n place o h u))
+words_set l u h (C.ReadsWords.edit_fault a k b r) = tt
+words_set l u h (C.ReadsWords.edit_stamp a k b) = tt
+words_set l u h (C.ReadsWords.edit_place n) = tt
 words_set l u h (C.ReadsWords.set {place = place} {t = t} k r) = read_proper r (text_of_set l place t h u)
 words_set l u h (C.ReadsWords.set_fault a k r) = tt
 words_set l u h (C.ReadsWords.set_place n) = tt
@@ -100,6 +124,9 @@ line_set {l = l} (C.ReadsLine.words n u w r) = words_set l (IsUtf8-from_is_utf8 
 -- what a line sets is proper
 pub set_proper : (l : Bytes) (a : Addr) (c : Content) → ReadsLine l (Is (C.Request.Set a c)) → IsProperContent c
 set_proper l a c h = line_set h
+
+pub merged_proper : (l : Bytes) (e : Edit) → ReadsLine l (Is (C.Request.Merge e)) → IsTrue (is_stamp e.stamp.time e.stamp.site) × IsProperOption e.content
+merged_proper l e h = line_set h
 
 -- ---- what is imported
 

@@ -9,7 +9,10 @@ use Rattle.gl_language.specs.Text.{Bytes}
 use Rattle.gl_protocol.specs.Framing.{Item}
 use Rattle.gl_protocol.specs.Tables.{line}
 use Rattle.gl_protocol.specs.Commands as C
-use Rattle.gl_protocol.specs.Commands.{Word, Request, error_line, spent_line, why_text, ok_line, get_text, SettledReply, Does, Acts}
+use Rattle.gl_protocol.specs.Commands.{Word, Request, error_line, spent_line, why_text, ok_line, get_text, SettledReply}
+use Rattle.gl_protocol.specs.Script.{Script}
+use Rattle.gl_protocol.specs.Acts as T
+use Rattle.gl_protocol.specs.Acts.{Does, Acts}
 use Rattle.gl_protocol.specs.Output.{is_refusal}
 use Rattle.gl_replies.specs.Laws.{ErrorsAreRefusals, RefusalsAreErrors}
 use Rattle.gl_replies.proofs.Beginnings.{Begins, empty, by, no_refusal, shown_begins, content_begins, line_begins, table_begins}
@@ -50,29 +53,37 @@ module _ (records : Bytes → List (List Bytes)) (version : Version) (S : Cells)
   settled_reply C.SettledReply.oracle = no_error (by (omega arith) (λ e. omega (arith, e)))
   settled_reply {w = w} (C.SettledReply.why_so {a = a}) = why_reply (why S w a)
 
-  does_reply : {x : Request} {T : Cells} {r : Bytes} → Does records version S x T r → IsError r
-  does_reply C.Does.nothing = no_error empty
-  does_reply (C.Does.set e) = no_error (by (omega arith) (λ f. omega (arith, f)))
-  does_reply (C.Does.set_refused {w = w} e) = an_error w
-  does_reply C.Does.clear = no_error (by (omega arith) (λ e. omega (arith, e)))
-  does_reply (C.Does.get {a = a}) = get_reply (content S a)
-  does_reply C.Does.list = no_error (by (omega arith) (λ e. omega (arith, e)))
-  does_reply C.Does.quit = no_error (by (omega arith) (λ e. omega (arith, e)))
-  does_reply (C.Does.settled a s) = settled_reply s
-  does_reply (C.Does.spent {k = k} t a) = spent_reply k
+module _ (records : Bytes → List (List Bytes)) (version : Version) (s : Script) where
+  ok_reply : IsError ok_line
+  ok_reply = no_error (by (omega arith) (λ e. omega (arith, e)))
 
-  acts_reply : {x : Item} {T : Cells} {r : Bytes} → Acts records version S x T r → IsError r
-  acts_reply (C.Acts.request l d) = does_reply d
-  acts_reply (C.Acts.refused {w = w} l) = an_error w
-  acts_reply C.Acts.long = an_error C.LineWord
-  acts_reply C.Acts.truncated = an_error C.TruncatedWord
-  acts_reply (C.Acts.import place n a cs ws at_place read ok) = no_error (by (omega arith) (λ e. omega (arith, e)))
-  acts_reply (C.Acts.import_place place n ws none) = an_error C.AddressWord
-  acts_reply (C.Acts.import_fields {w = w} place n a ws at_place read) = an_error w
-  acts_reply (C.Acts.import_refused {w = w} place n a cs ws at_place read over) = an_error w
+  does_reply : {x : Request} {t : Script} {r : Bytes} → Does records version s x t r → IsError r
+  does_reply T.Does.nothing = no_error empty
+  does_reply (T.Does.changed c e) = ok_reply
+  does_reply (T.Does.unchanged {w = w} c e) = an_error w
+  does_reply (T.Does.merged j i m) = ok_reply
+  does_reply (T.Does.unmerged j {w = w} i m) = an_error w
+  does_reply (T.Does.get {a = a}) = get_reply (content s.sheet a)
+  does_reply T.Does.list = no_error (by (omega arith) (λ e. omega (arith, e)))
+  -- `export` begins with an `e` too
+  does_reply (T.Does.export r e) = λ h. cc h
+  does_reply (T.Does.export_alone e) = an_error C.SiteWord
+  does_reply T.Does.quit = no_error (by (omega arith) (λ e. omega (arith, e)))
+  does_reply (T.Does.settled a h) = settled_reply records version s.sheet h
+  does_reply (T.Does.spent {k = k} t a) = spent_reply k
+
+  acts_reply : {x : Item} {t : Script} {r : Bytes} → Acts records version s x t r → IsError r
+  acts_reply (T.Acts.request l d) = does_reply d
+  acts_reply (T.Acts.refused {w = w} l) = an_error w
+  acts_reply T.Acts.long = an_error C.LineWord
+  acts_reply T.Acts.truncated = an_error C.TruncatedWord
+  acts_reply (T.Acts.import place n a cs ws at_place read ok) = ok_reply
+  acts_reply (T.Acts.import_place place n ws none) = an_error C.AddressWord
+  acts_reply (T.Acts.import_fields {w = w} place n a ws at_place read) = an_error w
+  acts_reply (T.Acts.import_refused {w = w} place n a cs ws at_place read over) = an_error w
 
 pub errors_are_refusals : ErrorsAreRefusals
 errors_are_refusals w = refl
 
 pub refusals_are_errors : RefusalsAreErrors
-refusals_are_errors records version S T x r a = acts_reply records version S a
+refusals_are_errors records version s t x r a = acts_reply records version s a

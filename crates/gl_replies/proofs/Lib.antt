@@ -1,4 +1,3 @@
-pub mod Orders
 pub mod Found
 pub mod Sizes
 pub mod Effects
@@ -9,5 +8,11 @@ pub mod Beginnings
 pub mod Errors
 pub mod Texts
 pub mod Contents
-pub mod Within
 pub mod Kept
+pub mod States
+pub mod Undone
+pub mod Joined
+pub mod SameReplies
+pub mod Counts
+pub mod Rooms
+pub mod Roomy

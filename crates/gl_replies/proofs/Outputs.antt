@@ -1,11 +1,12 @@
 -- The replies to a list of items are determined.
 use Rattle.std.proofs.Common.{◌≡◌, ◌∙◌, Bool, true, false, List, ◌∷◌, refl, sym, ap, subst}
 use Rattle.std.specs.Prelude.{codes, flat_map}
-use Rattle.gl_calculus.specs.Formula.{Version, Cells}
+use Rattle.gl_calculus.specs.Formula.{Version}
 use Rattle.gl_calculus.specs.Formula as F
 use Rattle.gl_language.specs.Text.{Bytes}
 use Rattle.gl_protocol.specs.Framing.{Item}
 use Rattle.gl_protocol.specs.Commands.{ok_line}
+use Rattle.gl_protocol.specs.Script.{Script}
 use Rattle.gl_protocol.specs.Output as O
 use Rattle.gl_protocol.specs.Output.{is_line, Runs, AreReplies}
 use Rattle.gl_protocol.specs.Laws.{OneAct, OneOutput}
@@ -14,14 +15,14 @@ use Rattle.gl_replies.proofs.Effects.{acted}
 use Rattle.gl_replies.proofs.Once.{one_item}
 
 pub one_act : OneAct
-one_act records version S T U x r s h k = one_item records version S x T U r s (acted records version S h) (acted records version S k)
+one_act records version s t u x r q h k = one_item records version s x t u r q (acted records version s h) (acted records version s k)
 
-one_run : (records : Bytes → List (List Bytes)) (version : Version) {S T U : Cells} {is : List Item} {rs ss : List Bytes} → Runs records version S is T rs → Runs records version S is U ss → rs ≡ ss
+one_run : (records : Bytes → List (List Bytes)) (version : Version) {s t u : Script} {is : List Item} {rs ss : List Bytes} → Runs records version s is t rs → Runs records version s is u ss → rs ≡ ss
 one_run records version O.Runs.no_more O.Runs.no_more = refl
-one_run records version {S = S} {U = U} (O.Runs.item {S' = T} {x = x} {xs = xs} {reply = r} {replies = rs} h p) (O.Runs.item {S' = V} {reply = s} {replies = ss} k q) =
-    let e = one_act records version S T V x r s h k in
-    let rest : rs ≡ ss = one_run records version p (subst (λ (W : Cells). Runs records version W xs U ss) (sym e.0) q) in
-    ap (λ (b : Bytes). b ∷ rs) e.1 ∙ ap (λ (bs : List Bytes). s ∷ bs) rest
+one_run records version {s = s} {u = u} (O.Runs.item {s' = t} {x = x} {xs = xs} {reply = r} {replies = rs} h p) (O.Runs.item {s' = v} {reply = z} {replies = ss} k q) =
+    let e = one_act records version s t v x r z h k in
+    let rest : rs ≡ ss = one_run records version p (subst (λ (w : Script). Runs records version w xs u ss) (sym e.0) q) in
+    ap (λ (b : Bytes). b ∷ rs) e.1 ∙ ap (λ (bs : List Bytes). z ∷ bs) rest
 
 apart : (b : Bool) → b ≡ true → b ≡ false → ⊥
 apart b h k = let e : true ≡ false = sym h ∙ k in cc e

@@ -4,7 +4,9 @@ use Rattle.gl_calculus.specs.Limits.{max_formulas, max_contents}
 use Rattle.gl_calculus.specs.Formula.{Version, Cells, IsSheet, formula_addresses}
 use Rattle.gl_language.specs.Text.{Bytes}
 use Rattle.gl_protocol.specs.Framing.{Item}
-use Rattle.gl_protocol.specs.Commands.{Word, error_line, Acts}
+use Rattle.gl_protocol.specs.Commands.{Word, error_line}
+use Rattle.gl_protocol.specs.Script.{Script, new_script}
+use Rattle.gl_protocol.specs.Acts.{Acts}
 use Rattle.gl_protocol.specs.Output.{is_refusal, IsOutput, Runs}
 use Rattle.gl_protocol.specs.Laws.{AreProper}
 
@@ -18,21 +20,15 @@ ErrorsAreRefusals = (w : Word) → IsTrue (is_refusal (error_line w))
 
 abbrev pub RefusalsAreErrors : Type 0
 RefusalsAreErrors =
-    (records : Bytes → List (List Bytes)) (version : Version) (S S' : Cells) (x : Item) (r : Bytes) →
-    Acts records version S x S' r → IsTrue (is_refusal r) → (w : Word) × (r ≡ error_line w)
+    (records : Bytes → List (List Bytes)) (version : Version) (s s' : Script) (x : Item) (r : Bytes) →
+    Acts records version s x s' r → IsTrue (is_refusal r) → (w : Word) × (r ≡ error_line w)
 
 -- at most so many formulas, and so many contents
 abbrev pub IsWithinLimits : Cells → Type 0
 IsWithinLimits S = (length (formula_addresses S) ≤ max_formulas) × (length S ≤ max_contents)
 
--- Each item leaves a sheet within the limits.
-abbrev pub ActsKeepLimits : Type 0
-ActsKeepLimits =
-    (records : Bytes → List (List Bytes)) (version : Version) (S S' : Cells) (x : Item) (r : Bytes) →
-    IsWithinLimits S → Acts records version S x S' r → IsWithinLimits S'
-
--- So every sheet that a script leads to is in order, of proper contents, and within the limits.
+-- Every sheet that a script leads to is in order, of proper contents, and within the limits.
 abbrev pub ScriptsKeepSheets : Type 0
 ScriptsKeepSheets =
-    (records : Bytes → List (List Bytes)) (version : Version) (is : List Item) (S : Cells) (rs : List Bytes) →
-    Runs records version [] is S rs → IsSheet S × AreProper S × IsWithinLimits S
+    (records : Bytes → List (List Bytes)) (version : Version) (is : List Item) (s : Script) (rs : List Bytes) →
+    Runs records version new_script is s rs → IsSheet s.sheet × AreProper s.sheet × IsWithinLimits s.sheet

@@ -1,8 +1,11 @@
-//! The laws of replies: an item has one effect and one reply, a refused item leaves the sheet, and each item leaves a sheet in order, of proper contents, within the limits. This crate has definitions and proofs alone; each law is the contract of a function that does nothing.
+//! The laws of replies: an item has one effect and one reply, a refused item leaves the state, and each item leaves a state whose sheet is in order, of proper contents, within the limits, whose steps can be undone and done again, and whose replica holds its sheet. This crate has definitions and proofs alone; each law is the contract of a function that does nothing.
 #![tactic(auto)]
 
-ghost use Rattle.gl_protocol.specs.Laws.{OneAct, OneOutput, RefusalsLeave, ActsKeepSheets};
-ghost use Rattle.gl_replies.specs.Laws.{OneText, ErrorsAreRefusals, RefusalsAreErrors, ActsKeepLimits, ScriptsKeepSheets};
+ghost use Rattle.gl_protocol.specs.Laws.{OneAct, OneOutput, RefusalsLeave};
+ghost use Rattle.gl_replies.specs.Laws.{OneText, ErrorsAreRefusals, RefusalsAreErrors, ScriptsKeepSheets};
+ghost use Rattle.gl_replies.specs.Rooms.{ActsKeepRooms};
+ghost use Rattle.gl_replies.specs.States.{ActsKeepStates, ScriptsKeepStates, UndoTakesBack};
+ghost use Rattle.gl_replies.specs.States.{ReplicasJoin, ReplicasAgree, SameSheetsReply};
 
 /// An item has one effect and one reply, and so a script has one output.
 pub fn one_reply()
@@ -11,7 +14,7 @@ pub fn one_reply()
     ensures written { OneText }
 {}
 
-/// A refused item leaves the sheet.
+/// A refused item leaves the state.
 pub fn refusals_leave()
     ensures { RefusalsLeave }
 {}
@@ -22,17 +25,27 @@ pub fn only_errors_refuse()
     ensures refusals { RefusalsAreErrors }
 {}
 
-/// Each item leaves a sheet in order, of proper contents.
-pub fn sheets_stay_proper()
-    ensures { ActsKeepSheets }
+/// Every state that a script leads to has a sheet in order, of proper contents, within the limits;
+/// its steps lead back and on; and where it is a replica, the sheet is what its registers hold.
+pub fn states_are_kept()
+    ensures act { ActsKeepStates }
+    ensures script { ScriptsKeepStates }
+    ensures sheet { ScriptsKeepSheets }
 {}
 
-/// Each item leaves a sheet within the limits.
-pub fn sheets_stay_small()
-    ensures { ActsKeepLimits }
+/// No undo and no redo passes a limit of the sheet, also while what comes back stands beside what goes.
+pub fn undo_passes_no_limit()
+    ensures { ActsKeepRooms }
 {}
 
-/// Every sheet that a script leads to is in order, of proper contents, and within the limits.
-pub fn scripts_keep_sheets()
-    ensures { ScriptsKeepSheets }
+/// What is undone is as if it was never done, and what is done again as if it was never undone.
+pub fn undo_takes_back()
+    ensures { UndoTakesBack }
+{}
+
+/// Replicas that took the same edits have the same sheet, and give the same replies.
+pub fn replicas_agree()
+    ensures join { ReplicasJoin }
+    ensures agree { ReplicasAgree }
+    ensures reply { SameSheetsReply }
 {}

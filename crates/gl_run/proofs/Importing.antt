@@ -5,32 +5,36 @@ use Rattle.gl_calculus.specs.Formula.{Version, Cells}
 use Rattle.gl_language.specs.Text.{Bytes}
 use Rattle.gl_protocol.specs.Framing.{Import}
 use Rattle.gl_protocol.specs.Commands as C
-use Rattle.gl_protocol.specs.Commands.{Read, Is, Not, Word, Acts, allowed, imported, with_contents, error_line}
+use Rattle.gl_protocol.specs.Commands.{Read, Is, Not, Word, imported, error_line}
+use Rattle.gl_protocol.specs.Script.{Script}
+use Rattle.gl_protocol.specs.Acts as T
+use Rattle.gl_protocol.specs.Acts.{Acts}
 use Rattle.gl_csvin.specs.Import.{csv_records, records_of, Imports}
 use Rattle.gl_csvin.specs.declared.fault.CsvFault.{CsvFault}
 use Rattle.gl_csvin.specs.declared.fault.CsvFault.TheVariants as f
-use Rattle.gl_run.specs.Replies.{HasPlace, IsPut, IsRefusal, csv_word}
+use Rattle.gl_run.specs.Changed.{IsChanged, imported_state}
+use Rattle.gl_run.specs.Replies.{HasPlace, IsRefusal, csv_word}
 
-module _ (version : Version) (S S' : Cells) (l p reply : Bytes) where
-  pub import_put : (a : Addr) (cs : Cells) → HasPlace l (Some a) → imported a (records_of p) ≡ Is cs → IsPut (allowed (with_contents S cs)) S S' reply → Acts csv_records version S (Import l p) S' reply
-  import_put a cs at is h = by (allowed (with_contents S cs)) refl h
+module _ (version : Version) (s s' : Script) (l p reply : Bytes) where
+  pub import_put : (a : Addr) (cs : Cells) → HasPlace l (Some a) → imported a (records_of p) ≡ Is cs → IsChanged (imported_state s cs) s s' reply → Acts csv_records version s (Import l p) s' reply
+  import_put a cs at is h = by (imported_state s cs) refl h
     where
-      by : (r : Read Cells) → allowed (with_contents S cs) ≡ r → IsPut r S S' reply → Acts csv_records version S (Import l p) S' reply
-      by (Is T) e k =
-          subst (λ x. Acts csv_records version S (Import l p) S' x) (sym k.1)
-          (C.Acts.import at.0 at.1 a cs at.2 at.3 is (e ∙ ap (λ (x : Cells). Is x) (sym k.0)))
+      by : (r : Read Script) → imported_state s cs ≡ r → IsChanged r s s' reply → Acts csv_records version s (Import l p) s' reply
+      by (Is t) e k =
+          subst (λ x. Acts csv_records version s (Import l p) s' x) (sym k.1)
+          (T.Acts.import at.0 at.1 a cs at.2 at.3 is (e ∙ ap (λ (x : Script). Is x) (sym k.0)))
       by (Not w) e k =
-          subst (λ x. Acts csv_records version S (Import l p) S' x) (sym k.1)
-          (subst (λ T. Acts csv_records version S (Import l p) T (error_line w)) (sym k.0) (C.Acts.import_refused at.0 at.1 a cs at.2 at.3 is e))
+          subst (λ x. Acts csv_records version s (Import l p) s' x) (sym k.1)
+          (subst (λ t. Acts csv_records version s (Import l p) t (error_line w)) (sym k.0) (T.Acts.import_refused at.0 at.1 a cs at.2 at.3 is e))
 
-module _ (version : Version) (S : Cells) (l p reply : Bytes) where
-  pub import_nowhere : HasPlace l None → reply ≡ error_line C.AddressWord → Acts csv_records version S (Import l p) S reply
-  import_nowhere at e = subst (λ x. Acts csv_records version S (Import l p) S x) (sym e) (C.Acts.import_place at.0 at.1 at.2 at.3)
+module _ (version : Version) (s : Script) (l p reply : Bytes) where
+  pub import_nowhere : HasPlace l None → reply ≡ error_line C.AddressWord → Acts csv_records version s (Import l p) s reply
+  import_nowhere at e = subst (λ x. Acts csv_records version s (Import l p) s x) (sym e) (T.Acts.import_place at.0 at.1 at.2 at.3)
 
-  fields_refused : (a : Addr) (w : Word) → HasPlace l (Some a) → imported a (records_of p) ≡ Not w → reply ≡ error_line w → Acts csv_records version S (Import l p) S reply
-  fields_refused a w at is e = subst (λ x. Acts csv_records version S (Import l p) S x) (sym e) (C.Acts.import_fields at.0 at.1 a at.2 at.3 is)
+  fields_refused : (a : Addr) (w : Word) → HasPlace l (Some a) → imported a (records_of p) ≡ Not w → reply ≡ error_line w → Acts csv_records version s (Import l p) s reply
+  fields_refused a w at is e = subst (λ x. Acts csv_records version s (Import l p) s x) (sym e) (T.Acts.import_fields at.0 at.1 a at.2 at.3 is)
 
-  pub import_refused : (a : Addr) (e : CsvFault) → HasPlace l (Some a) → Imports (imported a (records_of p)) (Err e) → IsRefusal (csv_word e) reply → Acts csv_records version S (Import l p) S reply
+  pub import_refused : (a : Addr) (e : CsvFault) → HasPlace l (Some a) → Imports (imported a (records_of p)) (Err e) → IsRefusal (csv_word e) reply → Acts csv_records version s (Import l p) s reply
   import_refused a f.Utf8 at is r = fields_refused a C.Utf8Word at is r
   import_refused a f.Field at is r = fields_refused a C.FieldWord at is r
   import_refused a f.Grid at is r = fields_refused a C.GridWord at is r

@@ -9,7 +9,10 @@ use Rattle.gl_calculus.specs.Calculation as A
 use Rattle.gl_calculus.specs.Calculation.{why}
 use Rattle.gl_language.specs.Text.{Bytes, shown_text}
 use Rattle.gl_protocol.specs.Commands as C
-use Rattle.gl_protocol.specs.Commands.{Does, SettledReply, why_text, spent_line}
+use Rattle.gl_protocol.specs.Commands.{SettledReply, why_text, spent_line}
+use Rattle.gl_protocol.specs.Script.{Script}
+use Rattle.gl_protocol.specs.Acts as T
+use Rattle.gl_protocol.specs.Acts.{Does}
 use Rattle.gl_protocol.specs.Tables.{line, oracle_text}
 use Rattle.gl_calc.specs.View.{View, sheet_of}
 use Rattle.gl_calc.specs.Answers.{Answers, spent_tree}
@@ -26,24 +29,24 @@ Held = Option (Version × Oracle)
 pub held_some : (version : Version) (S : Cells) (rounds : ℕ) (old new : Held) → Answers version S (Settled rounds) old new → IsSome new
 held_some version S rounds old new h = ap is_some h.2
 
-pub settled_does : (version : Version) (S : Cells) (c : View) (old : Held) (rounds : ℕ) (x : C.Request) (reply : Bytes) → sheet_of c ≡ S
-    → Answers version S (Settled rounds) old c.held → RepliesBy c rounds x reply → Does csv_records version S x (sheet_of c) reply
-settled_does version S c old rounds x reply e h r =
+pub settled_does : (version : Version) (s s' : Script) (c : View) (old : Held) (rounds : ℕ) (x : C.Request) (reply : Bytes) → s' ≡ s → sheet_of c ≡ s.sheet
+    → Answers version s.sheet (Settled rounds) old c.held → RepliesBy c rounds x reply → Does csv_records version s x s' reply
+settled_does version s s' c old rounds x reply same e h r =
     let said : SettledReply csv_records version (sheet_of c) h.0 rounds x reply = r version h.0 h.2 in
-    subst (λ T. Does csv_records version S x T reply) (sym e) (C.Does.settled h.1 (subst (λ T. SettledReply csv_records version T h.0 rounds x reply) e said))
+    subst (λ t. Does csv_records version s x t reply) (sym same) (T.Does.settled h.1 (subst (λ U. SettledReply csv_records version U h.0 rounds x reply) e said))
 
-all_ask : (version : Version) (S : Cells) (x : Query) → C.asks_calculation csv_records version S (query_tree x) ≡ true
+pub all_ask : (version : Version) (S : Cells) (x : Query) → C.asks_calculation csv_records version S (query_tree x) ≡ true
 all_ask version S (q.Show a) = refl
 all_ask version S (q.View r) = refl
 all_ask version S q.Calc = refl
 all_ask version S q.Oracle = refl
 all_ask version S (q.Why a) = refl
 
-pub spent_does : (version : Version) (S T : Cells) (x : Query) (k : SpentKind) (old new : Held) (reply : Bytes) → T ≡ S
-    → Answers version S (Spent k) old new → reply ≡ spent_line (spent_tree k) → Does csv_records version S (query_tree x) T reply
-spent_does version S T x k old new reply e h r =
-    subst (λ U. Does csv_records version S (query_tree x) U reply) (sym e)
-    (subst (λ y. Does csv_records version S (query_tree x) S y) (sym r) (C.Does.spent (all_ask version S x) h.0))
+pub spent_does : (version : Version) (s s' : Script) (x : Query) (k : SpentKind) (old new : Held) (reply : Bytes) → s' ≡ s
+    → Answers version s.sheet (Spent k) old new → reply ≡ spent_line (spent_tree k) → Does csv_records version s (query_tree x) s' reply
+spent_does version s s' x k old new reply e h r =
+    subst (λ t. Does csv_records version s (query_tree x) t reply) (sym e)
+    (subst (λ y. Does csv_records version s (query_tree x) s y) (sym r) (T.Does.spent (all_ask version s.sheet x) h.0))
 
 module _ (c : View) (reply : Bytes) where
   pub show_replies : (a : Addr) (x : A.Shown) → IsShownIn c a x → reply ≡ line (shown_text x) → (rounds : ℕ) → RepliesBy c rounds (C.Request.Show a) reply

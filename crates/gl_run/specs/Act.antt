@@ -1,26 +1,27 @@
 -- What an item of a script does to the state, and what is replied.
 use Rattle.std.specs.Prelude.{◌≡◌, true, false, ℕ, List, [], ◌∷◌, codes}
 use Rattle.gl_calculus.specs.Formula.{Version, One, Two}
-use Rattle.gl_calculus.specs.Memory.{Memory}
 use Rattle.gl_language.specs.Text.{Bytes}
 use Rattle.gl_protocol.specs.Framing.{Item}
-use Rattle.gl_protocol.specs.Commands.{Acts, ok_line}
+use Rattle.gl_protocol.specs.Commands.{ok_line}
+use Rattle.gl_protocol.specs.Acts.{Acts}
 use Rattle.gl_protocol.specs.Output.{is_line}
 use Rattle.gl_csvin.specs.Import.{csv_records}
+use Rattle.gl_run.specs.Known.{Known}
 use Rattle.gl_run.specs.Spends.{Spends}
 use Rattle.gl_run.specs.State.{State, fresh, begun}
 
 -- the item leaves this and has this reply, and its steps go from n to m
-abbrev pub ActsWithin : Version → Memory → Item → Memory → Bytes → ℕ → ℕ → Type 0
-ActsWithin version M x M' reply n m = Acts csv_records version M.cells x M'.cells reply × Spends version M x reply M' n m
+abbrev pub ActsWithin : Version → Known → Item → Known → Bytes → ℕ → ℕ → Type 0
+ActsWithin version K x K' reply n m = Acts csv_records version K.script x K'.script reply × Spends version K x reply K' n m
 
 -- The item leads from one state to the next, with this reply. The first one gives the script its version.
 pub data Act : State → Item → State → Bytes → Type 0 where
-  two : {M : Memory} {n : ℕ} {x : Item} → is_line (codes "gridlet 2") x ≡ true → Act (fresh M n) x (begun Two M n) ok_line
-  one : {M M' : Memory} {n m : ℕ} {x : Item} {reply : Bytes} → is_line (codes "gridlet 2") x ≡ false
-      → ActsWithin One M x M' reply n m → Act (fresh M n) x (begun One M' m) reply
-  later : {version : Version} {M M' : Memory} {n m : ℕ} {x : Item} {reply : Bytes}
-      → ActsWithin version M x M' reply n m → Act (begun version M n) x (begun version M' m) reply
+  two : {K : Known} {n : ℕ} {x : Item} → is_line (codes "gridlet 2") x ≡ true → Act (fresh K n) x (begun Two K n) ok_line
+  one : {K K' : Known} {n m : ℕ} {x : Item} {reply : Bytes} → is_line (codes "gridlet 2") x ≡ false
+      → ActsWithin One K x K' reply n m → Act (fresh K n) x (begun One K' m) reply
+  later : {version : Version} {K K' : Known} {n m : ℕ} {x : Item} {reply : Bytes}
+      → ActsWithin version K x K' reply n m → Act (begun version K n) x (begun version K' m) reply
 
 -- from one state to another, these items have these replies
 abbrev pub Run : State → List Item → State → List Bytes → Type 0

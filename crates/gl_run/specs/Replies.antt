@@ -1,5 +1,5 @@
 -- What parts of the replies say.
-use Rattle.std.specs.Prelude.{◌≡◌, ℕ, ◌+◌, ◌<◌, List, [], ◌++◌, length, flat_map, get_or, Option, Some, None, MatchOption, ⊤}
+use Rattle.std.specs.Prelude.{◌≡◌, ℕ, ◌+◌, ◌<◌, List, [], ◌++◌, length, flat_map, get_or, Option, Some, None, MatchOption, IsTrue, ⊤}
 use Rattle.gl_calculus.specs.Grid.{Addr, Range, addr, extents}
 use Rattle.gl_calculus.specs.Value.{Oracle}
 use Rattle.gl_calculus.specs.Formula.{Version, Cells}
@@ -9,8 +9,9 @@ use Rattle.gl_calculus.specs.Calculation.{IsShown}
 use Rattle.gl_language.specs.Text.{Bytes}
 use Rattle.gl_language.specs.Content.{IsProperContent}
 use Rattle.gl_protocol.specs.Commands as C
-use Rattle.gl_protocol.specs.Commands.{Word, Read, Is, Not, ImportWords, IsAddress, NoAddress, words_of, AreShown, SettledReply, error_line, ok_line}
-use Rattle.gl_protocol.specs.Tables.{line, set_text}
+use Rattle.gl_protocol.specs.Commands.{Word, Is, ImportWords, IsAddress, NoAddress, ReadsLine, words_of, AreShown, SettledReply, error_line}
+use Rattle.gl_protocol.specs.Tables.{line, set_text, edit_text}
+use Rattle.gl_edits.specs.Replicas.{Edit, is_stamp}
 use Rattle.gl_cells.specs.Content.{content_tree}
 use Rattle.gl_cells.specs.declared.fault.PutFault.{PutFault}
 use Rattle.gl_cells.specs.declared.fault.PutFault.TheVariants as put
@@ -18,6 +19,8 @@ use Rattle.gl_calc.specs.View.{View, sheet_of}
 use Rattle.gl_csvin.specs.Import.{csv_records}
 use Rattle.gl_csvin.specs.declared.fault.CsvFault.{CsvFault}
 use Rattle.gl_csvin.specs.declared.fault.CsvFault.TheVariants as csv
+use Rattle.gl_merge.specs.Edit.{IsProperOption}
+use Rattle.gl_script.specs.Command.{Asks}
 use Rattle.gl_script.specs.declared.requests.Request.{Request}
 use Rattle.gl_script.specs.declared.requests.Request.TheVariants as r
 use Rattle.gl_views.specs.Rows.{in_rows}
@@ -42,17 +45,38 @@ csv_word csv.Field = Some C.FieldWord
 csv_word csv.Grid = Some C.GridWord
 csv_word csv.NoMemory = None
 
--- ---- edits
+-- ---- requests
 
--- the reply to an edit to this sheet, or to one that is refused by this word
-abbrev pub IsPut : Read Cells → Cells → Cells → Bytes → Type 0
-IsPut (Is goal) old new reply = (new ≡ goal) × (reply ≡ ok_line)
-IsPut (Not w) old new reply = (new ≡ old) × (reply ≡ error_line w)
+abbrev pub query_tree : Query → C.Request
+query_tree (q.Show a) = C.Request.Show a
+query_tree (q.View x) = C.Request.View x
+query_tree q.Calc = C.Request.Calculate
+query_tree q.Oracle = C.Request.ShowOracle
+query_tree (q.Why a) = C.Request.Why a
 
--- what `set` puts is proper
+-- what `set` and `edit` put is proper, and the stamp of `edit` is one
 abbrev pub IsProperRequest : Request → Type 0
 IsProperRequest (r.Set a c) = IsProperContent (content_tree c)
+IsProperRequest (r.Edit t n a c) = IsTrue (is_stamp t n) × IsProperOption c
 IsProperRequest x = ⊤
+
+-- each line that asks the request asks this
+abbrev pub AsksFor : Request → C.Request → Type 0
+AsksFor q x = (l : Bytes) → Asks l q → ReadsLine l (Is x)
+
+-- the request asks for no calculation
+abbrev pub IsNoQuery : Request → Type 0
+IsNoQuery (r.Show a) = ⊥
+IsNoQuery (r.View x) = ⊥
+IsNoQuery r.Calc = ⊥
+IsNoQuery r.Oracle = ⊥
+IsNoQuery (r.Why a) = ⊥
+IsNoQuery x = ⊤
+
+-- the query that a request is, if it is one
+abbrev pub IsQueryOf : Request → Option Query → Type 0
+IsQueryOf q None = IsNoQuery q
+IsQueryOf q (Some x) = AsksFor q (query_tree x)
 
 -- a line with the words of an import, whose place is this address, or none
 abbrev pub HasPlace : Bytes → Option Addr → Type 0
@@ -68,14 +92,10 @@ set_line a (Some c) = line (set_text (a, c))
 abbrev pub set_lines : Cells → Bytes
 set_lines S = flat_map (λ x. line (set_text x)) S
 
--- ---- queries
+abbrev pub edit_lines : List Edit → Bytes
+edit_lines rs = flat_map (λ e. line (edit_text e)) rs
 
-abbrev pub query_tree : Query → C.Request
-query_tree (q.Show a) = C.Request.Show a
-query_tree (q.View x) = C.Request.View x
-query_tree q.Calc = C.Request.Calculate
-query_tree q.Oracle = C.Request.ShowOracle
-query_tree (q.Why a) = C.Request.Why a
+-- ---- queries
 
 -- the reply by the oracle that is held, where the calculation took so many rounds
 abbrev pub RepliesBy : View → ℕ → C.Request → Bytes → Type 0

@@ -1,58 +1,51 @@
 -- The steps that a script takes, item by item, with what is remembered from one calculation to the next.
-use Rattle.std.specs.Prelude.{◌≡◌, ℕ, List, [], ◌∷◌, ◌++◌, map, None, Some, true, false, IsTrue, IsFalse, if◌then◌else◌, codes}
+use Rattle.std.specs.Prelude.{◌≡◌, ℕ, List, [], ◌∷◌, ◌++◌, map, Some, true, false, IsTrue, IsFalse, if◌then◌else◌, codes}
 use Rattle.gl_calculus.specs.Grid.{Addr}
 use Rattle.gl_calculus.specs.Formula.{Version, One, Two, Cells}
 use Rattle.gl_calculus.specs.Calculation.{Answer}
-use Rattle.gl_calculus.specs.Memory.{Memory, AreTables, tables_for}
+use Rattle.gl_calculus.specs.Memory.{AreTables, tables_for}
 use Rattle.gl_language.specs.Text.{Bytes}
 use Rattle.gl_protocol.specs.Framing.{Item, Line, Import}
-use Rattle.gl_protocol.specs.Commands.{Request, Set, Clear, Is, ImportWords, IsAddress, words_of, ReadsLine, places_in, imported, asks_calculation, Acts}
+use Rattle.gl_protocol.specs.Commands.{Request, Is, ImportWords, IsAddress, words_of, ReadsLine, imported, asks_calculation}
+use Rattle.gl_protocol.specs.Acts.{Acts}
 use Rattle.gl_protocol.specs.Output.{is_line, is_refusal}
 use Rattle.gl_calc.specs.Costs.{Costs}
 use Rattle.gl_csvin.specs.Import.{csv_records, records_of}
-
--- nothing is remembered of an empty sheet
-abbrev pub new_memory : Memory
-new_memory = record { cells = []; answer = None; tables = []; version = One; touched = [] }
-
--- the addresses whose content a request sets or removes, where it isn't refused
-abbrev pub touched_by : Cells → Request → List Addr
-touched_by S (Set a c) = a ∷ []
-touched_by S (Clear r) = places_in S r
-touched_by S x = []
+use Rattle.gl_run.specs.Known.{Known, new_known, memory_in}
+use Rattle.gl_run.specs.Touched.{touched_by}
 
 -- Behind an item with this reply the tables stay, and these addresses are touched; none where it is refused.
-pub record Touches (reply : Bytes) (places : List Addr) (M M' : Memory) : Type 0 where
-  pub tables : M'.tables ≡ M.tables
-  pub made_for : M'.version ≡ M.version
-  pub touched : M'.touched ≡ M.touched ++ (if is_refusal reply then [] else places)
+pub record Touches (reply : Bytes) (places : List Addr) (K K' : Known) : Type 0 where
+  pub tables : K'.tables ≡ K.tables
+  pub made_for : K'.version ≡ K.version
+  pub touched : K'.touched ≡ K.touched ++ (if is_refusal reply then [] else places)
 
 -- Behind a calculation, whose steps go from n to m, the tables are those of its rounds, and nothing is touched.
-pub record Calculates (version : Version) (M M' : Memory) (n m : ℕ) : Type 0 where
+pub record Calculates (version : Version) (K K' : Known) (n m : ℕ) : Type 0 where
   pub answer : Answer
-  pub costs : Costs version M.cells (tables_for version M) M.touched answer n m
-  pub tables : AreTables version M.cells M'.tables
-  pub made_for : M'.version ≡ version
-  pub touched : M'.touched ≡ []
+  pub costs : Costs version K.script.sheet (tables_for version (memory_in K)) K.touched answer n m
+  pub tables : AreTables version K.script.sheet K'.tables
+  pub made_for : K'.version ≡ version
+  pub touched : K'.touched ≡ []
 
 -- The steps of an item go from n to m: those of a calculation where it asks for one, and else none.
-pub data Spends (version : Version) (M : Memory) : Item → Bytes → Memory → ℕ → ℕ → Type 0 where
-  asked : {l reply : Bytes} {x : Request} {M' : Memory} {n m : ℕ} → ReadsLine l (Is x) → IsTrue (asks_calculation csv_records version M.cells x)
-      → Calculates version M M' n m → Spends version M (Line l) reply M' n m
-  line : {l reply : Bytes} {x : Request} {M' : Memory} {n : ℕ} → ReadsLine l (Is x) → IsFalse (asks_calculation csv_records version M.cells x)
-      → Touches reply (touched_by M.cells x) M M' → Spends version M (Line l) reply M' n n
-  import : {l p reply : Bytes} {M' : Memory} {n : ℕ} (place count : Bytes) (a : Addr) (cs : Cells) → words_of l ≡ Some (ImportWords place count) → IsAddress place a
-      → imported a (records_of p) ≡ Is cs → Touches reply (map (λ c. c.0) cs) M M' → Spends version M (Import l p) reply M' n n
-  refused : {x : Item} {reply : Bytes} {M' : Memory} {n : ℕ} → IsTrue (is_refusal reply) → Touches reply [] M M' → Spends version M x reply M' n n
+pub data Spends (version : Version) (K : Known) : Item → Bytes → Known → ℕ → ℕ → Type 0 where
+  asked : {l reply : Bytes} {x : Request} {K' : Known} {n m : ℕ} → ReadsLine l (Is x) → IsTrue (asks_calculation csv_records version K.script.sheet x)
+      → Calculates version K K' n m → Spends version K (Line l) reply K' n m
+  line : {l reply : Bytes} {x : Request} {K' : Known} {n : ℕ} → ReadsLine l (Is x) → IsFalse (asks_calculation csv_records version K.script.sheet x)
+      → Touches reply (touched_by K.script x) K K' → Spends version K (Line l) reply K' n n
+  import : {l p reply : Bytes} {K' : Known} {n : ℕ} (place count : Bytes) (a : Addr) (cs : Cells) → words_of l ≡ Some (ImportWords place count) → IsAddress place a
+      → imported a (records_of p) ≡ Is cs → Touches reply (map (λ c. c.0) cs) K K' → Spends version K (Import l p) reply K' n n
+  refused : {x : Item} {reply : Bytes} {K' : Known} {n : ℕ} → IsTrue (is_refusal reply) → Touches reply [] K K' → Spends version K x reply K' n n
 
 -- the steps of these items, one after another, go from n to m
-pub data SpendsAll (version : Version) : Memory → List Item → ℕ → ℕ → Type 0 where
-  no_more : {M : Memory} {n : ℕ} → SpendsAll version M [] n n
-  item : {M M' : Memory} {x : Item} {xs : List Item} {reply : Bytes} {n m k : ℕ} → Acts csv_records version M.cells x M'.cells reply
-      → Spends version M x reply M' n m → SpendsAll version M' xs m k → SpendsAll version M (x ∷ xs) n k
+pub data SpendsAll (version : Version) : Known → List Item → ℕ → ℕ → Type 0 where
+  no_more : {K : Known} {n : ℕ} → SpendsAll version K [] n n
+  item : {K K' : Known} {x : Item} {xs : List Item} {reply : Bytes} {n m k : ℕ} → Acts csv_records version K.script x K'.script reply
+      → Spends version K x reply K' n m → SpendsAll version K' xs m k → SpendsAll version K (x ∷ xs) n k
 
 -- The steps of a script go from n to m. What is remembered goes on through the whole of it.
 pub data SpendsScript : List Item → ℕ → ℕ → Type 0 where
   empty : {n : ℕ} → SpendsScript [] n n
-  two : {x : Item} {xs : List Item} {n m : ℕ} → is_line (codes "gridlet 2") x ≡ true → SpendsAll Two new_memory xs n m → SpendsScript (x ∷ xs) n m
-  one : {x : Item} {xs : List Item} {n m : ℕ} → is_line (codes "gridlet 2") x ≡ false → SpendsAll One new_memory (x ∷ xs) n m → SpendsScript (x ∷ xs) n m
+  two : {x : Item} {xs : List Item} {n m : ℕ} → is_line (codes "gridlet 2") x ≡ true → SpendsAll Two new_known xs n m → SpendsScript (x ∷ xs) n m
+  one : {x : Item} {xs : List Item} {n m : ℕ} → is_line (codes "gridlet 2") x ≡ false → SpendsAll One new_known (x ∷ xs) n m → SpendsScript (x ∷ xs) n m

@@ -1,25 +1,29 @@
 //! The replies to the items of a script.
-ghost use Rattle.std.specs.Prelude.{◌≡◌, ◌≤◌, None, IfOk, OnErr, codes};
+ghost use Rattle.std.specs.Prelude.{◌≡◌, ◌≤◌, ℕ, None, IfOk, OnErr, codes};
 ghost use Rattle.gl_language.specs.Text.{Bytes};
-ghost use Rattle.gl_protocol.specs.Commands.{Acts, LineWord, TruncatedWord, error_line};
+ghost use Rattle.gl_protocol.specs.Acts.{Acts};
+ghost use Rattle.gl_protocol.specs.Commands.{LineWord, TruncatedWord, error_line};
 ghost use Rattle.gl_protocol.specs.Framing.{Line};
 ghost use Rattle.gl_protocol.specs.Header.{payload_len};
 ghost use Rattle.gl_protocol.specs.Output.{is_line};
 ghost use Rattle.gl_ast.specs.View.{version_tree};
-ghost use Rattle.gl_calc.specs.View.{sheet_of, memory_of};
 ghost use Rattle.gl_csvin.specs.Import.{csv_records};
 ghost use Rattle.gl_order.specs.Rule.{PicksBelow, rule_of};
 ghost use Rattle.gl_script.specs.Command.{Asks};
-ghost use Rattle.gl_run.specs.Replies.{IsProperRequest};
+ghost use Rattle.gl_run.specs.Replies.{IsNoQuery, IsProperRequest, IsQueryOf};
+ghost use Rattle.gl_run.specs.Script.{known_of, script_of};
 ghost use Rattle.gl_run.specs.Spends.{Spends};
 
 use crate::edits::{clear, set};
+use crate::exports::export;
 use crate::lines::{error_line, text_line};
 use crate::lists::{get, list};
+use crate::merging::{edit, site};
 use crate::queries::{Query, answer_query};
 use crate::refusals::refusal;
+use crate::script::Script;
+use crate::undoing::{redo, undo};
 use gl_ast::Version;
-use gl_calc::Calc;
 use gl_demand::{Steps, Watch};
 use gl_order::Order;
 use gl_plane::NoMemory;
@@ -36,7 +40,7 @@ pub fn is_version_line(line: &[u8]) -> bool
 /// Answers a line that no payload follows. The version line is refused here.
 pub fn answer_line<F: Fn(u8, u64, u64) -> u64, L: Watch>(
     alloc: Global,
-    calc: &mut Calc,
+    script: &mut Script,
     version: Version,
     order: &Order<F>,
     kind: u8,
@@ -47,13 +51,13 @@ pub fn answer_line<F: Fn(u8, u64, u64) -> u64, L: Watch>(
     requires kind { kind ≤ 2 }
     requires line { payload_len line.now ≡ None }
     ensures acts { IfOk result (λ reply.
-        Acts csv_records (version_tree version) (sheet_of calc.old) (Line line.now) (sheet_of calc.new) reply.items) }
-    ensures spends { IfOk result (λ reply. Spends (version_tree version) (memory_of calc.old)
-        (Line line.now) reply.items (memory_of calc.new) steps.old steps.new) }
-    ensures err { OnErr result (sheet_of calc.new ≡ sheet_of calc.old) }
+        Acts csv_records (version_tree version) (script_of script.old) (Line line.now) (script_of script.new) reply.items) }
+    ensures spends { IfOk result (λ reply. Spends (version_tree version) (known_of script.old)
+        (Line line.now) reply.items (known_of script.new) steps.old steps.new) }
+    ensures err { OnErr result (script_of script.new ≡ script_of script.old) }
 {
     match command(alloc, line) {
-        Ok(request) => answer_request(alloc, calc, version, order, kind, steps, request),
+        Ok(request) => answer_request(alloc, script, version, order, kind, steps, request),
         Err(fault) => refusal(alloc, &fault),
     }
 }
@@ -61,7 +65,7 @@ pub fn answer_line<F: Fn(u8, u64, u64) -> u64, L: Watch>(
 /// Does what is asked. A header is no line of its own.
 fn answer_request<F: Fn(u8, u64, u64) -> u64, L: Watch>(
     alloc: Global,
-    calc: &mut Calc,
+    script: &mut Script,
     version: Version,
     order: &Order<F>,
     kind: u8,
@@ -72,28 +76,83 @@ fn answer_request<F: Fn(u8, u64, u64) -> u64, L: Watch>(
     requires kind { kind ≤ 2 }
     requires proper { IsProperRequest request }
     ensures acts { IfOk result (λ reply. (l : Bytes) → payload_len l ≡ None → Asks l request
-        → Acts csv_records (version_tree version) (sheet_of calc.old) (Line l) (sheet_of calc.new) reply.items) }
+        → Acts csv_records (version_tree version) (script_of script.old) (Line l) (script_of script.new) reply.items) }
     ensures spends { IfOk result (λ reply. (l : Bytes) → payload_len l ≡ None → Asks l request
-        → Spends (version_tree version) (memory_of calc.old) (Line l) reply.items
-        (memory_of calc.new) steps.old steps.new) }
-    ensures err { OnErr result (sheet_of calc.new ≡ sheet_of calc.old) }
+        → Spends (version_tree version) (known_of script.old) (Line l) reply.items
+        (known_of script.new) steps.old steps.new) }
+    ensures err { OnErr result (script_of script.new ≡ script_of script.old) }
+{
+    match query_of(&request) {
+        Some(query) => answer_query(alloc, script, version, order, kind, steps, query),
+        None => answer_other(alloc, script, version, request),
+    }
+}
+
+/// What asks for the calculation.
+fn query_of(request: &Request) -> Option<Query>
+    ensures { IsQueryOf request.now result }
+{
+    match request {
+        Request::Show(a) => Some(Query::Show(*a)),
+        Request::View(range) => Some(Query::View(*range)),
+        Request::Calc => Some(Query::Calc),
+        Request::Oracle => Some(Query::Oracle),
+        Request::Why(a) => Some(Query::Why(*a)),
+        Request::Nothing => None,
+        Request::Set(_, _) => None,
+        Request::Clear(_) => None,
+        Request::Get(_) => None,
+        Request::List => None,
+        Request::Import { .. } => None,
+        Request::Version => None,
+        Request::Quit => None,
+        Request::Site(_) => None,
+        Request::Edit { .. } => None,
+        Request::Export => None,
+        Request::Undo => None,
+        Request::Redo => None,
+    }
+}
+
+/// Does what is asked without the calculation. A header is no line of its own.
+fn answer_other(
+    alloc: Global,
+    script: &mut Script,
+    version: Version,
+    request: Request,
+) -> Result<Vec<u8>, NoMemory>
+    requires other { IsNoQuery request }
+    requires proper { IsProperRequest request }
+    ensures acts { IfOk result (λ reply. (l : Bytes) → payload_len l ≡ None → Asks l request
+        → Acts csv_records (version_tree version) (script_of script.old) (Line l) (script_of script.new) reply.items) }
+    ensures spends { IfOk result (λ reply. (n : ℕ) (l : Bytes) → payload_len l ≡ None → Asks l request
+        → Spends (version_tree version) (known_of script.old) (Line l) reply.items (known_of script.new) n n) }
+    ensures err { OnErr result (script_of script.new ≡ script_of script.old) }
 {
     match request {
         Request::Nothing => Ok(Vec::new(alloc)),
-        Request::Set(a, content) => set(alloc, calc, a, content),
-        Request::Clear(range) => clear(alloc, calc, &range),
-        Request::Show(a) => answer_query(alloc, calc, version, order, kind, steps, Query::Show(a)),
-        Request::View(range) => {
-            answer_query(alloc, calc, version, order, kind, steps, Query::View(range))
-        }
-        Request::Get(a) => get(alloc, calc.cells(), a),
-        Request::List => list(alloc, version, calc.cells()),
-        Request::Calc => answer_query(alloc, calc, version, order, kind, steps, Query::Calc),
-        Request::Oracle => answer_query(alloc, calc, version, order, kind, steps, Query::Oracle),
-        Request::Why(a) => answer_query(alloc, calc, version, order, kind, steps, Query::Why(a)),
+        Request::Set(a, content) => set(alloc, script, a, content),
+        Request::Clear(range) => clear(alloc, script, &range),
+        Request::Get(a) => get(alloc, script.calc.cells(), a),
+        Request::List => list(alloc, version, script.calc.cells()),
         Request::Import { .. } => error_line(alloc, "command"),
         Request::Version => error_line(alloc, "command"),
         Request::Quit => text_line(alloc, "bye"),
+        Request::Site(n) => site(alloc, script, n),
+        Request::Edit {
+            time,
+            site,
+            at,
+            content,
+        } => edit(alloc, script, time, site, at, content),
+        Request::Export => export(alloc, script),
+        Request::Undo => undo(alloc, script),
+        Request::Redo => redo(alloc, script),
+        Request::Show(_) => unreachable!(),
+        Request::View(_) => unreachable!(),
+        Request::Calc => unreachable!(),
+        Request::Oracle => unreachable!(),
+        Request::Why(_) => unreachable!(),
     }
 }
 

@@ -1,17 +1,21 @@
 //! Edits of the sheet.
-ghost use Rattle.std.specs.Prelude.{◌≡◌, ◌∷◌, [], IfOk, OnErr};
-ghost use Rattle.gl_calculus.specs.Formula.{Version as PlainVersion};
+ghost use Rattle.std.specs.Prelude.{◌≡◌, ◌∷◌, [], Some, IfOk, OnErr};
 ghost use Rattle.gl_language.specs.Content.{IsProperContent};
 ghost use Rattle.gl_protocol.specs.Commands as C;
-ghost use Rattle.gl_protocol.specs.Commands.{Does, places_in};
+ghost use Rattle.gl_protocol.specs.Commands.{places_in};
+ghost use Rattle.gl_protocol.specs.Script.{change, removals};
 ghost use Rattle.gl_cells.specs.Content.{content_tree};
-ghost use Rattle.gl_calc.specs.View.{sheet_of, memory_of};
-ghost use Rattle.gl_csvin.specs.Import.{csv_records};
+ghost use Rattle.gl_calc.specs.View.{sheet_of};
+ghost use Rattle.gl_run.specs.Changed.{IsChanged};
+ghost use Rattle.gl_run.specs.Ready.{IsReady};
 ghost use Rattle.gl_run.specs.Replies.{IsRefusal, put_word};
+ghost use Rattle.gl_run.specs.Script.{known_of, script_of};
 ghost use Rattle.gl_run.specs.Spends.{Touches};
 
+use crate::changes::{removals, setting};
 use crate::lines::{error_line, text_line};
-use gl_calc::Calc;
+use crate::local::{Ready, commit, local_refusal, prepare};
+use crate::script::Script;
 use gl_cells::{Content, PutFault};
 use gl_plane::{Addr, NoMemory, Range};
 use std::alloc::Global;
@@ -27,36 +31,88 @@ pub(crate) fn put_refusal(alloc: Global, fault: PutFault) -> Result<Vec<u8>, NoM
     }
 }
 
-/// Puts a content. The reply is made first, so that the sheet changes only with it.
+/// Puts a content.
 pub(crate) fn set(
     alloc: Global,
-    calc: &mut Calc,
+    script: &mut Script,
     a: Addr,
     content: Content,
 ) -> Result<Vec<u8>, NoMemory>
     requires { IsProperContent (content_tree content) }
-    ensures does { IfOk result (λ reply. (version : PlainVersion)
-        → Does csv_records version (sheet_of calc.old) (C.Request.Set a (content_tree content)) (sheet_of calc.new) reply.items) }
+    ensures does { IfOk result (λ reply.
+        IsChanged (change (script_of script.old) (C.Request.Set a (content_tree content)))
+        (script_of script.old) (script_of script.new) reply.items) }
     ensures touches { IfOk result (λ reply.
-        Touches reply.items (a ∷ []) (memory_of calc.old) (memory_of calc.new)) }
-    ensures err { OnErr result (sheet_of calc.new ≡ sheet_of calc.old) }
+        Touches reply.items (a ∷ []) (known_of script.old) (known_of script.new)) }
+    ensures err { OnErr result (script_of script.new ≡ script_of script.old) }
+{
+    let list = setting(alloc, a, &content)?;
+    match prepare(alloc, script, list) {
+        Ok(ready) => put_ready(alloc, script, ready, a, content),
+        Err(fault) => local_refusal(alloc, fault),
+    }
+}
+
+/// The same, where it is ready. The reply is made first, so that the sheet changes only with it.
+fn put_ready(
+    alloc: Global,
+    script: &mut Script,
+    ready: Ready,
+    a: Addr,
+    content: Content,
+) -> Result<Vec<u8>, NoMemory>
+    requires proper { IsProperContent (content_tree content) }
+    requires ready { IsReady script.old ((a, Some (content_tree content)) ∷ []) ready }
+    ensures does { IfOk result (λ reply.
+        IsChanged (change (script_of script.old) (C.Request.Set a (content_tree content)))
+        (script_of script.old) (script_of script.new) reply.items) }
+    ensures touches { IfOk result (λ reply.
+        Touches reply.items (a ∷ []) (known_of script.old) (known_of script.new)) }
+    ensures err { OnErr result (script_of script.new ≡ script_of script.old) }
 {
     let reply = text_line(alloc, "ok")?;
-    match calc.put(a, content) {
-        Ok(()) => Ok(reply),
+    match script.calc.put(a, content) {
+        Ok(()) => {
+            commit(script, ready);
+            Ok(reply)
+        }
         Err(fault) => put_refusal(alloc, fault),
     }
 }
 
 /// Removes the contents of a range.
-pub(crate) fn clear(alloc: Global, calc: &mut Calc, range: &Range) -> Result<Vec<u8>, NoMemory>
-    ensures does { IfOk result (λ reply. (version : PlainVersion)
-        → Does csv_records version (sheet_of calc.old) (C.Request.Clear range.now) (sheet_of calc.new) reply.items) }
+pub(crate) fn clear(alloc: Global, script: &mut Script, range: &Range) -> Result<Vec<u8>, NoMemory>
+    ensures does { IfOk result (λ reply.
+        IsChanged (change (script_of script.old) (C.Request.Clear range.now))
+        (script_of script.old) (script_of script.new) reply.items) }
     ensures touches { IfOk result (λ reply. Touches reply.items
-        (places_in (sheet_of calc.old) range.now) (memory_of calc.old) (memory_of calc.new)) }
-    ensures err { OnErr result (sheet_of calc.new ≡ sheet_of calc.old) }
+        (places_in (sheet_of script.old.calc) range.now) (known_of script.old) (known_of script.new)) }
+    ensures err { OnErr result (script_of script.new ≡ script_of script.old) }
+{
+    let list = removals(alloc, script.calc.cells(), range)?;
+    match prepare(alloc, script, list) {
+        Ok(ready) => clear_ready(alloc, script, ready, range),
+        Err(fault) => local_refusal(alloc, fault),
+    }
+}
+
+/// The same, where it is ready.
+fn clear_ready(
+    alloc: Global,
+    script: &mut Script,
+    ready: Ready,
+    range: &Range,
+) -> Result<Vec<u8>, NoMemory>
+    requires { IsReady script.old (removals (sheet_of script.old.calc) range.now) ready }
+    ensures does { IfOk result (λ reply.
+        IsChanged (change (script_of script.old) (C.Request.Clear range.now))
+        (script_of script.old) (script_of script.new) reply.items) }
+    ensures touches { IfOk result (λ reply. Touches reply.items
+        (places_in (sheet_of script.old.calc) range.now) (known_of script.old) (known_of script.new)) }
+    ensures err { OnErr result (script_of script.new ≡ script_of script.old) }
 {
     let reply = text_line(alloc, "ok")?;
-    calc.clear(range);
+    script.calc.clear(range);
+    commit(script, ready);
     Ok(reply)
 }

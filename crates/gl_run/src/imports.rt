@@ -2,19 +2,25 @@
 ghost use Rattle.std.specs.Prelude.{◌≡◌, ℕ, Some, map, IfOk, IsSome, OnErr};
 ghost use Rattle.gl_calculus.specs.Formula.{Version as PlainVersion};
 ghost use Rattle.gl_language.specs.Text.{Bytes};
-ghost use Rattle.gl_protocol.specs.Commands.{Acts, allowed, with_contents};
+ghost use Rattle.gl_calculus.specs.Formula.{IsSheet};
+ghost use Rattle.gl_protocol.specs.Acts.{Acts};
+ghost use Rattle.gl_protocol.specs.Script.{settings};
 ghost use Rattle.gl_protocol.specs.Framing.{Import};
 ghost use Rattle.gl_protocol.specs.Header.{payload_len};
 ghost use Rattle.gl_cells.specs.Sheet.{sheet, AreProper};
-ghost use Rattle.gl_calc.specs.View.{sheet_of, memory_of};
 ghost use Rattle.gl_csvin.specs.Import.{csv_records};
 ghost use Rattle.gl_script.specs.Command.{Asks};
-ghost use Rattle.gl_run.specs.Replies.{HasPlace, IsPut, IsRefusal, csv_word};
+ghost use Rattle.gl_run.specs.Changed.{IsChanged, imported_state};
+ghost use Rattle.gl_run.specs.Ready.{IsReady};
+ghost use Rattle.gl_run.specs.Replies.{HasPlace, IsRefusal, csv_word};
+ghost use Rattle.gl_run.specs.Script.{known_of, script_of};
 ghost use Rattle.gl_run.specs.Spends.{Spends, Touches};
 
+use crate::changes::settings;
 use crate::edits::put_refusal;
 use crate::lines::{error_line, text_line};
-use gl_calc::Calc;
+use crate::local::{Ready, commit, local_refusal, prepare};
+use crate::script::Script;
 use gl_cells::Content;
 use gl_csvin::{CsvFault, contents};
 use gl_plane::{Addr, NoMemory};
@@ -25,20 +31,20 @@ use std::alloc::Global;
 /// header's place is no address. It changes the sheet as a whole or not at all.
 pub fn answer_import(
     alloc: Global,
-    calc: &mut Calc,
+    script: &mut Script,
     header: &[u8],
     payload: &[u8],
 ) -> Result<Vec<u8>, NoMemory>
     requires { IsSome (payload_len header.now) }
     ensures acts { IfOk result (λ reply. (version : PlainVersion)
-        → Acts csv_records version (sheet_of calc.old) (Import header.now payload.now) (sheet_of calc.new) reply.items) }
+        → Acts csv_records version (script_of script.old) (Import header.now payload.now) (script_of script.new) reply.items) }
     ensures spends { IfOk result (λ reply. (version : PlainVersion) (n : ℕ)
-        → Spends version (memory_of calc.old) (Import header.now payload.now) reply.items
-        (memory_of calc.new) n n) }
-    ensures err { OnErr result (sheet_of calc.new ≡ sheet_of calc.old) }
+        → Spends version (known_of script.old) (Import header.now payload.now) reply.items
+        (known_of script.new) n n) }
+    ensures err { OnErr result (script_of script.new ≡ script_of script.old) }
 {
     match place(alloc, header) {
-        Ok(Some(at)) => import_at(alloc, calc, at, payload),
+        Ok(Some(at)) => import_at(alloc, script, at, payload),
         Ok(None) => error_line(alloc, "address"),
         Err(NoMemory) => Err(NoMemory),
     }
@@ -65,35 +71,69 @@ fn import_place(request: &Request) -> Result<Option<Addr>, NoMemory>
 }
 
 /// Imports a payload at an address.
-fn import_at(alloc: Global, calc: &mut Calc, at: Addr, payload: &[u8]) -> Result<Vec<u8>, NoMemory>
+fn import_at(
+    alloc: Global,
+    script: &mut Script,
+    at: Addr,
+    payload: &[u8],
+) -> Result<Vec<u8>, NoMemory>
     ensures acts { IfOk result (λ reply. (version : PlainVersion) (l : Bytes) → HasPlace l (Some at)
-        → Acts csv_records version (sheet_of calc.old) (Import l payload.now) (sheet_of calc.new) reply.items) }
+        → Acts csv_records version (script_of script.old) (Import l payload.now) (script_of script.new) reply.items) }
     ensures spends { IfOk result (λ reply. (version : PlainVersion) (l : Bytes) (n : ℕ)
-        → HasPlace l (Some at) → Spends version (memory_of calc.old) (Import l payload.now)
-        reply.items (memory_of calc.new) n n) }
-    ensures err { OnErr result (sheet_of calc.new ≡ sheet_of calc.old) }
+        → HasPlace l (Some at) → Spends version (known_of script.old) (Import l payload.now)
+        reply.items (known_of script.new) n n) }
+    ensures err { OnErr result (script_of script.new ≡ script_of script.old) }
 {
     match contents(alloc, payload, at) {
-        Ok(list) => put_fields(alloc, calc, list),
+        Ok(list) => put_fields(alloc, script, list),
         Err(fault) => csv_refusal(alloc, fault),
     }
 }
 
-/// Puts contents in turn. The reply is made first, so that the sheet changes only with it.
+/// Puts contents in turn.
 fn put_fields(
     alloc: Global,
-    calc: &mut Calc,
+    script: &mut Script,
     list: Vec<(Addr, Content)>,
 ) -> Result<Vec<u8>, NoMemory>
-    requires { AreProper list.items }
-    ensures puts { IfOk result (λ reply. IsPut (allowed (with_contents (sheet_of calc.old) (sheet list.items))) (sheet_of calc.old) (sheet_of calc.new) reply.items) }
+    requires proper { AreProper list.items }
+    requires ordered { IsSheet (sheet list.items) }
+    ensures puts { IfOk result (λ reply.
+        IsChanged (imported_state (script_of script.old) (sheet list.items))
+        (script_of script.old) (script_of script.new) reply.items) }
     ensures touches { IfOk result (λ reply. Touches reply.items (map (λ e. e.0) (sheet list.items))
-        (memory_of calc.old) (memory_of calc.new)) }
-    ensures err { OnErr result (sheet_of calc.new ≡ sheet_of calc.old) }
+        (known_of script.old) (known_of script.new)) }
+    ensures err { OnErr result (script_of script.new ≡ script_of script.old) }
+{
+    let changes = settings(alloc, &list)?;
+    match prepare(alloc, script, changes) {
+        Ok(ready) => put_all_ready(alloc, script, ready, list),
+        Err(fault) => local_refusal(alloc, fault),
+    }
+}
+
+/// The same, where it is ready. The reply is made first, so that the sheet changes only with it.
+fn put_all_ready(
+    alloc: Global,
+    script: &mut Script,
+    ready: Ready,
+    list: Vec<(Addr, Content)>,
+) -> Result<Vec<u8>, NoMemory>
+    requires proper { AreProper list.items }
+    requires ready { IsReady script.old (settings (sheet list.items)) ready }
+    ensures puts { IfOk result (λ reply.
+        IsChanged (imported_state (script_of script.old) (sheet list.items))
+        (script_of script.old) (script_of script.new) reply.items) }
+    ensures touches { IfOk result (λ reply. Touches reply.items (map (λ e. e.0) (sheet list.items))
+        (known_of script.old) (known_of script.new)) }
+    ensures err { OnErr result (script_of script.new ≡ script_of script.old) }
 {
     let reply = text_line(alloc, "ok")?;
-    match calc.put_all(alloc, list) {
-        Ok(()) => Ok(reply),
+    match script.calc.put_all(alloc, list) {
+        Ok(()) => {
+            commit(script, ready);
+            Ok(reply)
+        }
         Err(fault) => put_refusal(alloc, fault),
     }
 }

@@ -4,20 +4,22 @@ ghost use Rattle.std.specs.Fmt.{decimal};
 ghost use Rattle.gl_calculus.specs.Calculation.{Blocked};
 ghost use Rattle.gl_language.specs.Text as text;
 ghost use Rattle.gl_protocol.specs.Commands as C;
-ghost use Rattle.gl_protocol.specs.Commands.{Does, why_text};
+ghost use Rattle.gl_protocol.specs.Acts.{Does};
+ghost use Rattle.gl_protocol.specs.Commands.{why_text};
 ghost use Rattle.gl_protocol.specs.Tables.{line};
 ghost use Rattle.gl_ast.specs.View.{version_tree};
 ghost use Rattle.gl_grant.specs.Obstacle.{obstacle_tree};
 ghost use Rattle.gl_order.specs.Rule.{PicksBelow, rule_of};
 ghost use Rattle.gl_value.specs.Made.{shown_tree};
-ghost use Rattle.gl_calc.specs.View.{sheet_of, memory_of};
 ghost use Rattle.gl_calc.specs.Answers.{spent_tree};
 ghost use Rattle.gl_calc.specs.Why.{why_tree};
 ghost use Rattle.gl_csvin.specs.Import.{csv_records};
 ghost use Rattle.gl_run.specs.Replies.{RepliesBy, query_tree};
+ghost use Rattle.gl_run.specs.Script.{known_of, script_of};
 ghost use Rattle.gl_run.specs.Spends.{Calculates};
 
 use crate::lines::{address_line, text_line};
+use crate::script::Script;
 use crate::tables::{shown_at, view};
 use gl_ast::{Version, put};
 use gl_calc::{Answer, Calc, SpentKind, Why};
@@ -42,7 +44,7 @@ pub(crate) enum Query {
 /// Calculates the sheet, and answers what is asked, or which budget was spent.
 pub(crate) fn answer_query<F: Fn(u8, u64, u64) -> u64, L: Watch>(
     alloc: Global,
-    calc: &mut Calc,
+    script: &mut Script,
     version: Version,
     order: &Order<F>,
     kind: u8,
@@ -52,13 +54,13 @@ pub(crate) fn answer_query<F: Fn(u8, u64, u64) -> u64, L: Watch>(
     requires rule { PicksBelow (F.pre (rule_of order.now)) (F.post (rule_of order.now)) }
     requires kind { kind ≤ 2 }
     ensures does { IfOk result (λ reply.
-        Does csv_records (version_tree version) (sheet_of calc.old) (query_tree query) (sheet_of calc.new) reply.items) }
+        Does csv_records (version_tree version) (script_of script.old) (query_tree query) (script_of script.new) reply.items) }
     ensures calculates { IfOk result (λ reply. Calculates (version_tree version)
-        (memory_of calc.old) (memory_of calc.new) steps.old steps.new) }
-    ensures sheet { sheet_of calc.new ≡ sheet_of calc.old }
+        (known_of script.old) (known_of script.new) steps.old steps.new) }
+    ensures script { script_of script.new ≡ script_of script.old }
 {
-    match calc.refresh(alloc, order, kind, version, steps) {
-        Ok(Answer::Settled { rounds }) => settled_reply(alloc, calc, rounds, query),
+    match script.calc.refresh(alloc, order, kind, version, steps) {
+        Ok(Answer::Settled { rounds }) => settled_reply(alloc, &script.calc, rounds, query),
         Ok(Answer::Spent(spent)) => spent_line(alloc, spent),
         Err(NoMemory) => Err(NoMemory),
     }

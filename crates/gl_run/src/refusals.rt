@@ -30,6 +30,7 @@ fn fault_word(fault: &CommandFault) -> Option<&'static str>
         CommandFault::Payload => Some("payload"),
         CommandFault::Address => Some("address"),
         CommandFault::Range => Some("range"),
+        CommandFault::Stamp => Some("stamp"),
         CommandFault::Parse(fault) => parse_word(fault),
         CommandFault::Text => Some("text"),
         CommandFault::Field => Some("field"),

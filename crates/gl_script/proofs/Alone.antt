@@ -13,7 +13,7 @@ use Rattle.gl_protocol.specs.Commands as C
 use Rattle.gl_protocol.specs.Commands.{Read, ReadsLine, ReadsWords, IsAddress, NoAddress, ImportWords, words_of, words_of_pieces, is_comment}
 use Rattle.gl_script.specs.Command.{IsHeader}
 use Rattle.gl_script.proofs.Headers.{first_piece}
-use Rattle.gl_script.proofs.Cuts.{Says, says}
+use Rattle.gl_script.proofs.Says.{Says, says}
 use Rattle.gl_script.proofs.Once.{same_place}
 
 -- ---- a comment has no words

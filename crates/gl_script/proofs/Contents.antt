@@ -1,6 +1,7 @@
 -- The content of a text, by what was read of it.
-use Rattle.std.proofs.Common.{◌≡◌, ◌≢◌, ◌∙◌, ℕ, ◌<◌, ◌≤◌, true, false, List, [], ◌∷◌, ◌++◌, length, get_or, Err, refl, sym, ap, subst, arith, IsTrue}
-use Rattle.std.specs.Prelude.{ℤ, nat_le, ◌&&◌}
+use Rattle.std.proofs.Common.{◌≡◌, ◌≢◌, ◌∙◌, ℕ, ◌<◌, ◌≤◌, true, false, List, [], ◌∷◌, ◌++◌, length, get_or, Option, Some, None, Ok, Err, refl, sym, ap, subst, arith, IsTrue}
+use Rattle.std.specs.Prelude.{ℤ, nat_lt, nat_le, ◌&&◌, option_copied}
+use Rattle.std.specs.Borrow.{Bor}
 use Rattle.std.specs.List.{AllByRecursion}
 use Rattle.std.specs.Str.{IsUtf8, is_utf8}
 use Rattle.std.proofs.lemmas.Bool.Decides.{nat_tests}
@@ -21,7 +22,9 @@ use Rattle.gl_parse.specs.declared.fault.ParseFault.{ParseFault}
 use Rattle.gl_parse.specs.declared.fault.ParseFault.TheVariants as parse
 use Rattle.gl_lex.specs.declared.fault.LexFault.{LexFault}
 use Rattle.gl_lex.specs.View.{IsLiteral}
-use Rattle.gl_script.specs.Parts.{IsContent, is_int, formula_fault, literal_fault}
+use Rattle.gl_cells.specs.declared.content.Content.{Content}
+use Rattle.gl_script.specs.declared.requests.CommandFault.{CommandFault}
+use Rattle.gl_script.specs.Parts.{IsContent, IsText, is_int, formula_fault, literal_fault}
 use Rattle.gl_script.proofs.Decoded.{decoded_text}
 
 -- ---- formulas
@@ -107,3 +110,22 @@ field_content (b ∷ t) x some p q e l h = C.ReadsContent.long p q l (λ n d. le
 pub no_formula : (text : Bytes) → ((rest : Bytes) → text ≢ 61 ∷ rest) → get_or text 0 0 ≢ 61
 no_formula [] h e = absurd (omega (arith, e))
 no_formula (b ∷ t) h e = h t (ap (λ (x : ℕ). x ∷ t) e)
+
+-- ---- a text, or none
+
+some_length : (t : Bytes) → nat_lt 0 (length t) ≡ true → 0 < length t
+some_length t h = grind (arith, nat_tests)
+
+module _ (o : Option (Bor Bytes)) where
+  pub text_read : (t : Bor Bytes) (c : Content) → o ≡ Some t → IsTrue (C.is_text (option_copied o)) → (0 < length t.now → IsContent t.now (Ok c)) → IsText (option_copied o) (Ok (Some c))
+  text_read t c e n g =
+      let x = g (some_length t.now (subst (λ (z : Option (Bor Bytes)). IsTrue (C.is_text (option_copied z))) e n)) in
+      subst (λ (z : Option (Bor Bytes)). IsText (option_copied z) (Ok (Some c))) (sym e) (C.ReadsText.text x.0, x.1)
+
+  pub text_not : (t : Bor Bytes) (f : CommandFault) → o ≡ Some t → IsTrue (C.is_text (option_copied o)) → (0 < length t.now → IsContent t.now (Err f)) → IsText (option_copied o) (Err f)
+  text_not t f e n g =
+      let x = g (some_length t.now (subst (λ (z : Option (Bor Bytes)). IsTrue (C.is_text (option_copied z))) e n)) in
+      subst (λ (z : Option (Bor Bytes)). IsText (option_copied z) (Err f)) (sym e) (t.now, refl, x)
+
+  pub text_none : o ≡ None → IsText (option_copied o) (Ok None)
+  text_none e = subst (λ (z : Option (Bor Bytes)). IsText (option_copied z) (Ok None)) (sym e) (C.ReadsText.no_text, tt)

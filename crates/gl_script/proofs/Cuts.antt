@@ -1,12 +1,12 @@
 -- The words of a line by its first cuts.
-use Rattle.std.proofs.Common.{◌≡◌, ◌≢◌, ◌∙◌, ℕ, suc, ◌<◌, Bool, true, false, cond, ◌&&◌, eqb, List, [], ◌∷◌, ◌++◌, length, Option, Some, None, inl, inr, refl, sym, subst, arith, if◌then◌else◌}
+use Rattle.std.proofs.Common.{◌≡◌, ◌≢◌, ◌∙◌, ℕ, suc, Bool, true, false, cond, ◌&&◌, eqb, List, [], ◌∷◌, ◌++◌, length, Some, None, inl, inr, refl, sym, subst, arith}
 use Rattle.std.specs.Prelude.{bytes_eq, codes, nat_lt, ◌==◌}
 use Rattle.std.proofs.lemmas.Bool.Decides.{nat_tests}
 use Rattle.std.proofs.lemmas.Slice.Eq.{bytes_eq-Decides}
 use Rattle.gl_language.specs.Text.{Bytes}
 use Rattle.gl_protocol.specs.Pieces.{cut_at, pieces, is_number}
-use Rattle.gl_protocol.specs.Header.{count_by, count_of}
-use Rattle.gl_protocol.specs.Commands.{Words, ListWords, CalcWords, OracleWords, QuitWords, SetWords, ClearWords, ViewWords, ShowWords, GetWords, WhyWords, ImportWords, words_of, set_words, words_of_pieces, one_word, two_words, some_words}
+use Rattle.gl_protocol.specs.Commands.{SetWords, ImportWords, words_of, set_words, edit_words, words_of_pieces, one_word, two_words, some_words}
+use Rattle.gl_script.specs.Parts.{edit_at, edit_behind}
 use Rattle.gl_script.proofs.Headers.{Lacks, pieces-none, pieces-at, shape, no_number}
 
 -- ---- cuts
@@ -37,18 +37,25 @@ same_bytes w v h = (bytes_eq-Decides w v).0 h
 no_single_set : (w : Bytes) → bytes_eq w (codes "set") ≡ true → None ≡ one_word w
 no_single_set w h = subst (λ v. None ≡ one_word v) (sym (same_bytes w (codes "set") h)) refl
 
+no_single_edit : (w : Bytes) → bytes_eq w (codes "edit") ≡ true → None ≡ one_word w
+no_single_edit w h = subst (λ v. None ≡ one_word v) (sym (same_bytes w (codes "edit") h)) refl
+
 pub words-one : (l : Bytes) → Lacks 32 l → words_of l ≡ one_word l
-words-one l h = rw (cut-none 32 l h, pieces-none 32 l h) (by (bytes_eq l (codes "set")) refl)
+words-one l h = rw (cut-none 32 l h, pieces-none 32 l h) (by (bytes_eq l (codes "set")) (bytes_eq l (codes "edit")) refl refl)
   where
-    by : (t : Bool) → bytes_eq l (codes "set") ≡ t → cond t None (one_word l) ≡ one_word l
-    by true e = no_single_set l e
-    by false e = refl
+    by : (s t : Bool) → bytes_eq l (codes "set") ≡ s → bytes_eq l (codes "edit") ≡ t → cond s None (cond t None (one_word l)) ≡ one_word l
+    by true t e f = no_single_set l e
+    by false true e f = no_single_edit l f
+    by false false e f = refl
 
 pub words-set : (w rest : Bytes) → Lacks 32 w → bytes_eq w (codes "set") ≡ true → words_of (w ++ 32 ∷ rest) ≡ set_words (Some rest)
 words-set w rest h e = rw (cut-at 32 w rest h, e) refl
 
-pub words-more : (w rest : Bytes) → Lacks 32 w → bytes_eq w (codes "set") ≡ false → words_of (w ++ 32 ∷ rest) ≡ words_of_pieces (w ∷ pieces 32 rest)
-words-more w rest h e = rw (cut-at 32 w rest h, e, pieces-at 32 w rest h) refl
+pub words-edit : (w rest : Bytes) → Lacks 32 w → bytes_eq w (codes "set") ≡ false → bytes_eq w (codes "edit") ≡ true → words_of (w ++ 32 ∷ rest) ≡ edit_words (Some rest)
+words-edit w rest h e f = rw (cut-at 32 w rest h, e, f) refl
+
+pub words-more : (w rest : Bytes) → Lacks 32 w → bytes_eq w (codes "set") ≡ false → bytes_eq w (codes "edit") ≡ false → words_of (w ++ 32 ∷ rest) ≡ words_of_pieces (w ∷ pieces 32 rest)
+words-more w rest h e f = rw (cut-at 32 w rest h, e, f, pieces-at 32 w rest h) refl
 
 -- ---- `set` and what follows
 
@@ -76,6 +83,20 @@ set-empty_text place t h e = set-some place t h ∙ by (nat_lt 0 (length place))
 
 pub set-both : (place t : Bytes) → Lacks 32 place → (length place == 0) ≡ false → (length t == 0) ≡ false → set_words (Some (place ++ 32 ∷ t)) ≡ Some (SetWords place t)
 set-both place t h e d = set-some place t h ∙ rw (is_some (length place) e, is_some (length t) d) refl
+
+-- ---- `edit` and what follows
+
+pub edit-none : (rest : Bytes) → Lacks 32 rest → edit_words (Some rest) ≡ None
+edit-none rest h = rw (cut-none 32 rest h) refl
+
+pub edit-time : (time rest : Bytes) → Lacks 32 time → edit_words (Some (time ++ 32 ∷ rest)) ≡ edit_behind time (cut_at 32 rest)
+edit-time time rest h = rw (cut-at 32 time rest h) refl
+
+pub edit-no_site : (time rest : Bytes) → Lacks 32 rest → edit_behind time (cut_at 32 rest) ≡ None
+edit-no_site time rest h = rw (cut-none 32 rest h) refl
+
+pub edit-site : (time site rest : Bytes) → Lacks 32 site → edit_behind time (cut_at 32 (site ++ 32 ∷ rest)) ≡ edit_at time site (cut_at 32 rest)
+edit-site time site rest h = rw (cut-at 32 site rest h) refl
 
 -- ---- another word and what follows
 
@@ -120,63 +141,3 @@ import-count w place n c = three w place n ∙ rw c (by (bytes_eq w (codes "impo
     by true true = refl
     by true false = refl
     by false s = refl
-
--- ---- what the words of a line say
-
--- of an import, its count; of `set`, that its text isn't empty
-abbrev pub Says : Bytes → Option Words → Type 0
-Says l (Some (ImportWords place n)) = (is_number n ≡ true) × (count_by (pieces 32 l) ≡ count_of n)
-Says l (Some (SetWords place t)) = 0 < length t
-Says l o = Unit {0}
-
-some_set : (l place t : Bytes) (a : Bool) → Says l (some_words (a && nat_lt 0 (length t)) (SetWords place t))
-some_set l place t true =
-    (elim (nat_lt 0 (length t)) as (λ b. nat_lt 0 (length t) ≡ b → Says l (some_words b (SetWords place t))) [
-      | true ↦ λ e. grind (arith, nat_tests)
-      | false ↦ λ e. tt
-    ]) refl
-some_set l place t false = tt
-
-set_says : (l : Bytes) (rest : Option Bytes) → Says l (set_words rest)
-set_says l None = tt
-set_says l (Some rest) =
-    elim (cut_at 32 rest).1 as (λ o. Says l (with_text (cut_at 32 rest).0 o)) [ None ↦ tt | Some t ↦ some_set l (cut_at 32 rest).0 t (nat_lt 0 (length (cut_at 32 rest).0)) ]
-  where
-    with_text : Bytes → Option Bytes → Option Words
-    with_text place None = None
-    with_text place (Some t) = some_words (nat_lt 0 (length place) && nat_lt 0 (length t)) (SetWords place t)
-
-one_says : (l : Bytes) (a b c d : Bool) → Says l (if a then Some ListWords else if b then Some CalcWords else if c then Some OracleWords else if d then Some QuitWords else None)
-one_says l true b c d = tt
-one_says l false true c d = tt
-one_says l false false true d = tt
-one_says l false false false true = tt
-one_says l false false false false = tt
-
-two_says : (l place : Bytes) (x a b c d e : Bool) → Says l (if x then None else if a then Some (ClearWords place) else if b then Some (ViewWords place) else if c then Some (ShowWords place) else if d then Some (GetWords place) else if e then Some (WhyWords place) else None)
-two_says l place true a b c d e = tt
-two_says l place false true b c d e = tt
-two_says l place false false true c d e = tt
-two_says l place false false false true d e = tt
-two_says l place false false false false true e = tt
-two_says l place false false false false false true = tt
-two_says l place false false false false false false = tt
-
-three_says : (l w place n : Bytes) → pieces 32 l ≡ w ∷ place ∷ n ∷ [] → Says l (some_words (bytes_eq w (codes "import") && nat_lt 0 (length place) && is_number n) (ImportWords place n))
-three_says l w place n h = by (bytes_eq w (codes "import")) (nat_lt 0 (length place)) (is_number n) refl refl refl
-  where
-    by : (a b c : Bool) → bytes_eq w (codes "import") ≡ a → nat_lt 0 (length place) ≡ b → is_number n ≡ c → Says l (some_words (a && b && c) (ImportWords place n))
-    by true true true p q r = (r, rw (h, p, q) refl)
-    by true true false p q r = tt
-    by true false c p q r = tt
-    by false b c p q r = tt
-
-pieces_say : (l : Bytes) (ps : List Bytes) → pieces 32 l ≡ ps → Says l (words_of_pieces ps)
-pieces_say l [] h = tt
-pieces_say l (w ∷ []) h = one_says l (bytes_eq w (codes "list")) (bytes_eq w (codes "calc")) (bytes_eq w (codes "oracle")) (bytes_eq w (codes "quit"))
-pieces_say l (w ∷ place ∷ []) h = two_says l place (length place == 0) (bytes_eq w (codes "clear")) (bytes_eq w (codes "view")) (bytes_eq w (codes "show")) (bytes_eq w (codes "get")) (bytes_eq w (codes "why"))
-pieces_say l (w ∷ place ∷ n ∷ []) h = three_says l w place n h
-pieces_say l (w ∷ place ∷ n ∷ m ∷ ps) h = tt
-
-pub says : (l : Bytes) → Says l (words_of l)
-says l = elim (bytes_eq (cut_at 32 l).0 (codes "set")) as (λ b. Says l (if b then set_words (cut_at 32 l).1 else words_of_pieces (pieces 32 l))) [ true ↦ set_says l (cut_at 32 l).1 | false ↦ pieces_say l (pieces 32 l) refl ]

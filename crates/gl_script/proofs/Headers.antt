@@ -102,31 +102,31 @@ number_led (b ∷ c ∷ bs) l n =
 own : IsNumeralModel (λ ds. list_all is_digit ds ≡ true) digits_value
 own = numerals_by_fold _ (search rules) (λ n ds. fold (λ n d. 10 * n + (d - 48)) n ds) (search rules)
 
-abbrev Counted : {E : Type 0} → Bytes → Result ℕ E → Type 0
-Counted bs r = OkIff r ((0 < length bs) × (digits_value bs < 2 ^ 32)) (digits_value bs)
+abbrev pub Counted : {E : Type 0} → ℕ → Bytes → Result ℕ E → Type 0
+Counted width bs r = OkIff r ((0 < length bs) × (digits_value bs < 2 ^ width)) (digits_value bs)
 
-counted : {E : Type 0} (bs : Bytes) (r : Result ℕ E) → ParsesUnsigned 32 10 bs r → is_number bs ≡ true → Counted bs r
-counted bs r h n = parse_digits own 32 bs r h (number-digits bs n)
+pub counted : {E : Type 0} (width : ℕ) (bs : Bytes) (r : Result ℕ E) → ParsesUnsigned width 10 bs r → is_number bs ≡ true → Counted width bs r
+counted width bs r h n = parse_digits own width bs r h (number-digits bs n)
 
-some_digit : (bs : Bytes) → is_number bs ≡ true → 0 < length bs
+pub some_digit : (bs : Bytes) → is_number bs ≡ true → 0 < length bs
 some_digit [] h = cc
 some_digit (b ∷ bs) h = omega arith
 
 pub count_read : {E : Type 0} (bs : Bytes) (r : Result ℕ E) (n : ℕ) → ParsesUnsigned 32 10 bs r → r ≡ Ok n → is_number bs ≡ true → n ≤ max_payload → Some n ≡ count_of bs
 count_read bs r n h ok e l =
-    let c = OkIff-at_ok r _ (digits_value bs) n (counted bs r h e) ok in
+    let c = OkIff-at_ok r _ (digits_value bs) n (counted 32 bs r h e) ok in
     let f : leb (digits_value bs) max_payload ≡ true = grind (arith, nat_tests, c.1) in
     rw (e, f) (ap (λ (k : ℕ). Some k) c.1)
 
 pub count_past : {E : Type 0} (bs : Bytes) (r : Result ℕ E) (n : ℕ) → ParsesUnsigned 32 10 bs r → r ≡ Ok n → is_number bs ≡ true → max_payload < n → None ≡ count_of bs
 count_past bs r n h ok e l =
-    let c = OkIff-at_ok r _ (digits_value bs) n (counted bs r h e) ok in
+    let c = OkIff-at_ok r _ (digits_value bs) n (counted 32 bs r h e) ok in
     let f : leb (digits_value bs) max_payload ≡ false = grind (arith, nat_tests, c.1) in
     rw (e, f) refl
 
 pub count_off : {E : Type 0} (bs : Bytes) (x : E) → ParsesUnsigned 32 10 bs (Err x) → is_number bs ≡ true → None ≡ count_of bs
 count_off bs x h e =
-    let c = counted bs (Err x) h e in
+    let c = counted 32 bs (Err x) h e in
     let P : Bool → Type 0 = λ t. leb (digits_value bs) max_payload ≡ t → None ≡ cond t (Some (digits_value bs)) None in
     rw e ((elim (leb (digits_value bs) max_payload) as P [
       | true ↦ λ f. let l : digits_value bs < 2 ^ 32 = grind (arith, nat_tests) in absurd (c (some_digit bs e, l))

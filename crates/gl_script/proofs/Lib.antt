@@ -1,6 +1,8 @@
 pub mod Agrees
 pub mod Headers
+pub mod Stamped
 pub mod Cuts
+pub mod Says
 pub mod Places
 pub mod Decoded
 pub mod Contents

@@ -1,5 +1,5 @@
 -- What a line asks, by its words.
-use Rattle.std.proofs.Common.{◌≡◌, ◌≢◌, ◌∙◌, ℕ, ◌*◌, ◌<◌, ◌≤◌, Bool, true, false, cond, leb, ◌∷◌, length, Option, Some, None, Ok, Err, refl, sym, ap, subst, arith, IsTrue}
+use Rattle.std.proofs.Common.{◌≡◌, ◌≢◌, ◌∙◌, ℕ, ◌*◌, ◌<◌, ◌≤◌, Bool, true, false, cond, ◌&&◌, leb, ◌∷◌, length, Option, Some, None, Ok, Err, refl, sym, ap, subst, arith, IsTrue}
 use Rattle.std.specs.Prelude.{MatchOption, IfSome, IfNone, IsFalse, bytes_eq, codes}
 use Rattle.std.specs.Str.{is_utf8}
 use Rattle.std.proofs.lemmas.Bool.Decides.{nat_tests}
@@ -11,21 +11,40 @@ use Rattle.gl_language.specs.Token.{digits_value}
 use Rattle.gl_protocol.specs.Pieces.{is_number}
 use Rattle.gl_protocol.specs.Header.{payload_len, count_of}
 use Rattle.gl_protocol.specs.Commands as C
-use Rattle.gl_protocol.specs.Commands.{Read, Is, Not, Word, ReadsLine, ReadsWords, ReadsRange, SetWords, ImportWords, ClearWords, ViewWords, IsAddress, NoAddress, is_viewable, words_of, is_comment}
+use Rattle.gl_protocol.specs.Commands.{Read, Is, Not, Word, ReadsLine, ReadsWords, ReadsRange, SetWords, EditWords, SiteWords, ImportWords, ClearWords, ViewWords, IsAddress, NoAddress, is_viewable, is_text, words_of, is_comment}
 use Rattle.gl_cells.specs.declared.content.Content.{Content}
 use Rattle.gl_cells.specs.Content.{content_tree}
 use Rattle.gl_script.specs.declared.requests.CommandFault.{CommandFault}
 use Rattle.gl_script.specs.declared.requests.CommandFault.TheVariants as f
 use Rattle.gl_script.specs.declared.requests.Request.TheVariants as r
-use Rattle.gl_script.specs.Command.{Answers, Asks, IsHeader, SetsText, is_version_line}
-use Rattle.gl_script.specs.Parts.{HasWords, IsContent, IsRange}
-use Rattle.gl_script.proofs.Cuts.{Says, says, same_bytes}
+use Rattle.gl_edits.specs.Replicas.{is_stamp}
+use Rattle.gl_script.specs.Numbers.{is_site, pair_if, stamp_in}
+use Rattle.gl_script.specs.Command.{Answers, Asks, IsHeader, GivesText, sets, edits, edit_of, is_version_line}
+use Rattle.gl_script.specs.Parts.{HasWords, IsContent, IsText, IsRange}
+use Rattle.gl_script.proofs.Cuts.{same_bytes}
+use Rattle.gl_script.proofs.Says.{Says, says}
 
 pub line_reads : (l : Bytes) (ws : C.Words) (x : Read C.Request) → HasWords l ws → ReadsWords ws x → ReadsLine l x
 line_reads l ws x h r = C.ReadsLine.words h.no_comment h.text h.words r
 
-other_words : (l : Bytes) (ws : C.Words) → HasWords l ws → ((place t : Bytes) → ws ≢ SetWords place t) → (t : Bytes) → SetsText l t → ⊥
-other_words l ws h n t s = n s.0 t (let e : Some ws ≡ Some (SetWords s.0 t) = sym h.words ∙ s.1 in cc)
+other_words : (l : Bytes) (ws : C.Words) → HasWords l ws → ((place t : Bytes) → ws ≢ SetWords place t) → ((time site place t : Bytes) → ws ≢ EditWords time site place (Some t)) → (t : Bytes) → GivesText l t → ⊥
+other_words l ws h n m t (sets place e) = n place t (let d : Some ws ≡ Some (SetWords place t) = sym h.words ∙ e in cc)
+other_words l ws h n m t (edits time site place e) = m time site place t (let d : Some ws ≡ Some (EditWords time site place (Some t)) = sym h.words ∙ e in cc)
+
+-- ---- the text of a line
+
+-- a line that gives an address this text is refused as the text is
+text_by : (l t : Bytes) (e : CommandFault) → ((u : Bytes) → t ≡ u → GivesText l u) → ((w : Word) → C.ReadsContent t (Not w) → ReadsLine l (Not w)) → IsContent t (Err e) → Answers l (Err e)
+text_by l t (f.Parse e) gives not x = (subst (λ (o : Option Word). MatchOption o ⊥ (λ w. ReadsLine l (Not w))) (sym x.3.1) (not x.3.0 x.3.2), (x.0, gives (61 ∷ x.0) x.1, x.2))
+text_by l t f.Text gives not x = (not C.TextWord x.2, (x.0, gives (34 ∷ x.0) x.1))
+text_by l t f.Field gives not x = (not C.FieldWord x, tt)
+text_by l t f.NoMemory gives not x = tt
+text_by l t f.Utf8 gives not x = absurd x
+text_by l t f.Word gives not x = absurd x
+text_by l t f.Payload gives not x = absurd x
+text_by l t f.Address gives not x = absurd x
+text_by l t f.Range gives not x = absurd x
+text_by l t f.Stamp gives not x = absurd x
 
 -- ---- `set`
 
@@ -37,50 +56,96 @@ set_asks l place t a c h k g =
     let x = g (text_some l place t h) in
     (line_reads l (SetWords place t) (Is (C.Request.Set a (content_tree c))) h (C.ReadsWords.set k x.0), x.1)
 
-set_not : (l place t : Bytes) (a : Addr) (w : Word) → HasWords l (SetWords place t) → IsAddress place a → C.ReadsContent t (Not w) → ReadsLine l (Not w)
-set_not l place t a w h k x = line_reads l (SetWords place t) (Not w) h (C.ReadsWords.set_fault a k x)
-
-sets : (l place t u : Bytes) → HasWords l (SetWords place t) → t ≡ u → SetsText l u
-sets l place t u h e = (place, h.words ∙ ap (λ (x : Bytes). Some (SetWords place x)) e)
-
-set_by : (l place t : Bytes) (a : Addr) (e : CommandFault) → HasWords l (SetWords place t) → IsAddress place a → IsContent t (Err e) → Answers l (Err e)
-set_by l place t a (f.Parse e) h k x =
-    (subst (λ (o : Option Word). MatchOption o ⊥ (λ w. ReadsLine l (Not w))) (sym x.3.1) (set_not l place t a x.3.0 h k x.3.2), (x.0, sets l place t (61 ∷ x.0) h x.1, x.2))
-set_by l place t a f.Text h k x = (set_not l place t a C.TextWord h k x.2, (x.0, sets l place t (34 ∷ x.0) h x.1))
-set_by l place t a f.Field h k x = (set_not l place t a C.FieldWord h k x, tt)
-set_by l place t a f.NoMemory h k x = tt
-set_by l place t a f.Utf8 h k x = absurd x
-set_by l place t a f.Word h k x = absurd x
-set_by l place t a f.Payload h k x = absurd x
-set_by l place t a f.Address h k x = absurd x
-set_by l place t a f.Range h k x = absurd x
+set_gives : (l place t u : Bytes) → HasWords l (SetWords place t) → t ≡ u → GivesText l u
+set_gives l place t u h e = sets place (h.words ∙ ap (λ (x : Bytes). Some (SetWords place x)) e)
 
 pub set_refused : (l place t : Bytes) (a : Addr) (e : CommandFault) → HasWords l (SetWords place t) → IsAddress place a → (0 < length t → IsContent t (Err e)) → Answers l (Err e)
-set_refused l place t a e h k g = set_by l place t a e h k (g (text_some l place t h))
+set_refused l place t a e h k g =
+    text_by l t e (λ u q. set_gives l place t u h q) (λ w x. line_reads l (SetWords place t) (Not w) h (C.ReadsWords.set_fault a k x)) (g (text_some l place t h))
 
 pub no_place : (l : Bytes) (ws : C.Words) → HasWords l ws → ReadsWords ws (Not C.AddressWord) → Answers l (Err f.Address)
 no_place l ws h x = (line_reads l ws (Not C.AddressWord) h x, tt)
+
+-- ---- `site` and `edit`
+
+pub site_asks : (l digits : Bytes) (n : ℕ) → HasWords l (SiteWords digits) → Some n ≡ cond (is_site digits) (Some (digits_value digits)) None → ReadsLine l (Is (C.Request.Site n))
+site_asks l digits n h e =
+    let s : Says l (Some (SiteWords digits)) = subst (Says l) h.words (says l) in
+    let d : Some n ≡ Some (digits_value digits) = rw s at e in
+    let f : digits_value digits ≡ n = cc in
+    subst (λ (k : ℕ). ReadsLine l (Is (C.Request.Site k))) f (line_reads l (SiteWords digits) (Is (C.Request.Site (digits_value digits))) h C.ReadsWords.site)
+
+-- words with a site have a site
+pub site_refused : (l digits : Bytes) → HasWords l (SiteWords digits) → None ≡ cond (is_site digits) (Some (digits_value digits)) None → Answers l (Err f.Word)
+site_refused l digits h e =
+    let s : Says l (Some (SiteWords digits)) = subst (Says l) h.words (says l) in
+    let d : None ≡ Some (digits_value digits) = rw s at e in
+    absurd (cc d)
+
+abbrev IsStampOf : Option (ℕ × ℕ) → Bytes → Bytes → Type 0
+IsStampOf o t n = IsTrue (is_number t && is_number n) → o ≡ stamp_in t n
+
+module _ (l t n place : Bytes) (o : Option Bytes) (h : HasWords l (EditWords t n place o)) where
+  edit_says : Says l (Some (EditWords t n place o))
+  edit_says = subst (Says l) h.words (says l)
+
+  pair_is : (x y : ℕ × ℕ) → Some x ≡ Some y → x ≡ y
+  pair_is x y e = cc e
+
+  stamped : (p q : ℕ) → IsStampOf (Some (p, q)) t n → IsTrue (is_stamp (digits_value t) (digits_value n)) × (digits_value t ≡ p) × (digits_value n ≡ q)
+  stamped p q e = by (is_stamp (digits_value t) (digits_value n)) refl (e edit_says.0)
+    where
+      by : (b : Bool) → is_stamp (digits_value t) (digits_value n) ≡ b → pair_if true p q ≡ pair_if b (digits_value t) (digits_value n) → IsTrue (is_stamp (digits_value t) (digits_value n)) × (digits_value t ≡ p) × (digits_value n ≡ q)
+      by true f g = let e = pair_is (p, q) (digits_value t, digits_value n) g in (f, sym (ap (λ (z : ℕ × ℕ). z.0) e), sym (ap (λ (z : ℕ × ℕ). z.1) e))
+      by false f g = absurd (cc g)
+
+  unstamped : IsStampOf None t n → IsFalse (is_stamp (digits_value t) (digits_value n))
+  unstamped e = by (is_stamp (digits_value t) (digits_value n)) refl (e edit_says.0)
+    where
+      by : (b : Bool) → is_stamp (digits_value t) (digits_value n) ≡ b → None ≡ pair_if b (digits_value t) (digits_value n) → IsFalse (is_stamp (digits_value t) (digits_value n))
+      by true f g = absurd (cc g)
+      by false f g = f
+
+  pub edit_asks : (a : Addr) (p q : ℕ) (c : Option Content) → IsAddress place a → IsStampOf (Some (p, q)) t n → (IsTrue (is_text o) → IsText o (Ok c)) → Asks l (r.Edit p q a c)
+  edit_asks a p q c k e g =
+      let s = stamped p q e in
+      let x = g edit_says.1 in
+      let now : Asks l (r.Edit (digits_value t) (digits_value n) a c) =
+      (line_reads l (EditWords t n place o) (Is (C.Request.Merge (edit_of (digits_value t) (digits_value n) a c))) h (C.ReadsWords.edit k s.0 x.0), s.0, x.1) in
+      subst (λ (y : ℕ). Asks l (r.Edit p y a c)) s.2 (subst (λ (y : ℕ). Asks l (r.Edit y (digits_value n) a c)) s.1 now)
+
+  pub edit_no_stamp : (a : Addr) → IsAddress place a → IsStampOf None t n → Answers l (Err f.Stamp)
+  edit_no_stamp a k e = (line_reads l (EditWords t n place o) (Not C.StampWord) h (C.ReadsWords.edit_stamp a k (unstamped e)), tt)
+
+  pub edit_refused : (a : Addr) (p q : ℕ) (e : CommandFault) → IsAddress place a → IsStampOf (Some (p, q)) t n → (IsTrue (is_text o) → IsText o (Err e)) → Answers l (Err e)
+  edit_refused a p q e k m g =
+      let x = g edit_says.1 in
+      let s = stamped p q m in
+      text_by l x.0 e (λ u d. edits t n place (h.words ∙ ap (λ (z : Option Bytes). Some (EditWords t n place z)) (x.1 ∙ ap (λ (z : Bytes). Some z) d)))
+      (λ w y. line_reads l (EditWords t n place o) (Not w) h (C.ReadsWords.edit_fault a k s.0 (subst (λ (z : Option Bytes). C.ReadsText z (Not w)) (sym x.1) (C.ReadsText.text_fault y)))) x.2
 
 -- ---- ranges
 
 pub clear_refused : (l place : Bytes) (e : CommandFault) → HasWords l (ClearWords place) → IsRange place (Err e) → Answers l (Err e)
 clear_refused l place f.Address h x = (line_reads l (ClearWords place) (Not C.AddressWord) h (C.ReadsWords.clear_place x), tt)
-clear_refused l place f.Range h x = (line_reads l (ClearWords place) (Not C.RangeWord) h (C.ReadsWords.clear_place x), other_words l (ClearWords place) h (λ p t e. cc))
+clear_refused l place f.Range h x = (line_reads l (ClearWords place) (Not C.RangeWord) h (C.ReadsWords.clear_place x), other_words l (ClearWords place) h (λ p t e. cc) (λ p q s t e. cc))
 clear_refused l place f.Utf8 h x = absurd x
 clear_refused l place f.Word h x = absurd x
 clear_refused l place f.Payload h x = absurd x
 clear_refused l place (f.Parse e) h x = absurd x
+clear_refused l place f.Stamp h x = absurd x
 clear_refused l place f.Text h x = absurd x
 clear_refused l place f.Field h x = absurd x
 clear_refused l place f.NoMemory h x = absurd x
 
 pub view_refused : (l place : Bytes) (e : CommandFault) → HasWords l (ViewWords place) → IsRange place (Err e) → Answers l (Err e)
 view_refused l place f.Address h x = (line_reads l (ViewWords place) (Not C.AddressWord) h (C.ReadsWords.view_place x), tt)
-view_refused l place f.Range h x = (line_reads l (ViewWords place) (Not C.RangeWord) h (C.ReadsWords.view_place x), other_words l (ViewWords place) h (λ p t e. cc))
+view_refused l place f.Range h x = (line_reads l (ViewWords place) (Not C.RangeWord) h (C.ReadsWords.view_place x), other_words l (ViewWords place) h (λ p t e. cc) (λ p q s t e. cc))
 view_refused l place f.Utf8 h x = absurd x
 view_refused l place f.Word h x = absurd x
 view_refused l place f.Payload h x = absurd x
 view_refused l place (f.Parse e) h x = absurd x
+view_refused l place f.Stamp h x = absurd x
 view_refused l place f.Text h x = absurd x
 view_refused l place f.Field h x = absurd x
 view_refused l place f.NoMemory h x = absurd x
@@ -89,7 +154,7 @@ pub view_asks : (l place : Bytes) (x : Range) → HasWords l (ViewWords place) �
 view_asks l place x h k v = line_reads l (ViewWords place) (Is (C.Request.View x)) h (C.ReadsWords.view k v)
 
 pub view_large : (l place : Bytes) (x : Range) → HasWords l (ViewWords place) → ReadsRange place (Is x) → is_viewable x ≡ false → Answers l (Err f.Range)
-view_large l place x h k v = (line_reads l (ViewWords place) (Not C.RangeWord) h (C.ReadsWords.view_size k v), other_words l (ViewWords place) h (λ p t e. cc))
+view_large l place x h k v = (line_reads l (ViewWords place) (Not C.RangeWord) h (C.ReadsWords.view_size k v), other_words l (ViewWords place) h (λ p t e. cc) (λ p q s t e. cc))
 
 -- ---- imports
 

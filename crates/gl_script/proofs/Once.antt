@@ -1,5 +1,5 @@
 -- A text is read as one content, and a line as one request.
-use Rattle.std.proofs.Common.{◌≡◌, ◌≢◌, ◌∙◌, ℕ, ◌+◌, ◌<◌, ◌≤◌, Bool, true, false, [], ◌∷◌, ◌++◌, length, Some, None, ◌⊎◌, inl, inr, refl, sym, ap, subst, arith, IsTrue}
+use Rattle.std.proofs.Common.{◌≡◌, ◌≢◌, ◌∙◌, ℕ, ◌+◌, ◌<◌, ◌≤◌, Bool, true, false, [], ◌∷◌, ◌++◌, length, Option, Some, None, ◌⊎◌, inl, inr, refl, sym, ap, subst, arith, IsTrue}
 use Rattle.std.specs.Prelude.{ℤ, IsFalse, ◌==◌}
 use Rattle.std.specs.Str.{is_utf8}
 use Rattle.std.proofs.lemmas.Bool.Decides.{nat_tests}
@@ -9,13 +9,14 @@ use Rattle.gl_calculus.specs.Value as V
 use Rattle.gl_calculus.specs.Formula as F
 use Rattle.gl_calculus.specs.Formula.{Formula, Const, Form}
 use Rattle.gl_language.specs.Text.{Bytes}
-use Rattle.gl_language.specs.Token.{Decodes}
+use Rattle.gl_language.specs.Token.{Decodes, digits_value}
 use Rattle.gl_language.specs.Grammar.{Parses, IsParseFault, ParseFault}
 use Rattle.gl_lex.specs.Quote.{Scan, decode}
 use Rattle.gl_lex.specs.declared.quote.State.TheVariants as state
 use Rattle.gl_lex.proofs.Decoding.{decoded}
 use Rattle.gl_lex.proofs.Once.{one_address}
 use Rattle.gl_grammar.proofs.Readings.{one_formula, one_fault, formula_or_fault}
+use Rattle.gl_edits.specs.Replicas.{stamp, is_stamp}
 use Rattle.gl_protocol.specs.Commands as C
 use Rattle.gl_protocol.specs.Commands.{Read, Is, Not, ReadsContent, ReadsRange, ReadsWords, ReadsLine, IsAddress, NoAddress, IsPlace, in_order, plain_scalar, fault_word, is_comment, words_of, ImportWords, TextWord, FieldWord}
 use Rattle.gl_script.proofs.Places.{Corners, corners, address_lacks, same_cut, holds_colon}
@@ -159,6 +160,29 @@ same_fault {t = t} {w = w} {v = v} p q = let e : Not w ≡ Not v = one_content t
 content_or_fault : {t : Bytes} {c : F.Content} {w : C.Word} → ReadsContent t (Is c) → ReadsContent t (Not w) → ⊥
 content_or_fault {t = t} {c = c} {w = w} p q = let e : Is c ≡ Not w = one_content t (Is c) (Not w) p q in cc
 
+same_text : {o : Option Bytes} {x y : Read (Option F.Content)} → C.ReadsText o x → C.ReadsText o y → x ≡ y
+same_text C.ReadsText.no_text C.ReadsText.no_text = refl
+same_text (C.ReadsText.text {c = c} r) (C.ReadsText.text {c = d} s) = ap (λ (z : F.Content). Is (Some z)) (same_content r s)
+same_text (C.ReadsText.text r) (C.ReadsText.text_fault s) = absurd (content_or_fault r s)
+same_text (C.ReadsText.text_fault r) (C.ReadsText.text s) = absurd (content_or_fault s r)
+same_text (C.ReadsText.text_fault r) (C.ReadsText.text_fault s) = ap Not (same_fault r s)
+
+text_or_fault : {o : Option Bytes} {c : Option F.Content} {w : C.Word} → C.ReadsText o (Is c) → C.ReadsText o (Not w) → ⊥
+text_or_fault {c = c} {w = w} p q = let e : Is c ≡ Not w = same_text p q in cc
+
+same_text_fault : {o : Option Bytes} {w v : C.Word} → C.ReadsText o (Not w) → C.ReadsText o (Not v) → w ≡ v
+same_text_fault {w = w} {v = v} p q = let e : Not w ≡ Not v = same_text p q in cc
+
+same_edit : {o : Option Bytes} {c d : Option F.Content} → C.ReadsText o (Is c) → C.ReadsText o (Is d) → c ≡ d
+same_edit {c = c} {d = d} p q = let e : Is c ≡ Is d = same_text p q in cc
+
+stamp_or_not : (b : Bool) → IsTrue b → IsFalse b → ⊥
+stamp_or_not b t f = cc
+
+-- what an edit with this stamp asks
+abbrev edit_by : Bytes → Bytes → Addr → Option F.Content → Read C.Request
+edit_by t n a c = Is (C.Request.Merge (record { stamp = stamp (digits_value t) (digits_value n); place = a; content = c }))
+
 pub one_words : {ws : C.Words} {x y : Read C.Request} → ReadsWords ws x → ReadsWords ws y → x ≡ y
 one_words C.ReadsWords.list C.ReadsWords.list = refl
 one_words C.ReadsWords.calc C.ReadsWords.calc = refl
@@ -199,6 +223,26 @@ one_words (C.ReadsWords.why_of {a = a} h) (C.ReadsWords.why_place n) = absurd (n
 one_words (C.ReadsWords.why_place n) (C.ReadsWords.why_of {a = a} h) = absurd (n a h)
 one_words (C.ReadsWords.why_place n) (C.ReadsWords.why_place m) = refl
 one_words (C.ReadsWords.payload h) (C.ReadsWords.payload k) = refl
+one_words C.ReadsWords.export C.ReadsWords.export = refl
+one_words C.ReadsWords.undo C.ReadsWords.undo = refl
+one_words C.ReadsWords.redo C.ReadsWords.redo = refl
+one_words C.ReadsWords.site C.ReadsWords.site = refl
+one_words (C.ReadsWords.edit {t = t} {n = n} {place = p} {a = a} {c = c} h i r) (C.ReadsWords.edit {a = b} {c = d} k j s) = ap (λ (z : Addr). edit_by t n z c) (same_place p a b h k) ∙ ap (λ (z : Option F.Content). edit_by t n b z) (same_edit r s)
+one_words (C.ReadsWords.edit h i r) (C.ReadsWords.edit_fault b k j s) = absurd (text_or_fault r s)
+one_words (C.ReadsWords.edit {t = t} {n = n} h i r) (C.ReadsWords.edit_stamp b k j) = absurd (stamp_or_not (is_stamp (digits_value t) (digits_value n)) i j)
+one_words (C.ReadsWords.edit {a = a} h i r) (C.ReadsWords.edit_place m) = absurd (m a h)
+one_words (C.ReadsWords.edit_fault a h i r) (C.ReadsWords.edit k j s) = absurd (text_or_fault s r)
+one_words (C.ReadsWords.edit_fault a h i r) (C.ReadsWords.edit_fault b k j s) = ap Not (same_text_fault r s)
+one_words (C.ReadsWords.edit_fault {t = t} {n = n} a h i r) (C.ReadsWords.edit_stamp b k j) = absurd (stamp_or_not (is_stamp (digits_value t) (digits_value n)) i j)
+one_words (C.ReadsWords.edit_fault a h i r) (C.ReadsWords.edit_place m) = absurd (m a h)
+one_words (C.ReadsWords.edit_stamp {t = t} {n = n} a h i) (C.ReadsWords.edit k j s) = absurd (stamp_or_not (is_stamp (digits_value t) (digits_value n)) j i)
+one_words (C.ReadsWords.edit_stamp {t = t} {n = n} a h i) (C.ReadsWords.edit_fault b k j s) = absurd (stamp_or_not (is_stamp (digits_value t) (digits_value n)) j i)
+one_words (C.ReadsWords.edit_stamp a h i) (C.ReadsWords.edit_stamp b k j) = refl
+one_words (C.ReadsWords.edit_stamp a h i) (C.ReadsWords.edit_place m) = absurd (m a h)
+one_words (C.ReadsWords.edit_place m) (C.ReadsWords.edit {a = b} k j s) = absurd (m b k)
+one_words (C.ReadsWords.edit_place m) (C.ReadsWords.edit_fault b k j s) = absurd (m b k)
+one_words (C.ReadsWords.edit_place m) (C.ReadsWords.edit_stamp b k j) = absurd (m b k)
+one_words (C.ReadsWords.edit_place m) (C.ReadsWords.edit_place k) = refl
 
 -- ---- lines
 

@@ -1,5 +1,5 @@
 -- What a line asks, or why it is refused, in the words of the definitions.
-use Rattle.std.specs.Prelude.{◌≡◌, ℕ, ◌∷◌, Bool, Option, Some, None, MatchOption, Result, Ok, Err, IsTrue, IsFalse, codes, ⊤}
+use Rattle.std.specs.Prelude.{◌≡◌, ℕ, ◌∷◌, Bool, Option, Some, None, MatchOption, option_map, IfSome, Result, Ok, Err, IsTrue, IsFalse, codes, ⊤}
 use Rattle.gl_calculus.specs.Grid.{Addr}
 use Rattle.gl_language.specs.Text.{Bytes}
 use Rattle.gl_language.specs.Content.{IsProperContent}
@@ -7,11 +7,13 @@ use Rattle.gl_protocol.specs.Framing.{Line}
 use Rattle.gl_protocol.specs.Header.{payload_len}
 use Rattle.gl_protocol.specs.Output.{is_line}
 use Rattle.gl_protocol.specs.Commands as C
-use Rattle.gl_protocol.specs.Commands.{Word, Is, Not, ReadsLine, words_of, SetWords, ImportWords, is_comment, IsAddress, NoAddress}
+use Rattle.gl_protocol.specs.Commands.{Word, Is, Not, ReadsLine, words_of, SetWords, EditWords, ImportWords, is_comment, IsAddress, NoAddress}
 use Rattle.gl_lex.specs.declared.fault.LexFault.TheVariants as lex
 use Rattle.gl_parse.specs.Outcome.{IsRefused}
 use Rattle.gl_parse.specs.declared.fault.ParseFault.{ParseFault}
 use Rattle.gl_parse.specs.declared.fault.ParseFault.TheVariants as parse
+use Rattle.gl_edits.specs.Replicas.{Edit, stamp, is_stamp}
+use Rattle.gl_cells.specs.declared.content.Content.{Content}
 use Rattle.gl_cells.specs.Content.{content_tree}
 use Rattle.gl_script.specs.declared.requests.Request.{Request}
 use Rattle.gl_script.specs.declared.requests.Request.TheVariants as r
@@ -39,6 +41,7 @@ word_of f.Word = Some C.CommandWord
 word_of f.Payload = Some C.PayloadWord
 word_of f.Address = Some C.AddressWord
 word_of f.Range = Some C.RangeWord
+word_of f.Stamp = Some C.StampWord
 word_of (f.Parse e) = parse_word e
 word_of f.Text = Some C.TextWord
 word_of f.Field = Some C.FieldWord
@@ -56,6 +59,10 @@ pub record IsHeader (l : Bytes) (place_at : Option Addr) (n : ℕ) : Type 0 wher
   pub is_at : MatchOption place_at (NoAddress place) (IsAddress place)
   pub payload : payload_len l ≡ Some n
 
+-- the edit of these parts
+abbrev pub edit_of : ℕ → ℕ → Addr → Option Content → Edit
+edit_of t n a c = record { stamp = stamp t n; place = a; content = option_map content_tree c }
+
 -- The line asks this. The version line asks something only where it is the first of a script, and is refused elsewhere.
 abbrev pub Asks : Bytes → Request → Type 0
 Asks l r.Nothing = ReadsLine l (Is C.Request.Nothing)
@@ -71,17 +78,23 @@ Asks l (r.Why a) = ReadsLine l (Is (C.Request.Why a))
 Asks l (r.Import a n) = IsHeader l a n
 Asks l r.Version = IsTrue (is_version_line l) × ReadsLine l (Not C.CommandWord)
 Asks l r.Quit = ReadsLine l (Is C.Request.Quit)
+Asks l (r.Site n) = ReadsLine l (Is (C.Request.Site n))
+Asks l (r.Edit t n a c) = ReadsLine l (Is (C.Request.Merge (edit_of t n a c))) × IsTrue (is_stamp t n) × IfSome c (λ d. IsProperContent (content_tree d))
+Asks l r.Export = ReadsLine l (Is C.Request.Export)
+Asks l r.Undo = ReadsLine l (Is C.Request.Undo)
+Asks l r.Redo = ReadsLine l (Is C.Request.Redo)
 
--- the line sets an address to this text
-abbrev pub SetsText : Bytes → Bytes → Type 0
-SetsText l t = (place : Bytes) × (words_of l ≡ Some (SetWords place t))
+-- the line gives an address this text: it is that of a `set`, or of an `edit`
+pub data GivesText (l t : Bytes) : Type 0 where
+  sets : (place : Bytes) → words_of l ≡ Some (SetWords place t) → GivesText l t
+  edits : (time site place : Bytes) → words_of l ≡ Some (EditWords time site place (Some t)) → GivesText l t
 
 -- what tells apart the faults that have one word
 abbrev pub IsCause : Bytes → CommandFault → Type 0
 IsCause l f.Word = IsFalse (is_version_line l)
-IsCause l f.Range = (t : Bytes) → SetsText l t → ⊥
-IsCause l (f.Parse e) = (t : Bytes) × SetsText l (61 ∷ t) × IsRefused t e
-IsCause l f.Text = (t : Bytes) × SetsText l (34 ∷ t)
+IsCause l f.Range = (t : Bytes) → GivesText l t → ⊥
+IsCause l (f.Parse e) = (t : Bytes) × GivesText l (61 ∷ t) × IsRefused t e
+IsCause l f.Text = (t : Bytes) × GivesText l (34 ∷ t)
 IsCause l e = ⊤
 
 -- the line is refused by the word of this fault, and for this cause

@@ -1,12 +1,13 @@
 -- The parts of a line: words, places and texts.
-use Rattle.std.specs.Prelude.{◌≡◌, ◌∷◌, Option, Some, None, Result, Ok, Err, IsTrue, IsFalse, Bool, true, false, ⊤}
+use Rattle.std.specs.Prelude.{◌≡◌, ◌∷◌, ◌&&◌, nat_lt, length, Option, Some, None, option_map, option_copied, IfSome, Result, Ok, Err, IsTrue, IsFalse, Bool, true, false, ⊤}
 use Rattle.std.specs.Str.{is_utf8}
 use Rattle.gl_calculus.specs.Value as V
 use Rattle.gl_language.specs.Text.{Bytes}
 use Rattle.gl_language.specs.Content.{IsProperContent}
 use Rattle.gl_plane.specs.declared.range.Range.{Range as GridRange}
+use Rattle.gl_protocol.specs.Pieces.{Cut, cut_at, is_number}
 use Rattle.gl_protocol.specs.Commands as C
-use Rattle.gl_protocol.specs.Commands.{Is, Not, ReadsContent, ReadsRange, words_of, is_comment}
+use Rattle.gl_protocol.specs.Commands.{Is, Not, ReadsContent, ReadsText, ReadsRange, words_of, is_comment}
 use Rattle.gl_lex.specs.declared.fault.LexFault.{LexFault}
 use Rattle.gl_lex.specs.declared.fault.LexFault.TheVariants as lex
 use Rattle.gl_parse.specs.Outcome.{IsRefused}
@@ -32,10 +33,23 @@ words_tree (w.Show place) = C.ShowWords place.now
 words_tree (w.Get place) = C.GetWords place.now
 words_tree (w.Why place) = C.WhyWords place.now
 words_tree (w.Import place n) = C.ImportWords place.now n.now
+words_tree (w.Site n) = C.SiteWords n.now
+words_tree (w.Edit t n place text) = C.EditWords t.now n.now place.now (option_copied text)
+words_tree w.Export = C.ExportWords
+words_tree w.Undo = C.UndoWords
+words_tree w.Redo = C.RedoWords
 
 abbrev pub some_tree : Option Words → Option C.Words
 some_tree None = None
 some_tree (Some ws) = Some (words_tree ws)
+
+-- the words of an edit, of its time, its site, and the cut behind them
+abbrev pub edit_at : Bytes → Bytes → Cut → Option C.Words
+edit_at t n p = C.some_words ((is_number t && is_number n) && (nat_lt 0 (length p.0) && C.is_text p.1)) (C.EditWords t n p.0 p.1)
+
+-- the same, of its time and the cut behind it
+abbrev pub edit_behind : Bytes → Cut → Option C.Words
+edit_behind t n = C.behind n.1 (λ r. edit_at t n.0 (cut_at 32 r))
 
 -- a line that is no comment has these words
 pub record HasWords (l : Bytes) (ws : C.Words) : Type 0 where
@@ -60,6 +74,11 @@ IsContent t (Err f.Text) = (u : Bytes) × (t ≡ 34 ∷ u) × ReadsContent t (No
 IsContent t (Err f.Field) = ReadsContent t (Not C.FieldWord)
 IsContent t (Err f.NoMemory) = ⊤
 IsContent t (Err e) = ⊥
+
+-- what is read of a text that isn't empty, or of none
+abbrev pub IsText : Option Bytes → Result (Option Content) CommandFault → Type 0
+IsText o (Ok c) = ReadsText o (Is (option_map content_tree c)) × IfSome c (λ d. IsProperContent (content_tree d))
+IsText o (Err e) = (t : Bytes) × (o ≡ Some t) × IsContent t (Err e)
 
 -- what is read of the place of a range
 abbrev pub IsRange : Bytes → Result GridRange CommandFault → Type 0

@@ -1,8 +1,9 @@
 //! The content of a text.
-ghost use Rattle.std.specs.Prelude.{◌≡◌, ◌≢◌, ◌<◌, ◌∷◌, length, slice_index};
+ghost use Rattle.std.specs.Prelude.{◌≡◌, ◌≢◌, ◌<◌, ◌∷◌, IsTrue, length, slice_index, option_copied};
+ghost use Rattle.gl_protocol.specs.Commands.{is_text};
 ghost use Rattle.gl_parse.specs.Outcome.{IsRefused};
 ghost use Rattle.gl_value.specs.View.{scalar_tree};
-ghost use Rattle.gl_script.specs.Parts.{IsContent, is_int, formula_fault, literal_fault};
+ghost use Rattle.gl_script.specs.Parts.{IsContent, IsText, is_int, formula_fault, literal_fault};
 
 use crate::requests::CommandFault;
 use gl_cells::{Content, plain_scalar};
@@ -26,6 +27,19 @@ pub(crate) fn read_content(alloc: Global, text: &str) -> Result<Content, Command
                 read_plain(alloc, text)
             }
         }
+    }
+}
+
+/// The content of a text that isn't empty, or `None` where there is no text.
+pub(crate) fn read_text(alloc: Global, text: Option<&str>) -> Result<Option<Content>, CommandFault>
+    ensures { IsTrue (is_text (option_copied text.entry)) → IsText (option_copied text.entry) result }
+{
+    match text {
+        None => Ok(None),
+        Some(text) => match read_content(alloc, text) {
+            Ok(content) => Ok(Some(content)),
+            Err(fault) => Err(fault),
+        },
     }
 }
 

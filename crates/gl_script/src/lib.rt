@@ -6,6 +6,7 @@ mod feed;
 mod framer;
 mod header;
 pub mod laws;
+mod numbers;
 mod place;
 mod requests;
 mod words;

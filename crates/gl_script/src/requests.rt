@@ -1,13 +1,14 @@
 //! Lines as requests.
-ghost use Rattle.std.specs.Prelude.{◌≡◌, IsFalse};
+ghost use Rattle.std.specs.Prelude.{◌≡◌, IsFalse, option_copied};
 ghost use Rattle.gl_language.specs.Text.{Bytes};
 ghost use Rattle.gl_protocol.specs.Commands.{is_comment};
 ghost use Rattle.gl_protocol.specs.Commands as C;
 ghost use Rattle.gl_script.specs.Command.{Answers};
 ghost use Rattle.gl_script.specs.Parts.{HasWords, words_tree};
 
-use crate::content::read_content;
+use crate::content::{read_content, read_text};
 use crate::header::count_of;
+use crate::numbers::{site_of, stamp_of};
 use crate::place::{read_address, read_range};
 use crate::words::{Words, words_of};
 use gl_cells::Content;
@@ -32,10 +33,26 @@ pub enum Request {
     Oracle,
     Why(Addr),
     /// The header of an import, which `n` bytes follow; `at` is `None` where its place is no address.
-    Import { at: Option<Addr>, n: u32 },
+    Import {
+        at: Option<Addr>,
+        n: u32,
+    },
     /// The line `gridlet 2`, which asks something only where it is the first of a script.
     Version,
     Quit,
+    /// To be the replica of this site.
+    Site(u16),
+    /// To take an edit: what the address gets, or that it loses its content, with the stamp of time and
+    /// site. The time is from 1 to 1,000,000,000,000.
+    Edit {
+        time: u64,
+        site: u16,
+        at: Addr,
+        content: Option<Content>,
+    },
+    Export,
+    Undo,
+    Redo,
 }
 
 /// Why a line is refused: the first of these that holds, in this order.
@@ -43,8 +60,8 @@ pub enum Request {
 pub enum CommandFault {
     /// The line isn't UTF-8.
     Utf8,
-    /// No such command, an argument that is missing, empty or one too many, or a count that is neither `0`
-    /// nor digits without a leading zero.
+    /// No such command, an argument that is missing, empty or one too many, a number that is neither `0`
+    /// nor digits without a leading zero, or the site of `site` above 65,535.
     Word,
     /// The count of an import is above `MAX_PAYLOAD`.
     Payload,
@@ -52,11 +69,14 @@ pub enum CommandFault {
     Address,
     /// The corners of the range are not in order, or a view has more than `MAX_VIEW` cells.
     Range,
-    /// The text of `set` begins with `=`, and what follows is no formula. It is never a want of memory.
+    /// The time of an edit is 0 or above 1,000,000,000,000, or its site is above 65,535.
+    Stamp,
+    /// The text of `set` or `edit` begins with `=`, and what follows is no formula. It is never a want of
+    /// memory.
     Parse(ParseFault),
-    /// The text of `set` begins with `"` and is no literal.
+    /// The text of `set` or `edit` begins with `"` and is no literal.
     Text,
-    /// The text of `set` is neither of these, nor a number, and is longer than a text may be.
+    /// The text of `set` or `edit` is neither of these, nor a number, and is longer than a text may be.
     Field,
     NoMemory,
 }
@@ -136,6 +156,11 @@ fn read_words(alloc: Global, words: Words<'_>) -> Result<Request, CommandFault>
         Words::Get(place) => get(place),
         Words::Why(place) => why(place),
         Words::Import(place, count) => import(place, count),
+        Words::Site(digits) => site(digits),
+        Words::Edit(time, site, place, text) => edit(alloc, time, site, place, text),
+        Words::Export => Ok(Request::Export),
+        Words::Undo => Ok(Request::Undo),
+        Words::Redo => Ok(Request::Redo),
     }
 }
 
@@ -211,5 +236,41 @@ fn import(place: &str, count: &str) -> Result<Request, CommandFault>
             n,
         }),
         None => Err(CommandFault::Payload),
+    }
+}
+
+fn site(digits: &str) -> Result<Request, CommandFault>
+    ensures { (l : Bytes) → HasWords l (C.SiteWords digits.now) → Answers l result }
+{
+    match site_of(digits) {
+        Some(n) => Ok(Request::Site(n)),
+        None => Err(CommandFault::Word),
+    }
+}
+
+fn edit(
+    alloc: Global,
+    time: &str,
+    site: &str,
+    place: &str,
+    text: Option<&str>,
+) -> Result<Request, CommandFault>
+    ensures { (l : Bytes) → HasWords l (C.EditWords time.now site.now place.now (option_copied text.entry)) →
+        Answers l result }
+{
+    match read_address(place) {
+        Some(at) => match stamp_of(time, site) {
+            Some((time, site)) => match read_text(alloc, text) {
+                Ok(content) => Ok(Request::Edit {
+                    time,
+                    site,
+                    at,
+                    content,
+                }),
+                Err(fault) => Err(fault),
+            },
+            None => Err(CommandFault::Stamp),
+        },
+        None => Err(CommandFault::Address),
     }
 }

@@ -12,6 +12,8 @@ mod long;
 #[cfg(test)]
 mod refusals;
 #[cfg(test)]
+mod replicas;
+#[cfg(test)]
 mod scripts;
 #[cfg(test)]
 mod sheets;

@@ -39,6 +39,11 @@ fn asked(request: &Request) -> &'static str {
         }
         Request::Version => "version",
         Request::Quit => "quit",
+        Request::Site(_) => "site",
+        Request::Edit { content, .. } => { if content.is_some() { "edit" } else { "removal" } }
+        Request::Export => "export",
+        Request::Undo => "undo",
+        Request::Redo => "redo",
     }
 }
 
@@ -49,6 +54,7 @@ fn refused(fault: &CommandFault) -> &'static str {
         CommandFault::Payload => "error payload",
         CommandFault::Address => "error address",
         CommandFault::Range => "error range",
+        CommandFault::Stamp => "error stamp",
         CommandFault::Parse(fault) => formula_word(fault),
         CommandFault::Text => "error text",
         CommandFault::Field => "error field",
@@ -120,6 +126,72 @@ fn queries_and_imports(rt: HostRuntime) {
             ("gridlet 2", "version"),
             ("quit", "quit"),
         ],
+    );
+}
+
+#[test]
+fn replicas_and_undo(rt: HostRuntime) {
+    assert_told(
+        &rt,
+        rt.alloc(),
+        &[
+            ("site 0", "site"),
+            ("site 65535", "site"),
+            ("edit 1 0 A1 5", "edit"),
+            ("edit 1000000000000 65535 ZZ9999 = 1 + 2", "edit"),
+            ("edit 1 1 A1  x", "edit"),
+            ("edit 1 1 A1", "removal"),
+            ("export", "export"),
+            ("undo", "undo"),
+            ("redo", "redo"),
+        ],
+    );
+}
+
+#[test]
+fn edits_that_are_refused(rt: HostRuntime) {
+    assert_told(
+        &rt,
+        rt.alloc(),
+        &[
+            ("edit 0 1 A0 5", "error address"),
+            ("edit 0 1 A1 =(", "error stamp"),
+            ("edit 0 1 A1", "error stamp"),
+            ("edit 1000000000001 1 A1 5", "error stamp"),
+            ("edit 99999999999999999999 1 A1 5", "error stamp"),
+            ("edit 1 65536 A1 5", "error stamp"),
+            ("edit 1 99999999999999999999 A1 5", "error stamp"),
+            ("edit 1 1 A1 =(", "syntax"),
+            ("edit 1 1 A1 \"a", "error text"),
+        ],
+    );
+}
+
+#[test]
+fn sites_and_stamps_that_are_no_numbers(rt: HostRuntime) {
+    assert_all_told(
+        &rt,
+        rt.alloc(),
+        &[
+            "site",
+            "site ",
+            "site 1 ",
+            "site 07",
+            "site 65536",
+            "site 99999999999999999999",
+            "edit",
+            "edit 1 1",
+            "edit 1 1 ",
+            "edit 1 1 A1 ",
+            "edit 01 1 A1 5",
+            "edit 1 01 A1 5",
+            "edit  1 A1 5",
+            "edit -1 1 A1 5",
+            "export x",
+            "undo 1",
+            "redo ",
+        ],
+        "error command",
     );
 }
 

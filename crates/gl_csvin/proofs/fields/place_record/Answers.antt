@@ -5,7 +5,8 @@ use Rattle.gl_language.specs.Text.{Bytes}
 use Rattle.gl_protocol.specs.Commands.{contents, fields_of_record}
 use Rattle.gl_cells.specs.Sheet.{sheet}
 use Rattle.gl_csvin.specs.Import.{behind}
-use Rattle.gl_csvin.proofs.Placing.{Fields, fails, next_field}
+use Rattle.gl_protocol.proofs.Rising.{Fields}
+use Rattle.gl_csvin.proofs.Placing.{fails, next_field}
 use Rattle.gl_csvin.proofs.Reached.{drop-field_more, drop-no_field, field-below}
 use Rattle.gl_csvin.proofs.Texts.{texts_split}
 use Rattle.gl_csvin.proofs.fields.place_record.Goals as goal

@@ -6,7 +6,7 @@ use Rattle.gl_calculus.specs.Grid.{addr}
 use Rattle.gl_protocol.specs.Commands.{contents, fields_of_record}
 use Rattle.gl_cells.specs.Sheet.{sheet, AreProper}
 use Rattle.gl_csvin.specs.Import.{behind}
-use Rattle.gl_csvin.proofs.Placing.{Fields}
+use Rattle.gl_protocol.proofs.Rising.{Fields}
 use Rattle.gl_csvin.proofs.fields.place_record.Given as goal
 
 abbrev pub invariant-loop-field : goal.invariant-loop-field

@@ -6,7 +6,7 @@ use Rattle.gl_protocol.specs.Commands.{contents, fields}
 use Rattle.gl_cells.specs.Sheet.{sheet}
 use Rattle.gl_csvin.specs.Import.{behind}
 use Rattle.gl_csvin.proofs.Placing.{all_read}
-use Rattle.gl_csvin.proofs.Rising.{rises}
+use Rattle.gl_protocol.proofs.Rising.{rises}
 use Rattle.gl_csvin.proofs.fields.place_records.Goals as goal
 
 pub returns-clause-rising : goal.returns-clause-rising

@@ -1,12 +1,13 @@
 use Rattle.std.proofs.Common.{ℕ, Vec, Global}
 use Rattle.std.proofs.lemmas.Result.{IfOk-weaker}
 use Rattle.gl_protocol.specs.Framing.{Line}
-use Rattle.gl_protocol.specs.Commands.{Acts}
+use Rattle.gl_protocol.specs.Acts.{Acts}
 use Rattle.gl_ast.specs.View.{version_tree}
-use Rattle.gl_calc.specs.View.{sheet_of, memory_of}
 use Rattle.gl_csvin.specs.Import.{csv_records}
 use Rattle.gl_script.specs.Command.{word_of}
 use Rattle.gl_run.specs.Replies.{IsRefusal}
+use Rattle.gl_run.specs.Script.{known_of, script_of}
+use Rattle.gl_run.proofs.Asking.{asked_proper}
 use Rattle.gl_run.proofs.Refusing.{refusal_acts}
 use Rattle.gl_run.specs.Spends.{Spends}
 use Rattle.gl_run.proofs.Spending.{word_spends}
@@ -15,18 +16,21 @@ use Rattle.gl_run.proofs.answers.answer_line.Goals as goal
 pub returns-in-Err-clause-acts : goal.returns-in-Err-clause-acts
 returns-in-Err-clause-acts g c =
     let version = version_tree c.args.version in
-    let S = sheet_of c.args.calc.now in
+    let s = script_of c.args.script.now in
     let l = c.args.line.now in
     let P : Vec ℕ Global → Type 0 = λ reply. IsRefusal (word_of c.in-Err.fault) reply.items in
-    let Q : Vec ℕ Global → Type 0 = λ reply. Acts csv_records version S (Line l) S reply.items in
-    IfOk-weaker c.refusal.result P Q (λ reply h. refusal_acts version S l reply.items c.in-Err.fault c.in-Err.ensures h) c.refusal.ensures
+    let Q : Vec ℕ Global → Type 0 = λ reply. Acts csv_records version s (Line l) s reply.items in
+    IfOk-weaker c.refusal.result P Q (λ reply h. refusal_acts version s l reply.items c.in-Err.fault c.in-Err.ensures h) c.refusal.ensures
 
 pub returns-in-Err-clause-spends : goal.returns-in-Err-clause-spends
 returns-in-Err-clause-spends g c =
     let version = version_tree c.args.version in
-    let M = memory_of c.args.calc.now in
+    let K = known_of c.args.script.now in
     let n = c.args.steps.now in
     let l = c.args.line.now in
     let P : Vec ℕ Global → Type 0 = λ reply. IsRefusal (word_of c.in-Err.fault) reply.items in
-    let Q : Vec ℕ Global → Type 0 = λ reply. Spends version M (Line l) reply.items M n n in
-    IfOk-weaker c.refusal.result P Q (λ reply h. word_spends version M n (Line l) (word_of c.in-Err.fault) reply.items h) c.refusal.ensures
+    let Q : Vec ℕ Global → Type 0 = λ reply. Spends version K (Line l) reply.items K n n in
+    IfOk-weaker c.refusal.result P Q (λ reply h. word_spends version K n (Line l) (word_of c.in-Err.fault) reply.items h) c.refusal.ensures
+
+pub answer_request-requires-clause-proper : goal.answer_request-requires-clause-proper
+answer_request-requires-clause-proper g c = asked_proper c.args.line.now c.in-Ok.request c.in-Ok.ensures

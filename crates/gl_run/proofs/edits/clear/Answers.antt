@@ -1,13 +1,64 @@
-use Rattle.gl_protocol.specs.Commands.{places_in}
-use Rattle.gl_calc.specs.View.{sheet_of, memory_of}
-use Rattle.gl_run.proofs.Editing.{clear_does}
-use Rattle.gl_run.proofs.Spending.{touches_done}
+use Rattle.std.proofs.Common.{◌≡◌, ◌∙◌, ℕ, Vec, Global, IfOk, sym, ap, subst}
+use Rattle.std.proofs.lemmas.Result.{IfOk-weaker}
+use Rattle.gl_calculus.specs.Formula.{Cells}
+use Rattle.gl_calculus.specs.Grid.{AreInOrder}
+use Rattle.gl_edits.specs.Replicas.{Changes}
+use Rattle.gl_protocol.specs.Commands as C
+use Rattle.gl_protocol.specs.Commands.{Is, places_in, without}
+use Rattle.gl_protocol.specs.Script as P
+use Rattle.gl_protocol.specs.Script.{change, removals}
+use Rattle.gl_cells.specs.Sheet.{sheet}
+use Rattle.gl_calc.specs.View.{sheet_of}
+use Rattle.gl_run.specs.Changed.{IsChanged}
+use Rattle.gl_run.specs.Known.{Known}
+use Rattle.gl_run.specs.Ready.{IsReady, IsRefusedBy, local_word, places}
+use Rattle.gl_run.specs.Replies.{IsRefusal}
+use Rattle.gl_run.specs.Script.{known_of, script_of}
+use Rattle.gl_run.specs.Spends.{Touches}
+use Rattle.gl_run.proofs.Readying.{refused_changed}
+use Rattle.gl_run.proofs.Spending.{touches_kept}
 use Rattle.gl_run.proofs.edits.clear.Goals as goal
 
-pub returns-clause-does : goal.returns-clause-does
-returns-clause-does c = λ version. clear_does version (sheet_of c.args.calc.now) (sheet_of c.clear.new.self) c.args.range.now c.in_ok-reply.reply.items c.clear.ensures.cleared c.in_ok-reply.ensures
+pub prepare-requires-clause-ordered : goal.prepare-requires-clause-ordered
+prepare-requires-clause-ordered c = subst (λ (cs : Changes). AreInOrder (places cs)) (sym c.in_ok-list.ensures.value) c.in_ok-list.ensures.ordered
 
-pub returns-clause-touches : goal.returns-clause-touches
-returns-clause-touches c =
-    let h = c.clear.ensures in
-    touches_done (places_in (sheet_of c.args.calc.now) c.args.range.now) (memory_of c.args.calc.now) (memory_of c.clear.new.self) h.tables h.version c.in_ok-reply.reply.items c.in_ok-reply.ensures h.touched
+pub clear_ready-requires : goal.clear_ready-requires
+clear_ready-requires c =
+    let r = c.args.range.now in
+    let mid = c.prepare.new.script in
+    let same : sheet c.cells.result.now ≡ sheet_of mid.calc = c.cells.ensures ∙ sym (ap (λ (K : Known). K.script.sheet) c.in-Ok.ensures.known) in
+    let value = c.in_ok-list.ensures.value ∙ ap (λ (Z : Cells). removals Z r) same in
+    subst (λ (cs : Changes). IsReady mid cs c.in-Ok.ready) value c.in-Ok.ensures.ready
+
+pub returns-in-Ok-clause-does : goal.returns-in-Ok-clause-does
+returns-in-Ok-clause-does c =
+    let x = C.Request.Clear c.args.range.now in
+    let same = ap (λ (K : Known). K.script) c.in-Ok.ensures.known in
+    subst (λ (s : P.Script). IfOk c.clear_ready.result (λ reply. IsChanged (change s x) s (script_of c.clear_ready.new.script) reply.items)) same c.clear_ready.ensures.does
+
+pub returns-in-Ok-clause-touches : goal.returns-in-Ok-clause-touches
+returns-in-Ok-clause-touches c =
+    subst (λ (K : Known). IfOk c.clear_ready.result (λ reply. Touches reply.items (places_in K.script.sheet c.args.range.now) K (known_of c.clear_ready.new.script))) c.in-Ok.ensures.known c.clear_ready.ensures.touches
+
+pub returns-in-Err-clause-does : goal.returns-in-Err-clause-does
+returns-in-Err-clause-does c =
+    let s = script_of c.args.script.now in
+    let s' = script_of c.prepare.new.script in
+    let r = c.args.range.now in
+    let o = local_word c.in-Err.fault in
+    let value = c.in_ok-list.ensures.value ∙ ap (λ (Z : Cells). removals Z r) c.cells.ensures in
+    let refused : IsRefusedBy o s' (removals s.sheet r) = subst (λ (cs : Changes). IsRefusedBy o s' cs) value c.in-Err.ensures.ready in
+    let W : Vec ℕ Global → Type 0 = λ reply. IsRefusal o reply.items in
+    let Q : Vec ℕ Global → Type 0 = λ reply. IsChanged (change s (C.Request.Clear r)) s s' reply.items in
+    IfOk-weaker c.local_refusal.result W Q
+    (λ reply p. refused_changed o s s' (removals s.sheet r) (Is (without s.sheet r)) reply.items (ap (λ (K : Known). K.script) c.in-Err.ensures.known) refused p) c.local_refusal.ensures
+
+pub returns-in-Err-clause-touches : goal.returns-in-Err-clause-touches
+returns-in-Err-clause-touches c =
+    let K = known_of c.args.script.now in
+    let K' = known_of c.prepare.new.script in
+    let o = local_word c.in-Err.fault in
+    let ps = places_in K.script.sheet c.args.range.now in
+    let W : Vec ℕ Global → Type 0 = λ reply. IsRefusal o reply.items in
+    let Q : Vec ℕ Global → Type 0 = λ reply. Touches reply.items ps K K' in
+    IfOk-weaker c.local_refusal.result W Q (λ reply p. touches_kept ps K K' c.in-Err.ensures.known o reply.items p) c.local_refusal.ensures

@@ -1,44 +1,55 @@
-use Rattle.std.proofs.Common.{ℕ, [], ◌∷◌, Vec, Global}
+use Rattle.std.proofs.Common.{◌≡◌, ℕ, [], ◌∷◌, Some, Vec, Global, IfOk, sym, ap, subst}
 use Rattle.std.proofs.lemmas.Result.{IfOk-weaker}
-use Rattle.gl_calculus.specs.Formula.{Version}
+use Rattle.gl_calculus.specs.Grid.{AreInOrder}
+use Rattle.gl_edits.specs.Replicas.{Changes}
 use Rattle.gl_protocol.specs.Commands as C
-use Rattle.gl_protocol.specs.Commands.{Does, with_content}
+use Rattle.gl_protocol.specs.Commands.{allowed, with_content}
+use Rattle.gl_protocol.specs.Script as P
+use Rattle.gl_protocol.specs.Script.{change}
 use Rattle.gl_cells.specs.Content.{content_tree}
-use Rattle.gl_calc.specs.View.{sheet_of, memory_of}
-use Rattle.gl_csvin.specs.Import.{csv_records}
-use Rattle.gl_run.specs.Replies.{IsRefusal, put_word}
-use Rattle.gl_run.proofs.Editing.{put_done, put_refused, set_does}
+use Rattle.gl_run.specs.Changed.{IsChanged}
+use Rattle.gl_run.specs.Known.{Known}
+use Rattle.gl_run.specs.Ready.{IsReady, IsRefusedBy, local_word, places}
+use Rattle.gl_run.specs.Replies.{IsRefusal}
+use Rattle.gl_run.specs.Script.{known_of, script_of}
 use Rattle.gl_run.specs.Spends.{Touches}
-use Rattle.gl_run.proofs.Spending.{touches_done, touches_by_word}
+use Rattle.gl_run.proofs.Readying.{refused_changed}
+use Rattle.gl_run.proofs.Spending.{touches_kept}
 use Rattle.gl_run.proofs.edits.set.Goals as goal
 
-pub returns-in-Ok-clause-does : goal.returns-in-Ok-clause-does
-returns-in-Ok-clause-does c = λ version.
-    let S = sheet_of c.args.calc.now in
-    let S' = sheet_of c.put.new.self in
-    let tree = content_tree c.args.content in
-    let reply = c.in_ok-reply.reply.items in
-    set_does version S S' c.args.a tree reply (put_done S (with_content S c.args.a tree) S' reply c.in-Ok.ensures.sheet c.in_ok-reply.ensures)
+pub prepare-requires-clause-ordered : goal.prepare-requires-clause-ordered
+prepare-requires-clause-ordered c = subst (λ (cs : Changes). AreInOrder (places cs)) (sym c.in_ok-list.ensures.value) tt
 
-pub returns-in-Err-clause-does : goal.returns-in-Err-clause-does
-returns-in-Err-clause-does c =
-    let S = sheet_of c.args.calc.now in
-    let S' = sheet_of c.put.new.self in
-    let tree = content_tree c.args.content in
-    let P : Vec ℕ Global → Type 0 = λ reply. IsRefusal (put_word c.in-Err.fault) reply.items in
-    let Q : Vec ℕ Global → Type 0 = λ reply. (version : Version) → Does csv_records version S (C.Request.Set c.args.a tree) S' reply.items in
-    IfOk-weaker c.put_refusal.result P Q (λ reply r version. set_does version S S' c.args.a tree reply.items (put_refused S (with_content S c.args.a tree) S' reply.items c.in-Err.fault c.in-Err.ensures.sheet r)) c.put_refusal.ensures
+pub put_ready-requires-clause-ready : goal.put_ready-requires-clause-ready
+put_ready-requires-clause-ready c = subst (λ (cs : Changes). IsReady c.prepare.new.script cs c.in-Ok.ready) c.in_ok-list.ensures.value c.in-Ok.ensures.ready
+
+pub returns-in-Ok-clause-does : goal.returns-in-Ok-clause-does
+returns-in-Ok-clause-does c =
+    let x = C.Request.Set c.args.a (content_tree c.args.content) in
+    let same = ap (λ (K : Known). K.script) c.in-Ok.ensures.known in
+    subst (λ (s : P.Script). IfOk c.put_ready.result (λ reply. IsChanged (change s x) s (script_of c.put_ready.new.script) reply.items)) same c.put_ready.ensures.does
 
 pub returns-in-Ok-clause-touches : goal.returns-in-Ok-clause-touches
 returns-in-Ok-clause-touches c =
-    let h = c.in-Ok.ensures in
-    touches_done (c.args.a ∷ []) (memory_of c.args.calc.now) (memory_of c.put.new.self) h.tables h.version c.in_ok-reply.reply.items c.in_ok-reply.ensures h.touched
+    subst (λ (K : Known). IfOk c.put_ready.result (λ reply. Touches reply.items (c.args.a ∷ []) K (known_of c.put_ready.new.script))) c.in-Ok.ensures.known c.put_ready.ensures.touches
+
+pub returns-in-Err-clause-does : goal.returns-in-Err-clause-does
+returns-in-Err-clause-does c =
+    let s = script_of c.args.script.now in
+    let s' = script_of c.prepare.new.script in
+    let tree = content_tree c.args.content in
+    let o = local_word c.in-Err.fault in
+    let refused : IsRefusedBy o s' ((c.args.a, Some tree) ∷ []) = subst (λ (cs : Changes). IsRefusedBy o s' cs) c.in_ok-list.ensures.value c.in-Err.ensures.ready in
+    let W : Vec ℕ Global → Type 0 = λ reply. IsRefusal o reply.items in
+    let Q : Vec ℕ Global → Type 0 = λ reply. IsChanged (change s (C.Request.Set c.args.a tree)) s s' reply.items in
+    IfOk-weaker c.local_refusal.result W Q
+    (λ reply p. refused_changed o s s' ((c.args.a, Some tree) ∷ []) (allowed (with_content s.sheet c.args.a tree)) reply.items (ap (λ (K : Known). K.script) c.in-Err.ensures.known) refused p) c.local_refusal.ensures
 
 pub returns-in-Err-clause-touches : goal.returns-in-Err-clause-touches
 returns-in-Err-clause-touches c =
-    let h = c.in-Err.ensures in
-    let M = memory_of c.args.calc.now in
-    let M' = memory_of c.put.new.self in
-    let P : Vec ℕ Global → Type 0 = λ reply. IsRefusal (put_word c.in-Err.fault) reply.items in
-    let Q : Vec ℕ Global → Type 0 = λ reply. Touches reply.items (c.args.a ∷ []) M M' in
-    IfOk-weaker c.put_refusal.result P Q (λ reply r. touches_by_word (c.args.a ∷ []) M M' h.tables h.version reply.items (put_word c.in-Err.fault) r h.untouched) c.put_refusal.ensures
+    let K = known_of c.args.script.now in
+    let K' = known_of c.prepare.new.script in
+    let o = local_word c.in-Err.fault in
+    let W : Vec ℕ Global → Type 0 = λ reply. IsRefusal o reply.items in
+    let Q : Vec ℕ Global → Type 0 = λ reply. Touches reply.items (c.args.a ∷ []) K K' in
+    IfOk-weaker c.local_refusal.result W Q (λ reply p. touches_kept (c.args.a ∷ []) K K' c.in-Err.ensures.known o reply.items p) c.local_refusal.ensures

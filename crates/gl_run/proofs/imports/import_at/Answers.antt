@@ -2,11 +2,13 @@ use Rattle.std.proofs.Common.{ℕ, List, map, Vec, Global, Some}
 use Rattle.std.proofs.lemmas.Result.{IfOk-weaker}
 use Rattle.gl_calculus.specs.Formula.{Version}
 use Rattle.gl_protocol.specs.Framing.{Import}
-use Rattle.gl_protocol.specs.Commands.{Acts, allowed, with_contents}
+use Rattle.gl_protocol.specs.Acts.{Acts}
+use Rattle.gl_protocol.proofs.Rising.{imported_rise}
 use Rattle.gl_cells.specs.Sheet.{sheet}
-use Rattle.gl_calc.specs.View.{sheet_of, memory_of}
-use Rattle.gl_csvin.specs.Import.{csv_records}
-use Rattle.gl_run.specs.Replies.{HasPlace, IsPut, IsRefusal, csv_word}
+use Rattle.gl_csvin.specs.Import.{csv_records, records_of}
+use Rattle.gl_run.specs.Changed.{IsChanged, imported_state}
+use Rattle.gl_run.specs.Replies.{HasPlace, IsRefusal, csv_word}
+use Rattle.gl_run.specs.Script.{known_of, script_of}
 use Rattle.gl_run.proofs.Importing.{import_put, import_refused}
 use Rattle.gl_run.specs.Spends.{Spends, Touches}
 use Rattle.gl_run.proofs.Spending.{import_spends, word_spends}
@@ -14,36 +16,39 @@ use Rattle.gl_run.proofs.imports.import_at.Goals as goal
 
 pub returns-in-Ok-clause-acts : goal.returns-in-Ok-clause-acts
 returns-in-Ok-clause-acts c =
-    let S = sheet_of c.args.calc.now in
-    let S' = sheet_of c.put_fields.new.calc in
+    let s = script_of c.args.script.now in
+    let s' = script_of c.put_fields.new.script in
     let cs = sheet c.in-Ok.list.items in
     let p = c.args.payload.now in
-    let P : Vec ℕ Global → Type 0 = λ reply. IsPut (allowed (with_contents S cs)) S S' reply.items in
-    let Q : Vec ℕ Global → Type 0 = λ reply. (version : Version) (l : List ℕ) → HasPlace l (Some c.args.at) → Acts csv_records version S (Import l p) S' reply.items in
-    IfOk-weaker c.put_fields.result P Q (λ reply h version l at. import_put version S S' l p reply.items c.args.at cs at c.in-Ok.ensures.answers h) c.put_fields.ensures.puts
+    let P : Vec ℕ Global → Type 0 = λ reply. IsChanged (imported_state s cs) s s' reply.items in
+    let Q : Vec ℕ Global → Type 0 = λ reply. (version : Version) (l : List ℕ) → HasPlace l (Some c.args.at) → Acts csv_records version s (Import l p) s' reply.items in
+    IfOk-weaker c.put_fields.result P Q (λ reply h version l at. import_put version s s' l p reply.items c.args.at cs at c.in-Ok.ensures.answers h) c.put_fields.ensures.puts
 
 pub returns-in-Err-clause-acts : goal.returns-in-Err-clause-acts
 returns-in-Err-clause-acts c =
-    let S = sheet_of c.args.calc.now in
+    let s = script_of c.args.script.now in
     let p = c.args.payload.now in
     let P : Vec ℕ Global → Type 0 = λ reply. IsRefusal (csv_word c.in-Err.fault) reply.items in
-    let Q : Vec ℕ Global → Type 0 = λ reply. (version : Version) (l : List ℕ) → HasPlace l (Some c.args.at) → Acts csv_records version S (Import l p) S reply.items in
-    IfOk-weaker c.csv_refusal.result P Q (λ reply h version l at. import_refused version S l p reply.items c.args.at c.in-Err.fault at c.in-Err.ensures.answers h) c.csv_refusal.ensures
+    let Q : Vec ℕ Global → Type 0 = λ reply. (version : Version) (l : List ℕ) → HasPlace l (Some c.args.at) → Acts csv_records version s (Import l p) s reply.items in
+    IfOk-weaker c.csv_refusal.result P Q (λ reply h version l at. import_refused version s l p reply.items c.args.at c.in-Err.fault at c.in-Err.ensures.answers h) c.csv_refusal.ensures
 
 pub returns-in-Ok-clause-spends : goal.returns-in-Ok-clause-spends
 returns-in-Ok-clause-spends c =
-    let M = memory_of c.args.calc.now in
-    let M' = memory_of c.put_fields.new.calc in
+    let K = known_of c.args.script.now in
+    let K' = known_of c.put_fields.new.script in
     let cs = sheet c.in-Ok.list.items in
     let p = c.args.payload.now in
-    let P : Vec ℕ Global → Type 0 = λ reply. Touches reply.items (map (λ e. e.0) cs) M M' in
-    let Q : Vec ℕ Global → Type 0 = λ reply. (version : Version) (l : List ℕ) (n : ℕ) → HasPlace l (Some c.args.at) → Spends version M (Import l p) reply.items M' n n in
-    IfOk-weaker c.put_fields.result P Q (λ reply h version l n at. import_spends version M M' n l p reply.items c.args.at cs at c.in-Ok.ensures.answers h) c.put_fields.ensures.touches
+    let P : Vec ℕ Global → Type 0 = λ reply. Touches reply.items (map (λ e. e.0) cs) K K' in
+    let Q : Vec ℕ Global → Type 0 = λ reply. (version : Version) (l : List ℕ) (n : ℕ) → HasPlace l (Some c.args.at) → Spends version K (Import l p) reply.items K' n n in
+    IfOk-weaker c.put_fields.result P Q (λ reply h version l n at. import_spends version K K' n l p reply.items c.args.at cs at c.in-Ok.ensures.answers h) c.put_fields.ensures.touches
 
 pub returns-in-Err-clause-spends : goal.returns-in-Err-clause-spends
 returns-in-Err-clause-spends c =
-    let M = memory_of c.args.calc.now in
+    let K = known_of c.args.script.now in
     let p = c.args.payload.now in
     let P : Vec ℕ Global → Type 0 = λ reply. IsRefusal (csv_word c.in-Err.fault) reply.items in
-    let Q : Vec ℕ Global → Type 0 = λ reply. (version : Version) (l : List ℕ) (n : ℕ) → HasPlace l (Some c.args.at) → Spends version M (Import l p) reply.items M n n in
-    IfOk-weaker c.csv_refusal.result P Q (λ reply h version l n at. word_spends version M n (Import l p) (csv_word c.in-Err.fault) reply.items h) c.csv_refusal.ensures
+    let Q : Vec ℕ Global → Type 0 = λ reply. (version : Version) (l : List ℕ) (n : ℕ) → HasPlace l (Some c.args.at) → Spends version K (Import l p) reply.items K n n in
+    IfOk-weaker c.csv_refusal.result P Q (λ reply h version l n at. word_spends version K n (Import l p) (csv_word c.in-Err.fault) reply.items h) c.csv_refusal.ensures
+
+pub put_fields-requires-clause-ordered : goal.put_fields-requires-clause-ordered
+put_fields-requires-clause-ordered c = imported_rise c.args.at (records_of c.args.payload.now) (sheet c.in-Ok.list.items) c.in-Ok.ensures.answers

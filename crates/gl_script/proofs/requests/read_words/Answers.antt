@@ -17,3 +17,12 @@ returns-in-Oracle c = λ l h. line_reads l C.OracleWords (Is C.Request.ShowOracl
 
 pub returns-in-Quit : goal.returns-in-Quit
 returns-in-Quit c = λ l h. line_reads l C.QuitWords (Is C.Request.Quit) (subst (λ (ws : Words). HasWords l (words_tree ws)) c.in-Quit.is h) C.ReadsWords.quit
+
+pub returns-in-Export : goal.returns-in-Export
+returns-in-Export c = λ l h. line_reads l C.ExportWords (Is C.Request.Export) (subst (λ (ws : Words). HasWords l (words_tree ws)) c.in-Export.is h) C.ReadsWords.export
+
+pub returns-in-Undo : goal.returns-in-Undo
+returns-in-Undo c = λ l h. line_reads l C.UndoWords (Is C.Request.Undo) (subst (λ (ws : Words). HasWords l (words_tree ws)) c.in-Undo.is h) C.ReadsWords.undo
+
+pub returns-in-Redo : goal.returns-in-Redo
+returns-in-Redo c = λ l h. line_reads l C.RedoWords (Is C.Request.Redo) (subst (λ (ws : Words). HasWords l (words_tree ws)) c.in-Redo.is h) C.ReadsWords.redo

@@ -1,0 +1,170 @@
+use Rattle.std.specs.Prelude.{codes}
+use Rattle.std.proofs.Common.{refl}
+use Rattle.gl_calculus.specs.Formula.{content}
+use Rattle.gl_protocol.specs.Commands as C
+use Rattle.gl_protocol.specs.Commands.{get_text, list_text}
+use Rattle.gl_protocol.specs.Tables.{line}
+use Rattle.gl_ast.specs.View.{version_tree}
+use Rattle.gl_cells.specs.Content.{content_tree}
+use Rattle.gl_cells.specs.Sheet.{sheet}
+use Rattle.gl_script.specs.Command.{edit_of}
+use Rattle.gl_script.specs.declared.requests.Request.TheVariants as r
+use Rattle.gl_run.specs.Script.{known_of, script_of}
+use Rattle.gl_run.proofs.Asking.{answers_all, if_said, if_changed, if_merged, if_exported, nothing_done, get_done, list_done, quit_done, version_refused}
+use Rattle.gl_run.proofs.Spending.{untouched_all, if_untouched, if_touched, if_refused}
+use Rattle.gl_run.proofs.answers.answer_other.Goals as goal
+
+pub returns-in-Nothing-clause-acts : goal.returns-in-Nothing-clause-acts
+returns-in-Nothing-clause-acts c =
+    let version = version_tree c.args.version in
+    let s = script_of c.args.script.now in
+    answers_all version s s c.args.request r.Nothing C.Request.Nothing c.in-Nothing.is (λ l h. h) c.new.result.items (nothing_done version s c.new.result.items c.new.ensures.items)
+
+pub returns-in-Set-clause-acts : goal.returns-in-Set-clause-acts
+returns-in-Set-clause-acts c =
+    let version = version_tree c.args.version in
+    let s = script_of c.args.script.now in
+    let a = c.in-Set.a in
+    let content = c.in-Set.content in
+    if_changed version s (script_of c.set.new.script) c.args.request (r.Set a content) c.set.result c.in-Set.is (C.Request.Set a (content_tree content)) (λ l h. h.0) refl c.set.ensures.does
+
+pub returns-in-Clear-clause-acts : goal.returns-in-Clear-clause-acts
+returns-in-Clear-clause-acts c =
+    let version = version_tree c.args.version in
+    let s = script_of c.args.script.now in
+    if_changed version s (script_of c.clear.new.script) c.args.request (r.Clear c.in-Clear.range) c.clear.result c.in-Clear.is (C.Request.Clear c.in-Clear.range) (λ l h. h) refl c.clear.ensures.does
+
+pub returns-in-Get-clause-acts : goal.returns-in-Get-clause-acts
+returns-in-Get-clause-acts c =
+    let version = version_tree c.args.version in
+    let s = script_of c.args.script.now in
+    let a = c.in-Get.a in
+    let T = sheet c.cells.result.now in
+    if_said version s s c.args.request (r.Get a) (C.Request.Get a) c.in-Get.is (λ l h. h) c.get.result (line (get_text (content T a))) (get_done version s T a c.cells.ensures) c.get.ensures
+
+pub returns-in-List-clause-acts : goal.returns-in-List-clause-acts
+returns-in-List-clause-acts c =
+    let version = version_tree c.args.version in
+    let s = script_of c.args.script.now in
+    let T = sheet c.cells-in-List.result.now in
+    if_said version s s c.args.request r.List C.Request.ListAll c.in-List.is (λ l h. h) c.list.result (list_text version T) (list_done version s T c.cells-in-List.ensures) c.list.ensures
+
+pub returns-in-Version-clause-acts : goal.returns-in-Version-clause-acts
+returns-in-Version-clause-acts c =
+    let version = version_tree c.args.version in
+    let s = script_of c.args.script.now in
+    version_refused version s c.args.request c.error_line-in-Version.result c.in-Version.is c.error_line-in-Version.ensures
+
+pub returns-in-Quit-clause-acts : goal.returns-in-Quit-clause-acts
+returns-in-Quit-clause-acts c =
+    let version = version_tree c.args.version in
+    let s = script_of c.args.script.now in
+    if_said version s s c.args.request r.Quit C.Request.Quit c.in-Quit.is (λ l h. h) c.text_line.result (line (codes "bye")) (quit_done version s) c.text_line.ensures
+
+pub returns-in-Site-clause-acts : goal.returns-in-Site-clause-acts
+returns-in-Site-clause-acts c =
+    let version = version_tree c.args.version in
+    let s = script_of c.args.script.now in
+    if_changed version s (script_of c.site.new.script) c.args.request (r.Site c.in-Site.n) c.site.result c.in-Site.is (C.Request.Site c.in-Site.n) (λ l h. h) refl c.site.ensures.does
+
+pub returns-in-Edit-clause-acts : goal.returns-in-Edit-clause-acts
+returns-in-Edit-clause-acts c =
+    let version = version_tree c.args.version in
+    let s = script_of c.args.script.now in
+    let x = c.in-Edit in
+    if_merged version s (script_of c.edit.new.script) c.args.request (r.Edit x.time x.site x.at x.content) c.edit.result x.is (edit_of x.time x.site x.at x.content) (λ l h. h.0) c.edit.ensures.does
+
+pub returns-in-Export-clause-acts : goal.returns-in-Export-clause-acts
+returns-in-Export-clause-acts c =
+    let version = version_tree c.args.version in
+    let s = script_of c.args.script.now in
+    if_exported version s c.args.request r.Export c.export.result c.in-Export.is (λ l h. h) c.export.ensures
+
+pub returns-in-Undo-clause-acts : goal.returns-in-Undo-clause-acts
+returns-in-Undo-clause-acts c =
+    let version = version_tree c.args.version in
+    let s = script_of c.args.script.now in
+    if_changed version s (script_of c.undo.new.script) c.args.request r.Undo c.undo.result c.in-Undo.is C.Request.Undo (λ l h. h) refl c.undo.ensures.does
+
+pub returns-in-Redo-clause-acts : goal.returns-in-Redo-clause-acts
+returns-in-Redo-clause-acts c =
+    let version = version_tree c.args.version in
+    let s = script_of c.args.script.now in
+    if_changed version s (script_of c.redo.new.script) c.args.request r.Redo c.redo.result c.in-Redo.is C.Request.Redo (λ l h. h) refl c.redo.ensures.does
+
+pub returns-in-Nothing-clause-spends : goal.returns-in-Nothing-clause-spends
+returns-in-Nothing-clause-spends c =
+    let version = version_tree c.args.version in
+    let K = known_of c.args.script.now in
+    λ n. untouched_all version K n c.args.request r.Nothing C.Request.Nothing c.in-Nothing.is (λ l h. h) refl refl c.new.result.items
+
+pub returns-in-Set-clause-spends : goal.returns-in-Set-clause-spends
+returns-in-Set-clause-spends c =
+    let version = version_tree c.args.version in
+    let K = known_of c.args.script.now in
+    let a = c.in-Set.a in
+    let content = c.in-Set.content in
+    if_touched version K (known_of c.set.new.script) c.args.request (r.Set a content) (C.Request.Set a (content_tree content)) c.in-Set.is (λ l h. h.0) c.set.result refl c.set.ensures.touches
+
+pub returns-in-Clear-clause-spends : goal.returns-in-Clear-clause-spends
+returns-in-Clear-clause-spends c =
+    let version = version_tree c.args.version in
+    let K = known_of c.args.script.now in
+    if_touched version K (known_of c.clear.new.script) c.args.request (r.Clear c.in-Clear.range) (C.Request.Clear c.in-Clear.range) c.in-Clear.is (λ l h. h) c.clear.result refl c.clear.ensures.touches
+
+pub returns-in-Get-clause-spends : goal.returns-in-Get-clause-spends
+returns-in-Get-clause-spends c =
+    let version = version_tree c.args.version in
+    let K = known_of c.args.script.now in
+    if_untouched version K c.args.request (r.Get c.in-Get.a) (C.Request.Get c.in-Get.a) c.get.result c.in-Get.is (λ l h. h) refl refl
+
+pub returns-in-List-clause-spends : goal.returns-in-List-clause-spends
+returns-in-List-clause-spends c =
+    let version = version_tree c.args.version in
+    let K = known_of c.args.script.now in
+    if_untouched version K c.args.request r.List C.Request.ListAll c.list.result c.in-List.is (λ l h. h) refl refl
+
+pub returns-in-Import-clause-spends : goal.returns-in-Import-clause-spends
+returns-in-Import-clause-spends c =
+    if_refused (version_tree c.args.version) (known_of c.args.script.now) c.args.request c.error_line.result C.CommandWord c.error_line.ensures
+
+pub returns-in-Version-clause-spends : goal.returns-in-Version-clause-spends
+returns-in-Version-clause-spends c =
+    if_refused (version_tree c.args.version) (known_of c.args.script.now) c.args.request c.error_line-in-Version.result C.CommandWord c.error_line-in-Version.ensures
+
+pub returns-in-Quit-clause-spends : goal.returns-in-Quit-clause-spends
+returns-in-Quit-clause-spends c =
+    let version = version_tree c.args.version in
+    let K = known_of c.args.script.now in
+    if_untouched version K c.args.request r.Quit C.Request.Quit c.text_line.result c.in-Quit.is (λ l h. h) refl refl
+
+pub returns-in-Site-clause-spends : goal.returns-in-Site-clause-spends
+returns-in-Site-clause-spends c =
+    let version = version_tree c.args.version in
+    let K = known_of c.args.script.now in
+    if_touched version K (known_of c.site.new.script) c.args.request (r.Site c.in-Site.n) (C.Request.Site c.in-Site.n) c.in-Site.is (λ l h. h) c.site.result refl c.site.ensures.touches
+
+pub returns-in-Edit-clause-spends : goal.returns-in-Edit-clause-spends
+returns-in-Edit-clause-spends c =
+    let version = version_tree c.args.version in
+    let K = known_of c.args.script.now in
+    let x = c.in-Edit in
+    if_touched version K (known_of c.edit.new.script) c.args.request (r.Edit x.time x.site x.at x.content) (C.Request.Merge (edit_of x.time x.site x.at x.content)) x.is (λ l h. h.0) c.edit.result refl c.edit.ensures.touches
+
+pub returns-in-Export-clause-spends : goal.returns-in-Export-clause-spends
+returns-in-Export-clause-spends c =
+    let version = version_tree c.args.version in
+    let K = known_of c.args.script.now in
+    if_untouched version K c.args.request r.Export C.Request.Export c.export.result c.in-Export.is (λ l h. h) refl refl
+
+pub returns-in-Undo-clause-spends : goal.returns-in-Undo-clause-spends
+returns-in-Undo-clause-spends c =
+    let version = version_tree c.args.version in
+    let K = known_of c.args.script.now in
+    if_touched version K (known_of c.undo.new.script) c.args.request r.Undo C.Request.Undo c.in-Undo.is (λ l h. h) c.undo.result refl c.undo.ensures.touches
+
+pub returns-in-Redo-clause-spends : goal.returns-in-Redo-clause-spends
+returns-in-Redo-clause-spends c =
+    let version = version_tree c.args.version in
+    let K = known_of c.args.script.now in
+    if_touched version K (known_of c.redo.new.script) c.args.request r.Redo C.Request.Redo c.in-Redo.is (λ l h. h) c.redo.result refl c.redo.ensures.touches

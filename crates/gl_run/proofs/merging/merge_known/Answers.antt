@@ -1,0 +1,22 @@
+use Rattle.std.proofs.Common.{◌≡◌, [], List, sym, subst}
+use Rattle.gl_calculus.specs.Grid.{Addr}
+use Rattle.gl_merge.specs.Edit.{edit_tree}
+use Rattle.gl_run.specs.Script.{known_of, script_of}
+use Rattle.gl_run.specs.Spends.{Touches}
+use Rattle.gl_run.proofs.Joining.{known_takes, known_merged, known_touches}
+use Rattle.gl_run.proofs.Spending.{touches_marks, marks_nothing}
+use Rattle.gl_run.proofs.merging.merge_known.Goals as goal
+
+pub take-requires : goal.take-requires
+take-requires c = known_takes c.args.script.now c.args.e c.requires
+
+pub returns-clause-does : goal.returns-clause-does
+returns-clause-does c = known_merged (script_of c.args.script.now) (script_of c.take.new.script) (edit_tree c.args.e) c.in_ok-reply.reply.items c.requires c.take.ensures.takes c.in_ok-reply.ensures
+
+pub returns-clause-touches : goal.returns-clause-touches
+returns-clause-touches c =
+    let x = c.args.script.now in
+    let z = c.take.new.script in
+    let reply = c.in_ok-reply.reply.items in
+    let none = known_touches (script_of x) (edit_tree c.args.e) c.requires in
+    subst (λ (ps : List Addr). Touches reply ps (known_of x) (known_of z)) (sym none) (touches_marks x z [] reply c.in_ok-reply.ensures (marks_nothing x.calc z.calc c.take.ensures.calc))

@@ -1,0 +1,59 @@
+use Rattle.std.proofs.Common.{◌≡◌, ◌∙◌, ℕ, [], Some, Vec, Global, option_map, refl, sym, ap, arith}
+use Rattle.std.proofs.lemmas.Result.{IfOk-weaker}
+use Rattle.gl_protocol.specs.Commands as C
+use Rattle.gl_protocol.specs.Commands.{error_line}
+use Rattle.gl_protocol.specs.Script.{change}
+use Rattle.gl_merge.specs.Replica.{replica_tree}
+use Rattle.gl_undo.specs.History.{history_tree}
+use Rattle.gl_run.specs.Changed.{IsChanged}
+use Rattle.gl_run.specs.Script.{known_of, script_of}
+use Rattle.gl_run.specs.Spends.{Touches}
+use Rattle.gl_run.proofs.Joining.{site_in_replica, site_too_late, site_done}
+use Rattle.gl_run.proofs.Spending.{touches_kept, touches_marks, marks_nothing}
+use Rattle.gl_run.proofs.Stepping.{alone, some_replica}
+use Rattle.gl_run.proofs.merging.site.Goals as goal
+
+pub returns-then-is_some-clause-does : goal.returns-then-is_some-clause-does
+returns-then-is_some-clause-does c =
+    let x = c.args.script.now in
+    let s = script_of x in
+    let r = some_replica x (sym c.is_some.ensures.value ∙ c.if-is_some.true) in
+    let W : Vec ℕ Global → Type 0 = λ reply. reply.items ≡ error_line C.SiteWord in
+    let Q : Vec ℕ Global → Type 0 = λ reply. IsChanged (change s (C.Request.Site c.args.site)) s s reply.items in
+    IfOk-weaker c.error_line.result W Q (λ reply p. site_in_replica s c.args.site r.0 reply.items r.1 p) c.error_line.ensures
+
+pub returns-then-is_some-clause-touches : goal.returns-then-is_some-clause-touches
+returns-then-is_some-clause-touches c =
+    let K = known_of c.args.script.now in
+    let W : Vec ℕ Global → Type 0 = λ reply. reply.items ≡ error_line C.SiteWord in
+    let Q : Vec ℕ Global → Type 0 = λ reply. Touches reply.items [] K K in
+    IfOk-weaker c.error_line.result W Q (λ reply p. touches_kept [] K K refl (Some C.SiteWord) reply.items p) c.error_line.ensures
+
+pub returns-clause-does : goal.returns-clause-does
+returns-clause-does c =
+    let x = c.args.script.now in
+    let none = alone x (sym c.is_some.ensures.value ∙ c.if-is_some.false) in
+    site_done (script_of x) c.args.site (replica_tree c.new.result) (history_tree c.clear.new.self) c.in_ok-reply.reply.items (ap (option_map replica_tree) none)
+    (omega (arith, c.contents.ensures.count)) c.new.ensures c.clear.ensures c.in_ok-reply.ensures
+
+pub returns-clause-touches : goal.returns-clause-touches
+returns-clause-touches c =
+    let x = c.args.script.now in
+    let z = record x { replica = Some c.new.result; history = c.clear.new.self } in
+    touches_marks x z [] c.in_ok-reply.reply.items c.in_ok-reply.ensures (marks_nothing x.calc x.calc refl)
+
+pub returns-then-contents-gt0-clause-does : goal.returns-then-contents-gt0-clause-does
+returns-then-contents-gt0-clause-does c =
+    let x = c.args.script.now in
+    let s = script_of x in
+    let none = alone x (sym c.is_some.ensures.value ∙ c.if-is_some.false) in
+    let W : Vec ℕ Global → Type 0 = λ reply. reply.items ≡ error_line C.SiteWord in
+    let Q : Vec ℕ Global → Type 0 = λ reply. IsChanged (change s (C.Request.Site c.args.site)) s s reply.items in
+    IfOk-weaker c.error_line.result W Q (λ reply p. site_too_late s c.args.site reply.items (ap (option_map replica_tree) none) (omega (arith, c.contents.ensures.count, c.if-contents-gt0.true)) p) c.error_line.ensures
+
+pub returns-then-contents-gt0-clause-touches : goal.returns-then-contents-gt0-clause-touches
+returns-then-contents-gt0-clause-touches c =
+    let K = known_of c.args.script.now in
+    let W : Vec ℕ Global → Type 0 = λ reply. reply.items ≡ error_line C.SiteWord in
+    let Q : Vec ℕ Global → Type 0 = λ reply. Touches reply.items [] K K in
+    IfOk-weaker c.error_line.result W Q (λ reply p. touches_kept [] K K refl (Some C.SiteWord) reply.items p) c.error_line.ensures

@@ -1,0 +1,26 @@
+-- What is listed of the step that is undone or done again.
+use Rattle.std.specs.Prelude.{◌≡◌, ◌<◌, List, ◌∷◌, length, Option, None}
+use Rattle.gl_query.specs.Lists.{AreDistinct}
+use Rattle.gl_calculus.specs.Grid.{Addr}
+use Rattle.gl_edits.specs.Steps.{befores, afters}
+use Rattle.gl_cells.specs.declared.content.Content.{Content}
+use Rattle.gl_undo.specs.View.{AreProperChanges, changes_tree, places}
+use Rattle.gl_undo.specs.History.{done, undone}
+use Rattle.gl_run.specs.declared.script.Script.{Script}
+use Rattle.gl_run.specs.Touched.{latest_changes}
+
+-- outside a replica, these are what the addresses of the latest step had before it
+pub record StepsBack (x : Script) (cs : List (Addr × Option Content)) : Type 0 where
+  pub alone : x.replica ≡ None
+  pub left : 0 < length (done x.history)
+  pub changes : changes_tree cs ≡ latest_changes befores (done x.history)
+  pub apart : AreDistinct (places cs)
+  pub proper : AreProperChanges cs
+
+-- outside a replica, these are what the addresses of the latest undone step had after it
+pub record StepsForward (x : Script) (cs : List (Addr × Option Content)) : Type 0 where
+  pub alone : x.replica ≡ None
+  pub left : 0 < length (undone x.history)
+  pub changes : changes_tree cs ≡ latest_changes afters (undone x.history)
+  pub apart : AreDistinct (places cs)
+  pub proper : AreProperChanges cs

@@ -1,0 +1,30 @@
+//! The state of a script.
+ghost use Rattle.std.specs.Prelude.{◌≡◌, IfOk};
+ghost use Rattle.gl_run.specs.Known.{new_known};
+ghost use Rattle.gl_run.specs.Script.{known_of};
+
+use gl_calc::Calc;
+use gl_merge::Replica;
+use gl_plane::NoMemory;
+use gl_undo::History;
+use std::alloc::Global;
+
+/// The calculator with the sheet, the replica if the script is one, and what can be undone.
+#[derive(Drop)]
+pub struct Script {
+    pub calc: Calc,
+    pub replica: Option<Replica>,
+    pub history: History,
+}
+
+/// The empty sheet, no replica, and nothing to undo.
+pub fn new_script(alloc: Global) -> Result<Script, NoMemory>
+    ensures { IfOk result (λ x. known_of x ≡ new_known) }
+{
+    let history = History::new(alloc)?;
+    Ok(Script {
+        calc: Calc::new(alloc),
+        replica: None,
+        history,
+    })
+}
