@@ -7,7 +7,7 @@ use Rattle.gl_calculus.specs.Grid.{Addr, addr, size, Range, is_before, lies_in, 
 use Rattle.gl_calculus.specs.Same.{is_permitted}
 use Rattle.gl_calculus.specs.Value.{Refused, Entry, Oracle}
 use Rattle.gl_calculus.specs.Oracle.{IsInOrder, area_of}
-use Rattle.gl_plane.specs.Reach.{first_from, spills_into, lowest_row, AreReaches}
+use Rattle.gl_plane.specs.Reach.{first_from, spills_into, lowest_row, last_column, AreReaches}
 
 -- ---- passing entries
 
@@ -47,6 +47,19 @@ ends_above : (r : Range) (x : Entry) → lowest_row x < r.first.row → spills_i
 ends_above r x h =
     above (is_permitted x.permit && lies_in (area_of x) grid) (nat_le x.root.row r.last.row) (nat_le x.root.col r.last.col && nat_le r.first.col (area_of x).last.col) (area_of x).last.row r.first.row h
 
+left_of : (b f g : Bool) (last col : ℕ) → cond b last 0 < col → b && (f && (g && nat_le col last)) ≡ false
+left_of false f g last col h = refl
+left_of true f g last col h = let e : nat_le col last ≡ false = grind (arith, nat_tests) in rw e (middle f g)
+  where
+    middle : (f g : Bool) → (f && (g && false)) ≡ false
+    middle true true = refl
+    middle true false = refl
+    middle false g = refl
+
+ends_left : (r : Range) (x : Entry) → last_column x < r.first.col → spills_into r x ≡ false
+ends_left r x h =
+    left_of (is_permitted x.permit && lies_in (area_of x) grid) (nat_le x.root.row r.last.row && nat_le r.first.row (area_of x).last.row) (nat_le x.root.col r.last.col) (area_of x).last.col r.first.col h
+
 below : (b f g : Bool) (first last : ℕ) → last < first → b && ((nat_le first last && f) && g) ≡ false
 below false f g first last h = refl
 below true f g first last h = let e : nat_le first last ≡ false = grind (arith, nat_tests) in rw e refl
@@ -78,13 +91,21 @@ rows_increase (x ∷ y ∷ ys) (suc i) (suc k) d o le h = rows_increase (y ∷ y
 pub no_entry : Entry
 no_entry = record { root = addr 0 0; size = size 0 0; permit = Refused }
 
--- a block that reaches no further than above the range
-pub block_passed : (r : Range) (es : Oracle) (rows : List ℕ) (i : ℕ) → AreReaches es rows → i % 64 ≡ 0 → get_or rows (i / 64) 0 < r.first.row → first_from (spills_into r) i (drop i es) ≡ first_from (spills_into r) (i + 64) (drop (i + 64) es)
-block_passed r es rows i a z h = let d = no_entry in all_passed (spills_into r) es d 64 i (λ k lo hi in_list.
+-- a block of which no entry reaches this far, if the entries that don't are passed
+block_fails : (reach : Entry → ℕ) (r : Range) (es : Oracle) (reaches : List ℕ) (i n : ℕ) → ((x : Entry) → reach x < n → spills_into r x ≡ false) → AreReaches reach es reaches → i % 64 ≡ 0 → get_or reaches (i / 64) 0 < n → first_from (spills_into r) i (drop i es) ≡ first_from (spills_into r) (i + 64) (drop (i + 64) es)
+block_fails reach r es reaches i n fails a z h = let d = no_entry in all_passed (spills_into r) es d 64 i (λ k lo hi in_list.
     let same : k / 64 ≡ i / 64 = omega arith in
-    let bound : lowest_row (get_or es k d) ≤ slice_index rows (k / 64) = a.bounds k (get_or es k d) (slice_get-get_or es k d in_list) in
-    let low : slice_index rows (k / 64) < r.first.row = subst (λ j. get_or rows j 0 < r.first.row) (sym same) h in
-    ends_above r (get_or es k d) (omega arith))
+    let bound : reach (get_or es k d) ≤ slice_index reaches (k / 64) = a.bounds k (get_or es k d) (slice_get-get_or es k d in_list) in
+    let low : slice_index reaches (k / 64) < n = subst (λ j. get_or reaches j 0 < n) (sym same) h in
+    fails (get_or es k d) (omega arith))
+
+-- a block that reaches no further than above the range
+pub block_passed : (r : Range) (es : Oracle) (rows : List ℕ) (i : ℕ) → AreReaches lowest_row es rows → i % 64 ≡ 0 → get_or rows (i / 64) 0 < r.first.row → first_from (spills_into r) i (drop i es) ≡ first_from (spills_into r) (i + 64) (drop (i + 64) es)
+block_passed r es rows i a z h = block_fails lowest_row r es rows i r.first.row (ends_above r) a z h
+
+-- or than left of it
+pub block_beside : (r : Range) (es : Oracle) (columns : List ℕ) (i : ℕ) → AreReaches last_column es columns → i % 64 ≡ 0 → get_or columns (i / 64) 0 < r.first.col → first_from (spills_into r) i (drop i es) ≡ first_from (spills_into r) (i + 64) (drop (i + 64) es)
+block_beside r es columns i a z h = block_fails last_column r es columns i r.first.col (ends_left r) a z h
 
 -- all from the first root below the range on
 pub rest_passed : (r : Range) (es : Oracle) (i : ℕ) (d : Entry) → IsInOrder es → i < length es → r.last.row < (get_or es i d).root.row → first_from (spills_into r) i (drop i es) ≡ None

@@ -2,7 +2,7 @@
 use Rattle.std.proofs.Common.{◌≡◌, ℕ, zero, suc, ◌/◌, ◌≤◌, ◌+◌, ◌⊎◌, inl, inr, List, [], ◌∷◌, ◌++◌, length, Some, slice_get, slice_index, refl, ap, sym, subst, arith, rules}
 use Rattle.std.proofs.lemmas.Grind.{common_steps}
 use Rattle.gl_calculus.specs.Value.{Entry}
-use Rattle.gl_plane.specs.Reach.{AreReaches, IsRaised, lowest_row}
+use Rattle.gl_plane.specs.Reach.{AreReaches, IsRaised}
 
 more_length : (es : List Entry) (x : Entry) → length (es ++ x ∷ []) ≡ length es + 1
 more_length es x = grind (arith, common_steps)
@@ -16,12 +16,19 @@ earlier_or_last (e ∷ es) (suc k) x y h = later (earlier_or_last es k x y h) wh
   later (inl p) = inl p
   later (inr p) = inr (ap suc p.0, p.1)
 
-bound : (es : List Entry) (x y : Entry) (k : ℕ) (old new : List ℕ) → AreReaches es old → IsRaised old new (length es / 64) (lowest_row x) → (slice_get es k ≡ Some y) ⊎ ((k ≡ length es) × (x ≡ y)) → lowest_row y ≤ slice_index new (k / 64)
-bound es x y k old new a r (inl p) = omega (arith, a.bounds k y p, r.above (k / 64))
-bound es x y k old new a r (inr p) = subst (λ z. lowest_row z ≤ slice_index new (k / 64)) p.1 (subst (λ n. lowest_row x ≤ slice_index new (n / 64)) (sym p.0) r.raised)
+bound : (reach : Entry → ℕ) (es : List Entry) (x y : Entry) (k : ℕ) (old new : List ℕ) → AreReaches reach es old → IsRaised old new (length es / 64) (reach x) → (slice_get es k ≡ Some y) ⊎ ((k ≡ length es) × (x ≡ y)) → reach y ≤ slice_index new (k / 64)
+bound reach es x y k old new a r (inl p) = omega (arith, a.bounds k y p, r.above (k / 64))
+bound reach es x y k old new a r (inr p) = subst (λ z. reach z ≤ slice_index new (k / 64)) p.1 (subst (λ n. reach x ≤ slice_index new (n / 64)) (sym p.0) r.raised)
 
-pub reaches_more : (es : List Entry) (x : Entry) (old new : List ℕ) → AreReaches es old → IsRaised old new (length es / 64) (lowest_row x) → AreReaches (es ++ x ∷ []) new
-reaches_more es x old new a r = record {
+pub reaches_more : (reach : Entry → ℕ) (es : List Entry) (x : Entry) (old new : List ℕ) → AreReaches reach es old → IsRaised old new (length es / 64) (reach x) → AreReaches reach (es ++ x ∷ []) new
+reaches_more reach es x old new a r = record {
   enough = omega (arith, more_length es x, a.enough, r.present);
-  bounds = λ k y h. bound es x y k old new a r (earlier_or_last es k x y h);
+  bounds = λ k y h. bound reach es x y k old new a r (earlier_or_last es k x y h);
+}
+
+-- numbers that were raised bound the same entries
+pub reaches_kept : (reach : Entry → ℕ) (es : List Entry) (old new : List ℕ) (block row : ℕ) → AreReaches reach es old → IsRaised old new block row → AreReaches reach es new
+reaches_kept reach es old new block row a r = record {
+  enough = omega (arith, a.enough, r.kept);
+  bounds = λ k y h. omega (arith, a.bounds k y h, r.above (k / 64));
 }

@@ -1,4 +1,4 @@
--- What entries meet, and how far down they reach.
+-- What entries meet, and how far down and right they reach.
 use Rattle.std.specs.Prelude.{◌≡◌, ℕ, ◌*◌, ◌/◌, ◌<◌, ◌≤◌, Bool, ◌&&◌, List, ◌+◌, length, Option, Some, None, [], ◌∷◌, slice_get, slice_index, if◌then◌else◌}
 use Rattle.gl_calculus.specs.Grid.{Range, lies_in, meets, grid}
 use Rattle.gl_calculus.specs.Value.{Entry, Oracle}
@@ -18,14 +18,18 @@ first_from p n (x ∷ xs) = if p x then Some (n, x) else first_from p (n + 1) xs
 abbrev pub lowest_row : Entry → ℕ
 lowest_row x = if is_permitted x.permit && lies_in (area_of x) grid then (area_of x).last.row else 0
 
--- each block of 64 entries has a row below which none of them reaches
-pub record AreReaches (es : List Entry) (rows : List ℕ) : Type 0 where
-  pub enough : length es ≤ 64 * length rows
-  pub bounds : (k : ℕ) (x : Entry) → slice_get es k ≡ Some x → lowest_row x ≤ slice_index rows (k / 64)
+-- the last column of what the entry spills, or 0
+abbrev pub last_column : Entry → ℕ
+last_column x = if is_permitted x.permit && lies_in (area_of x) grid then (area_of x).last.col else 0
 
--- no row is lower than before, and that of the block is at least this one
-pub record IsRaised (old new : List ℕ) (block row : ℕ) : Type 0 where
+-- each block of 64 entries has a number beyond which none of them reaches
+pub record AreReaches (reach : Entry → ℕ) (es : List Entry) (reaches : List ℕ) : Type 0 where
+  pub enough : length es ≤ 64 * length reaches
+  pub bounds : (k : ℕ) (x : Entry) → slice_get es k ≡ Some x → reach x ≤ slice_index reaches (k / 64)
+
+-- no number is less than before, and that of the block is at least this one
+pub record IsRaised (old new : List ℕ) (block reach : ℕ) : Type 0 where
   pub present : block < length new
   pub kept : length old ≤ length new
   pub above : (k : ℕ) → slice_index old k ≤ slice_index new k
-  pub raised : row ≤ slice_index new block
+  pub raised : reach ≤ slice_index new block
