@@ -36,7 +36,6 @@ use std::mem;
 /// A sheet, with the held answer: that of the latest `refresh` that settled since the last edit that
 /// was not refused; and with what is remembered of the latest calculation: the tables of its first
 /// rounds, and which addresses were touched since.
-#[derive(Drop)]
 pub struct Calc {
     cells: Cells,
     held: Option<Answered>,
@@ -46,6 +45,13 @@ pub struct Calc {
     touched: Vec<Addr>,
     // what the latest calculation came to, where nothing was touched since
     ended: Option<Answer>,
+}
+
+// One call wherever it is dropped, in place of one for each part.
+impl Drop for Calc {
+    fn drop(self) {
+        let Calc { cells: _, held: _, tables: _, version: _, touched: _, ended: _ } = self;
+    }
 }
 
 impl Model for Calc {

@@ -20,10 +20,16 @@ const MOST: usize = 4_000_000_000;
 
 /// Keys, each once, seen as a list of plain keys. A key's number is its place in the list, and
 /// never changes. The keys stand beside their short forms, by which they are looked up.
-#[derive(Drop)]
 pub struct Book {
     interner: Interner,
     keys: IndexMap<Short, Key>,
+}
+
+// One call wherever it is dropped, in place of one for each part.
+impl Drop for Book {
+    fn drop(self) {
+        let Book { interner: _, keys: _ } = self;
+    }
 }
 
 impl Model for Book {

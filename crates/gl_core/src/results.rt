@@ -25,9 +25,15 @@ const SPARE: usize = 512;
 
 /// The notes of keys, each with the key's outcome, the keys that it read and the ranges that it
 /// looked at, in the order of noting: what a note read stands before it.
-#[derive(Drop)]
 pub struct Results {
     ledger: Ledger,
+}
+
+// One call wherever it is dropped, in place of one for each part.
+impl Drop for Results {
+    fn drop(self) {
+        let Results { ledger: _ } = self;
+    }
 }
 
 impl Model for Results {
@@ -82,7 +88,8 @@ impl Results {
         ensures kept { IsLedger result }
         ensures results { AreResults (written result) }
     {
-        self.ledger
+        let Results { ledger } = self;
+        ledger
     }
 
     /// How many notes there are.

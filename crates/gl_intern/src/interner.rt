@@ -18,12 +18,18 @@ use std::rc::Rc;
 /// Sheet values and frames by numbers, which count each of them from 0 in the order in which they
 /// first came. It is seen as the list of the sheet values and the list of the frames. A number that
 /// was once given never changes.
-#[derive(Drop)]
 pub struct Interner {
     parts: Parts,
     // by their places among the parts
     sheets: IndexMap<usize, Rc<SheetVal>>,
     frames: IndexMap<Option<usize>, Env>,
+}
+
+// One call wherever it is dropped, in place of one for each part.
+impl Drop for Interner {
+    fn drop(self) {
+        let Interner { parts: _, sheets: _, frames: _ } = self;
+    }
 }
 
 impl Model for Interner {
