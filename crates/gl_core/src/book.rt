@@ -28,7 +28,10 @@ pub struct Book {
 // One call wherever it is dropped, in place of one for each part.
 impl Drop for Book {
     fn drop(self) {
-        let Book { interner: _, keys: _ } = self;
+        let Book {
+            interner: _,
+            keys: _,
+        } = self;
     }
 }
 

@@ -47,11 +47,21 @@ use std::marker::Model;
 ///
 /// A core is for a sheet, an oracle and a version (`IsFor`) where its notes are true there, its
 /// seeds are proper, and its state is one that picks reach from the seeds.
-#[derive(Drop)]
 pub struct Core {
     entries: Entries,
     seeds: usize,
     ledger: Ledger,
+}
+
+// One call wherever it is dropped, in place of one for each part.
+impl Drop for Core {
+    fn drop(self) {
+        let Core {
+            entries: _,
+            seeds: _,
+            ledger: _,
+        } = self;
+    }
 }
 
 impl Model for Core {
@@ -263,6 +273,11 @@ impl Core {
         requires { length (idle_keys (state_of self)) ≡ 0 }
         ensures { result ≡ self }
     {
-        Quiet::new(self.entries, self.seeds, self.ledger)
+        let Core {
+            entries,
+            seeds,
+            ledger,
+        } = self;
+        Quiet::new(entries, seeds, ledger)
     }
 }

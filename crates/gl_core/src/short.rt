@@ -67,8 +67,9 @@ fn make_cell(interner: &mut Interner, e: &Env, a: Addr) -> Result<Short, NoMemor
     }
 }
 
-/// The short form of a key, whose frame or sheet value gets a number where it has none.
-fn make_short(interner: &mut Interner, key: &Key) -> Result<Short, NoMemory>
+/// The short form of a key, whose frame or sheet value gets a number where it has none. It is one
+/// walk, whether or not it has one.
+pub fn short_form(interner: &mut Interner, key: &Key) -> Result<Short, NoMemory>
     ensures short { IfOk result (λ s. short_in interner.new (key_tree key.now) ≡ Some s) }
     ensures grows { IsGrown interner.old interner.new }
 {
@@ -78,16 +79,5 @@ fn make_short(interner: &mut Interner, key: &Key) -> Result<Short, NoMemory>
             Ok(n) => Ok(Short::Settle(n)),
             Err(e) => Err(e),
         },
-    }
-}
-
-/// The short form of a key. It takes memory only where something has no number yet.
-pub fn short_form(interner: &mut Interner, key: &Key) -> Result<Short, NoMemory>
-    ensures short { IfOk result (λ s. short_in interner.new (key_tree key.now) ≡ Some s) }
-    ensures grows { IsGrown interner.old interner.new }
-{
-    match find_short(interner, key) {
-        Some(short) => Ok(short),
-        None => make_short(interner, key),
     }
 }

@@ -3,7 +3,7 @@ use Rattle.gl_value.specs.View.{sheet_tree}
 use Rattle.gl_demand.specs.View.{key_tree}
 use Rattle.gl_core.specs.Shorts.{short_in}
 use Rattle.gl_core.proofs.Shorts.{settle_numbered}
-use Rattle.gl_core.proofs.short.make_short.Goals as goal
+use Rattle.gl_core.proofs.short.short_form.Goals as goal
 
 pub returns-in-Ok-clause-short : goal.returns-in-Ok-clause-short
 returns-in-Ok-clause-short c =
