@@ -50,7 +50,14 @@ pub struct Calc {
 // One call wherever it is dropped, in place of one for each part.
 impl Drop for Calc {
     fn drop(self) {
-        let Calc { cells: _, held: _, tables: _, version: _, touched: _, ended: _ } = self;
+        let Calc {
+            cells: _,
+            held: _,
+            tables: _,
+            version: _,
+            touched: _,
+            ended: _,
+        } = self;
     }
 }
 

@@ -1,9 +1,18 @@
-use Rattle.std.proofs.Common.{◌≡◌, ◌||◌, [], ap, subst}
+use Rattle.std.proofs.Common.{◌≡◌, ◌||◌, [], length, ap, arith, sym, subst}
 use Rattle.gl_calculus.specs.Grid.{Addr}
 use Rattle.gl_calculus.specs.Memory.{Table, differs_at}
+use Rattle.gl_calculus.specs.Differences.{AreApart}
 use Rattle.gl_plane.specs.Changes.{is_covered}
-use Rattle.gl_calc.proofs.KeptNotes.{kept_notes, single_of}
+use Rattle.gl_calc.proofs.KeptNotes.{kept_notes, kept_of_none, single_of}
 use Rattle.gl_calc.proofs.keeping.kept_since.Goals as goal
+
+pub returns-then-len-eq0 : goal.returns-then-len-eq0
+returns-then-len-eq0 c = λ touched h.
+    let none : length c.table.inside.results ≡ 0 = omega (arith, c.len.ensures.count, c.if-len-eq0.true) in
+    kept_of_none touched c.args.table c.args.w.now c.table.inside.results (ap (λ (u : Table). u.notes) c.table.view_is) none
+
+pub changes-requires-clause-apart : goal.changes-requires-clause-apart
+changes-requires-clause-apart c = subst (λ (u : Table). AreApart u.oracle) (sym c.table.view_is) c.requires.apart
 
 pub returns : goal.returns
 returns c = λ touched h.

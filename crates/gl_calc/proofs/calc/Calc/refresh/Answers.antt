@@ -1,12 +1,13 @@
-use Rattle.std.proofs.Common.{◌≡◌, [], Vec, Global, OnErr, Some, if◌then◌else◌, sym, ap, subst, ◌∙◌, arith}
+use Rattle.std.proofs.Common.{◌≡◌, [], List, Vec, Global, OnErr, Some, if◌then◌else◌, sym, ap, subst, ◌∙◌, arith}
 use Rattle.gl_calculus.specs.Memory as M
 use Rattle.gl_calculus.specs.Memory.{Table, tables_for}
 use Rattle.gl_ast.specs.View.{version_tree}
 use Rattle.gl_cells.specs.Sheet.{sheet}
 use Rattle.gl_calc.specs.View.{View, sheet_of, memory_of}
 use Rattle.gl_calc.specs.Answers.{Answers, Takes}
+use Rattle.gl_calc.specs.Kept.{AreEarlier}
 use Rattle.gl_calc.specs.Held.{answer_of, Parts, held_by, IsCalc}
-use Rattle.gl_calc.proofs.Calcs.{standing_answers, standing_takes, tables_passed, emptied, on_err, left_answers, left_calc}
+use Rattle.gl_calc.proofs.Calcs.{standing_answers, standing_takes, tables_passed, passed_earlier, emptied, on_err, left_answers, left_calc}
 use Rattle.gl_calc.proofs.calc.Calc.refresh.Goals as goal
 
 pub returns-in-Some-clause-answer : goal.returns-in-Some-clause-answer
@@ -145,3 +146,19 @@ returns-clause-steps g c =
     subst (λ (v : View). Takes V (sheet_of v) (tables_for V (memory_of v)) v.touched c.answer-answer.result n m) c.self.view_is
     (subst (λ y. Takes V S (if M.same_version V version then tables else []) marks.items y n m) (sym c.answer-answer.ensures)
     (subst (λ ts. Takes V S ts marks.items x.answer n m) passed (subst (λ ts. Takes V S before ts x.answer n m) c.deref.ensures.value ends.takes)))
+
+pub calculate-requires-clause-earlier : goal.calculate-requires-clause-earlier
+calculate-requires-clause-earlier g c =
+    let S = sheet c.self.inside.cells in
+    let held = c.self.inside.held in
+    let tables = c.self.inside.tables.items in
+    let version = version_tree c.self.inside.version in
+    let marks = c.self.inside.touched in
+    let ended = c.self.inside.ended in
+    let V = version_tree c.args.version in
+    let same = c.same_version-is_same in
+    let parts = subst (λ h. Parts tables h c.parted.new.tables.items c.parted.result) c.take-held.ensures.value c.parted.ensures in
+    let passed = c.earlier_tables-tables.ensures ∙ ap (λ (v : Vec Table Global). if same.result then v.items else []) c.replace-tables.ensures.value in
+    subst (λ (ts : List Table). AreEarlier V S ts c.deref.result.now) (sym passed)
+    (subst (λ ms. AreEarlier V S (if same.result then c.parted.new.tables.items else []) ms) (sym c.deref.ensures.value)
+    (passed_earlier S held tables version marks ended c.self.invariant V same.result same.ensures (sym c.standing.ensures ∙ c.in_default.is) c.parted.new.tables.items parts.same))

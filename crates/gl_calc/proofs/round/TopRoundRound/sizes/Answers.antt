@@ -1,4 +1,5 @@
 use Rattle.std.proofs.Common.{refl, sym, subst}
+use Rattle.std.proofs.lemmas.Result.{IfOk-weaker, IfErr-weaker}
 use Rattle.gl_calculus.specs.Grid.{AreInOrder}
 use Rattle.gl_ast.specs.View.{version_tree}
 use Rattle.gl_cells.specs.Sheet.{sheet}
@@ -62,3 +63,17 @@ returns-in-Err-evaluated-clause-called g c =
       stopped (version_tree s.version) (sheet s.cells.now) s.touched.now s.tables c.begun.new.tables c.begun.new.tables c.args.w.now c.args.steps.now c.evaluated.new.steps c.in-Ok.ensures.taken c.in-Err-evaluated.fault
           (c.in-Err-evaluated.ensures.stops b (c.in-Ok.ensures.kept s.touched.now c.requires.can.2.covered)),
     )
+
+pub returns-in-Ok-evaluated-clause-given : goal.returns-in-Ok-evaluated-clause-given
+returns-in-Ok-evaluated-clause-given g c =
+    let s = c.args.self.now in
+    let V = version_tree s.version in
+    let S = sheet s.cells.now in
+    IfOk-weaker c.finished.result _ _ (λ zs h. h V S c.in-Ok-evaluated.ensures.evaluated c.requires.can.2.all) c.finished.ensures.given
+
+pub returns-in-Ok-evaluated-clause-failed : goal.returns-in-Ok-evaluated-clause-failed
+returns-in-Ok-evaluated-clause-failed g c =
+    let s = c.args.self.now in
+    let V = version_tree s.version in
+    let S = sheet s.cells.now in
+    IfErr-weaker c.finished.result _ _ (λ e h. h V S c.in-Ok-evaluated.ensures.evaluated c.requires.can.2.all) c.finished.ensures.failed
