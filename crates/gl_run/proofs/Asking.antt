@@ -120,7 +120,7 @@ if_exported {E} version s q z result is reads h =
 -- what is asked is proper
 pub asked_proper : (l : Bytes) (q : Request) → Asks l q → IsProperRequest q
 asked_proper l (r.Set a c) h = h.1
-asked_proper l (r.Edit t n a c) h = h.1
+asked_proper l (r.Edit t n a c) h = (h.1, h.2)
 asked_proper l r.Nothing h = tt
 asked_proper l (r.Clear x) h = tt
 asked_proper l (r.Show a) h = tt

@@ -12,7 +12,7 @@ use Rattle.gl_run.proofs.exports.export.Goals as goal
 pub returns-in-Some : goal.returns-in-Some
 returns-in-Some c =
     let s = script_of c.args.script.now in
-    let r = c.in-Some.replica.now in
+    let r = c.in-Some.replica in
     let W : Vec ℕ Global → Type 0 = λ reply. reply.items ≡ export_text (registers_of r) in
     let Q : Vec ℕ Global → Type 0 = λ reply. IsExport s reply.items in
     IfOk-weaker c.edit_list.result W Q (λ reply p. export_some s (replica_tree r) reply.items (ap (option_map replica_tree) c.in-Some.is) p) c.edit_list.ensures
