@@ -1,7 +1,8 @@
 -- Edits that a replica takes for changes of its own: which registers there are then, and how many.
-use Rattle.std.proofs.Common.{◌≡◌, ◌∙◌, ℕ, ◌+◌, ◌-◌, ◌<◌, ◌≤◌, suc, Bool, true, false, cond, List, [], ◌∷◌, map, length, Option, Some, None, is_none, is_some, nat_le, refl, ap, arith, IsTrue}
+use Rattle.std.proofs.Common.{◌≡◌, ◌∙◌, ℕ, ◌+◌, ◌<◌, ◌≤◌, suc, Bool, true, false, cond, List, [], ◌∷◌, map, length, Option, Some, None, is_none, is_some, nat_le, filter, refl, sym, ap, arith, IsTrue}
 use Rattle.std.proofs.lemmas.Bool.Decides.{nat_tests}
 use Rattle.std.proofs.lemmas.Grind.{common_steps}
+use Rattle.std.proofs.lemmas.List.Sums.{length-filter}
 use Rattle.gl_calculus.specs.Grid.{Addr, same_addr, is_before, AreInOrder}
 use Rattle.gl_calculus.specs.Formula.{Content}
 use Rattle.gl_edits.specs.Limits.{max_registers}
@@ -23,11 +24,14 @@ one_if_none None = 1
 one_if_none (Some r) = 0
 
 pub missing_more : (rs : List Edit) (a : Addr) (ps : List Addr) → missing rs (a ∷ ps) ≡ one_if_none (register_at rs a) + missing rs ps
-missing_more rs a ps = by (register_at rs a)
+missing_more rs a ps = sym (length-filter no_register (a ∷ ps)) ∙ by (register_at rs a) ∙ ap (λ (n : ℕ). one_if_none (register_at rs a) + n) (length-filter no_register ps)
   where
-    by : (o : Option Edit) → cond (is_none o) 1 0 + missing rs ps ≡ one_if_none o + missing rs ps
-    by None = refl
-    by (Some r) = refl
+    no_register : Addr → Bool
+    no_register p = is_none (register_at rs p)
+
+    by : (o : Option Edit) → length (cond (is_none o) (a ∷ filter no_register ps) (filter no_register ps)) ≡ one_if_none o + length (filter no_register ps)
+    by None = omega arith
+    by (Some r) = omega arith
 
 pub missing_one : (rs : List Edit) (a : Addr) → missing rs (a ∷ []) ≡ one_if_none (register_at rs a)
 missing_one rs a = let e = missing_more rs a [] in let z : missing rs [] ≡ 0 = refl in omega (arith, e, z)

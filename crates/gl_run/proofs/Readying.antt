@@ -1,5 +1,5 @@
 -- What an edit of the sheet becomes: what must hold before it, and what it comes to.
-use Rattle.std.proofs.Common.{◌≡◌, ◌∙◌, ◌⊎◌, inl, inr, ℕ, ◌+◌, ◌-◌, ◌<◌, ◌≤◌, true, false, List, [], ◌∷◌, length, Option, Some, None, IsSome, option_map, Err, refl, sym, ap, subst, arith}
+use Rattle.std.proofs.Common.{◌≡◌, ◌∙◌, ◌⊎◌, inl, inr, ℕ, ◌+◌, ◌<◌, ◌≤◌, true, false, List, [], ◌∷◌, length, Option, Some, None, IsSome, option_map, Err, refl, sym, ap, subst, arith}
 use Rattle.gl_calculus.specs.Grid.{Addr, AreInOrder}
 use Rattle.gl_calculus.specs.Formula.{Cells}
 use Rattle.gl_edits.specs.Limits.{max_registers}

@@ -1,5 +1,5 @@
 -- Changes that are put all at once and then cleared one by one.
-use Rattle.std.proofs.Common.{◌≡◌, ◌∙◌, ◌⊎◌, inl, inr, Bool, true, false, cond, not, List, [], ◌∷◌, ◌++◌, map, Option, Some, None, refl, sym, ap, subst}
+use Rattle.std.proofs.Common.{◌≡◌, ◌∙◌, inl, inr, Bool, true, false, cond, not, List, [], ◌∷◌, map, Option, Some, None, refl, sym, ap, subst}
 use Rattle.gl_query.specs.Lists.{Member, AreDistinct}
 use Rattle.gl_calculus.specs.Grid.{Addr, same_addr, single, covers}
 use Rattle.gl_calculus.specs.Formula.{Content, Cells, IsSheet, content}
@@ -58,11 +58,12 @@ swapped b a cs o n = by (same_addr b a) refl
 
 apart_changes : (cs : Changes) (b : Addr) (o : Option Content) → AreDistinct (plain_places cs) → after_changes (removing (going cs)) b (after_changes (settings (coming cs)) b o) ≡ after_changes cs b o
 apart_changes [] b o d = refl
-apart_changes (c ∷ cs) b o d = by c.1
+apart_changes (c ∷ cs) b o d = by c.1 (λ p. apart_changes cs b p d.1)
   where
-    by : (k : Option Content) → after_changes (removing (and_address c.0 k (going cs))) b (after_changes (settings (and_content c.0 k (coming cs))) b o) ≡ after_changes cs b (found b c.0 k o)
-    by (Some x) = apart_changes cs b (found b c.0 (Some x) o) d.1
-    by None = ap (after_changes (removing (going cs)) b) (swapped b c.0 cs o d.0) ∙ apart_changes cs b (found b c.0 None o) d.1
+    by : (k : Option Content) → ((p : Option Content) → after_changes (removing (going cs)) b (after_changes (settings (coming cs)) b p) ≡ after_changes cs b p)
+        → after_changes (removing (and_address c.0 k (going cs))) b (after_changes (settings (and_content c.0 k (coming cs))) b o) ≡ after_changes cs b (found b c.0 k o)
+    by (Some x) ih = ih (found b c.0 (Some x) o)
+    by None ih = ap (after_changes (removing (going cs)) b) (swapped b c.0 cs o d.0) ∙ ih (found b c.0 None o)
 
 order_without : (ps : List Addr) (S : Cells) → IsSheet S → IsSheet (without_these S ps)
 order_without [] S o = o

@@ -1,12 +1,11 @@
 -- Steps that are undone and done again.
-use Rattle.std.proofs.Common.{◌≡◌, ◌∙◌, ◌<◌, true, false, List, [], ◌∷◌, ◌++◌, map, Option, Some, None, option_map, is_some, refl, sym, ap, append_assoc, append-nil}
+use Rattle.std.proofs.Common.{◌≡◌, ◌∙◌, true, false, List, [], ◌∷◌, ◌++◌, map, Option, Some, None, option_map, is_some, refl, sym, ap, append_assoc, append-nil}
 use Rattle.gl_query.specs.Lists.{AreDistinct}
 use Rattle.gl_calculus.specs.Grid.{Addr, single}
 use Rattle.gl_calculus.specs.Formula.{Content, Cells, IsSheet}
 use Rattle.gl_edits.specs.Replicas.{Changes, Replica}
 use Rattle.gl_edits.specs.Steps.{Step, History, befores, afters, latest_step, MovesBack, MovesForward}
 use Rattle.gl_language.specs.Text.{Bytes}
-use Rattle.gl_protocol.specs.Commands as C
 use Rattle.gl_protocol.specs.Commands.{Is, Not, SiteWord, UndoWord, RedoWord, places_in, with_contents, without, error_line, ok_line}
 use Rattle.gl_protocol.specs.Script as P
 use Rattle.gl_protocol.specs.Script.{undone, redone, with_changes}

@@ -11,7 +11,7 @@ use Rattle.gl_run.proofs.Listed.{nothing_at, removals_listed, order_of_removals,
 use Rattle.gl_run.proofs.changes.removals.Goals as goal
 
 pub loop-init : goal.loop-init
-loop-init c = record { next = next_first c.args.r.now _; few = omega arith; items = search rules; proper = tt }
+loop-init c = record { next = next_first c.args.r.now _; few = omega arith; items = search rules; proper = subst AreProperChanges (sym c.new-list.ensures.items) tt }
 
 pub loop-preserved : goal.loop-preserved
 loop-preserved c =
@@ -24,9 +24,9 @@ loop-preserved c =
       next = next_after c.args.r.now _ c.contents-end.ensures.ordered n a here;
       few = omega (arith, l);
       items =
-          ap (λ (vs : List (Addr × Option Content)). changes_tree vs) c.in_ok-push.ensures.items ∙ tree_more c.loop.list.items a ∙ ap (λ (cs : Changes). cs ++ nothing_at a ∷ []) c.loop.invariant.items
+          ap (λ (vs : List (Addr × Option Content)). changes_tree vs) c.in_ok-push-in-Some.ensures.items ∙ tree_more c.loop.list.items a ∙ ap (λ (cs : Changes). cs ++ nothing_at a ∷ []) c.loop.invariant.items
           ∙ sym (ap (map nothing_at) (take_more ps n a here) ∙ nothing_more (take n ps) a);
-      proper = subst AreProperChanges (sym c.in_ok-push.ensures.items) (proper_more c.loop.list.items a c.loop.invariant.proper);
+      proper = subst AreProperChanges (sym c.in_ok-push-in-Some.ensures.items) (proper_more c.loop.list.items a c.loop.invariant.proper);
     }
 
 pub returns-in-None-clause-value : goal.returns-in-None-clause-value
@@ -36,6 +36,9 @@ returns-in-None-clause-value c =
     let ps = places_in S r in
     let l = none_there ps c.loop.counter (sym c.loop.invariant.next ∙ sym c.next_in.ensures ∙ c.in-None.is) in
     c.loop.invariant.items ∙ ap (map nothing_at) (take_whole ps c.loop.counter l) ∙ sym (removals_listed S r)
+
+pub returns-in_err-push-in-Some-clause-ordered : goal.returns-in_err-push-in-Some-clause-ordered
+returns-in_err-push-in-Some-clause-ordered c = order_of_removals (sheet c.args.cells.now) c.args.r.now c.contents-end.ensures.ordered
 
 pub returns-in-None-clause-ordered : goal.returns-in-None-clause-ordered
 returns-in-None-clause-ordered c = order_of_removals (sheet c.args.cells.now) c.args.r.now c.contents-end.ensures.ordered

@@ -1,4 +1,4 @@
-use Rattle.std.proofs.Common.{◌≡◌, sym, ap, subst}
+use Rattle.std.proofs.Common.{sym, ap, subst}
 use Rattle.gl_edits.specs.Steps.{History}
 use Rattle.gl_run.specs.Ready.{CanCommit, Commits}
 use Rattle.gl_run.specs.Script.{script_of}

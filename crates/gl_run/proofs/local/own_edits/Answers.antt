@@ -1,4 +1,4 @@
-use Rattle.std.proofs.Common.{◌≡◌, ◌∙◌, ◌+◌, ◌≤◌, ◌<◌, List, length, sym, ap, subst}
+use Rattle.std.proofs.Common.{◌∙◌, ◌+◌, ◌≤◌, ◌<◌, List, length, sym, ap, subst}
 use Rattle.gl_calculus.specs.Grid.{Addr}
 use Rattle.gl_edits.specs.Limits.{max_registers}
 use Rattle.gl_edits.specs.Replicas.{missing}
@@ -9,8 +9,8 @@ use Rattle.gl_run.proofs.Listed.{listed_places}
 use Rattle.gl_run.proofs.Readying.{own_ready, own_full}
 use Rattle.gl_run.proofs.local.own_edits.Goals as goal
 
-pub returns-in_ok-stamped-in-Ok-clause-edits : goal.returns-in_ok-stamped-in-Ok-clause-edits
-returns-in_ok-stamped-in-Ok-clause-edits c =
+pub returns-in-Ok-clause-edits : goal.returns-in-Ok-clause-edits
+returns-in-Ok-clause-edits c =
     let r = c.args.replica.now in
     let rs = registers_of r in
     let q = c.make_room.new.self in

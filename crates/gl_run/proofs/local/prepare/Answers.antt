@@ -14,13 +14,13 @@ pub step_of-requires-clause-apart : goal.step_of-requires-clause-apart
 step_of-requires-clause-apart c = subst AreDistinct (listed_places c.args.list.items) (distinct_in_order (places (changes_tree c.args.list.items)) c.requires.ordered)
 
 pub returns-in-Ok-clause-known : goal.returns-in-Ok-clause-known
-returns-in-Ok-clause-known c = same_known c.args.script.now c.in-Some.replica.now c.own_edits.new.replica c.in-Some.is c.own_edits.ensures.same
+returns-in-Ok-clause-known c = same_known c.args.script.now c.in-Some.replica c.own_edits.new.replica c.in-Some.is c.own_edits.ensures.same
 
 pub returns-in-Ok-clause-ready : goal.returns-in-Ok-clause-ready
 returns-in-Ok-clause-ready c = (c.own_edits.new.replica, refl, c.in-Ok.ensures.edits)
 
 pub returns-in-Err-clause-known : goal.returns-in-Err-clause-known
-returns-in-Err-clause-known c = same_known c.args.script.now c.in-Some.replica.now c.own_edits.new.replica c.in-Some.is c.own_edits.ensures.same
+returns-in-Err-clause-known c = same_known c.args.script.now c.in-Some.replica c.own_edits.new.replica c.in-Some.is c.own_edits.ensures.same
 
 pub returns-in-Err-clause-ready : goal.returns-in-Err-clause-ready
 returns-in-Err-clause-ready c =

@@ -1,4 +1,4 @@
-use Rattle.std.proofs.Common.{◌≡◌, ◌∙◌, List, ◌∷◌, sym, ap, subst}
+use Rattle.std.proofs.Common.{◌∙◌, List, sym, ap, subst}
 use Rattle.std.specs.Vec.Iter.{into_iter_items}
 use Rattle.gl_edits.specs.Replicas.{Replica, taking_all}
 use Rattle.gl_merge.specs.Edit.{EditValue}

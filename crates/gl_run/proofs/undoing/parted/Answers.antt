@@ -1,4 +1,4 @@
-use Rattle.std.proofs.Common.{◌≡◌, ◌∙◌, ◌++◌, [], ◌∷◌, List, Option, option_map, sym, ap, subst, append_assoc}
+use Rattle.std.proofs.Common.{◌∙◌, ◌++◌, [], List, Option, option_map, sym, ap, subst, append_assoc}
 use Rattle.std.specs.Vec.Iter.{into_iter_items}
 use Rattle.gl_calculus.specs.Grid.{Addr}
 use Rattle.gl_calculus.specs.Formula.{Cells}

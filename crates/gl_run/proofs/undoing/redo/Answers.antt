@@ -19,7 +19,7 @@ pub returns-then-is_some-clause-does : goal.returns-then-is_some-clause-does
 returns-then-is_some-clause-does c =
     let x = c.args.script.now in
     let s = script_of x in
-    let r = some_replica x (sym c.is_some.ensures.value ∙ c.if-is_some.true) in
+    let r = some_replica x (sym c.is_some.ensures ∙ c.if-is_some.true) in
     let W : Vec ℕ Global → Type 0 = λ reply. reply.items ≡ error_line C.SiteWord in
     let Q : Vec ℕ Global → Type 0 = λ reply. IsChanged (change s C.Request.Redo) s s reply.items in
     IfOk-weaker c.error_line.result W Q (λ reply p. redo_in_replica s r.0 reply.items r.1 p) c.error_line.ensures
@@ -36,7 +36,7 @@ pub redo_step-requires : goal.redo_step-requires
 redo_step-requires c =
     let x = c.args.script.now in
     record {
-      alone = alone x (sym c.is_some.ensures.value ∙ c.if-is_some.false);
+      alone = alone x (sym c.is_some.ensures ∙ c.if-is_some.false);
       left = rw c.in-Ok-Some.field-0-is at c.in-Ok-Some.ensures.left;
       changes = told_first afters (undone x.history) (changes_tree c.in-Ok-Some.list.items) (rw c.in-Ok-Some.field-0-is at c.in-Ok-Some.ensures.value);
       apart = rw c.in-Ok-Some.field-0-is at c.in-Ok-Some.ensures.apart;
@@ -50,7 +50,7 @@ returns-in-Ok-None-clause-does c =
     let none = told_nothing afters (undone x.history) (rw c.in-Ok-None.field-0-is at c.in-Ok-None.ensures.value) in
     let W : Vec ℕ Global → Type 0 = λ reply. reply.items ≡ error_line C.RedoWord in
     let Q : Vec ℕ Global → Type 0 = λ reply. IsChanged (change s C.Request.Redo) s s reply.items in
-    IfOk-weaker c.error_line-in-Ok-None.result W Q (λ reply p. redo_nothing s reply.items (ap (option_map replica_tree) (alone x (sym c.is_some.ensures.value ∙ c.if-is_some.false))) none p) c.error_line-in-Ok-None.ensures
+    IfOk-weaker c.error_line-in-Ok-None.result W Q (λ reply p. redo_nothing s reply.items (ap (option_map replica_tree) (alone x (sym c.is_some.ensures ∙ c.if-is_some.false))) none p) c.error_line-in-Ok-None.ensures
 
 pub returns-in-Ok-None-clause-touches : goal.returns-in-Ok-None-clause-touches
 returns-in-Ok-None-clause-touches c =

@@ -1,4 +1,4 @@
-use Rattle.std.proofs.Common.{◌≡◌, ap, subst, option_map}
+use Rattle.std.proofs.Common.{ap, subst, option_map}
 use Rattle.gl_edits.specs.Replicas.{Changes}
 use Rattle.gl_edits.specs.Steps.{afters}
 use Rattle.gl_calc.specs.View.{sheet_of}

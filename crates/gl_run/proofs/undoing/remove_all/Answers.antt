@@ -1,4 +1,4 @@
-use Rattle.std.proofs.Common.{◌≡◌, ◌∙◌, ◌+◌, ◌++◌, ◌∷◌, [], List, drop, ap, subst, arith, refl}
+use Rattle.std.proofs.Common.{◌∙◌, ◌+◌, ◌++◌, List, drop, ap, subst, arith, refl}
 use Rattle.std.proofs.lemmas.List.{drop_all}
 use Rattle.gl_calculus.specs.Grid.{Addr, Range}
 use Rattle.gl_protocol.specs.Commands.{without, places_in}
