@@ -22,11 +22,13 @@ use Rattle.gl_cells.specs.declared.fault.PutFault.TheVariants as put
 use Rattle.gl_calc.specs.View.{View, sheet_of}
 use Rattle.gl_merge.specs.Edit.{EditValue, IsProperOption, edit_tree}
 use Rattle.gl_merge.specs.Replica.{ReplicaValue, registers_of, replica_tree, AreOrdered, Makes}
+use Rattle.gl_merge.specs.Judging.{IsFor}
 use Rattle.gl_merge.specs.declared.fault.RoomFault.{RoomFault}
 use Rattle.gl_merge.specs.declared.fault.RoomFault.TheVariants as room
+use Rattle.gl_merge.specs.declared.judging.Judged.{Judged as CodeJudged}
 use Rattle.gl_merge.specs.Replica as replica
 use Rattle.gl_run.specs.Changed.{IsChanged, Puts}
-use Rattle.gl_run.specs.Merged.{IsMerged, IsJudgedIn, IsLater, IsKnown, HasRoom, IsFull, Rooms, CanTakeOne, Takes, IsExport}
+use Rattle.gl_run.specs.Merged.{IsMerged, IsJudgedIn, IsLater, IsKnown, Judges, HasRoom, IsFull, Rooms, CanTakeOne, Takes, IsExport}
 use Rattle.gl_run.specs.Replies.{IsRefusal, put_word, edit_lines}
 use Rattle.gl_run.specs.Script.{script_of}
 use Rattle.gl_run.specs.Touched.{is_later, touched_by, touched_by_one}
@@ -83,7 +85,7 @@ same_some : (o : Option Edit) (e : Edit) → IsJudged o e R.Judged.Same → IsSo
 same_some (Some r) e h = refl
 same_some None e h = absurd h
 
-some_there : (x : Script) (r : Replica) → (script_of x).replica ≡ Some r → (q : ReplicaValue) × (x.replica ≡ Some q) × (replica_tree q ≡ r)
+pub some_there : (x : Script) (r : Replica) → (script_of x).replica ≡ Some r → (q : ReplicaValue) × (x.replica ≡ Some q) × (replica_tree q ≡ r)
 some_there x r h = by x.replica refl h
   where
     by : (o : Option ReplicaValue) → x.replica ≡ o → option_map replica_tree o ≡ Some r → (q : ReplicaValue) × (x.replica ≡ Some q) × (replica_tree q ≡ r)
@@ -212,6 +214,11 @@ module _ (s : P.Script) (e : Edit) where
   pub known_touches : IsKnown s e → touched_by s (C.Request.Merge e) ≡ []
   known_touches (inl h) = ap (λ (b : Bool). cond b (touched_by_one s.sheet e.place e.content) []) (known_test (register_of s e.place) e (inl (judged_there s e h.0 h.1 R.Judged.Loses h.2)))
   known_touches (inr h) = ap (λ (b : Bool). cond b (touched_by_one s.sheet e.place e.content) []) (known_test (register_of s e.place) e (inr (judged_there s e h.0 h.1 R.Judged.Same h.2)))
+
+-- ---- what an edit is to a replica
+
+pub judges_by : (x : Script) (q : ReplicaValue) (e : EditValue) (j : CodeJudged) → x.replica ≡ Some q → IsFor (replica.register_of q e.place) (edit_tree e) j → Judges (script_of x) (edit_tree e) (Some j)
+judges_by x q e j is h = (replica_tree q, ap (option_map replica_tree) is, h)
 
 -- ---- the replica takes one
 

@@ -17,7 +17,7 @@ pub returns-then-is_some-clause-does : goal.returns-then-is_some-clause-does
 returns-then-is_some-clause-does c =
     let x = c.args.script.now in
     let s = script_of x in
-    let r = some_replica x (sym c.is_some.ensures.value ∙ c.if-is_some.true) in
+    let r = some_replica x (sym c.is_some.ensures ∙ c.if-is_some.true) in
     let W : Vec ℕ Global → Type 0 = λ reply. reply.items ≡ error_line C.SiteWord in
     let Q : Vec ℕ Global → Type 0 = λ reply. IsChanged (change s (C.Request.Site c.args.site)) s s reply.items in
     IfOk-weaker c.error_line.result W Q (λ reply p. site_in_replica s c.args.site r.0 reply.items r.1 p) c.error_line.ensures
@@ -32,7 +32,7 @@ returns-then-is_some-clause-touches c =
 pub returns-clause-does : goal.returns-clause-does
 returns-clause-does c =
     let x = c.args.script.now in
-    let none = alone x (sym c.is_some.ensures.value ∙ c.if-is_some.false) in
+    let none = alone x (sym c.is_some.ensures ∙ c.if-is_some.false) in
     site_done (script_of x) c.args.site (replica_tree c.new.result) (history_tree c.clear.new.self) c.in_ok-reply.reply.items (ap (option_map replica_tree) none)
     (omega (arith, c.contents.ensures.count)) c.new.ensures c.clear.ensures c.in_ok-reply.ensures
 
@@ -46,14 +46,14 @@ pub returns-then-contents-gt0-clause-does : goal.returns-then-contents-gt0-claus
 returns-then-contents-gt0-clause-does c =
     let x = c.args.script.now in
     let s = script_of x in
-    let none = alone x (sym c.is_some.ensures.value ∙ c.if-is_some.false) in
+    let none = alone x (sym c.is_some.ensures ∙ c.if-is_some.false) in
     let W : Vec ℕ Global → Type 0 = λ reply. reply.items ≡ error_line C.SiteWord in
     let Q : Vec ℕ Global → Type 0 = λ reply. IsChanged (change s (C.Request.Site c.args.site)) s s reply.items in
-    IfOk-weaker c.error_line.result W Q (λ reply p. site_too_late s c.args.site reply.items (ap (option_map replica_tree) none) (omega (arith, c.contents.ensures.count, c.if-contents-gt0.true)) p) c.error_line.ensures
+    IfOk-weaker c.error_line-then-contents-gt0.result W Q (λ reply p. site_too_late s c.args.site reply.items (ap (option_map replica_tree) none) (omega (arith, c.contents.ensures.count, c.if-contents-gt0.true)) p) c.error_line-then-contents-gt0.ensures
 
 pub returns-then-contents-gt0-clause-touches : goal.returns-then-contents-gt0-clause-touches
 returns-then-contents-gt0-clause-touches c =
     let K = known_of c.args.script.now in
     let W : Vec ℕ Global → Type 0 = λ reply. reply.items ≡ error_line C.SiteWord in
     let Q : Vec ℕ Global → Type 0 = λ reply. Touches reply.items [] K K in
-    IfOk-weaker c.error_line.result W Q (λ reply p. touches_kept [] K K refl (Some C.SiteWord) reply.items p) c.error_line.ensures
+    IfOk-weaker c.error_line-then-contents-gt0.result W Q (λ reply p. touches_kept [] K K refl (Some C.SiteWord) reply.items p) c.error_line-then-contents-gt0.ensures
