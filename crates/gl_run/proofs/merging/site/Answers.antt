@@ -1,4 +1,4 @@
-use Rattle.std.proofs.Common.{◌≡◌, ◌∙◌, ℕ, [], Some, Vec, Global, option_map, refl, sym, ap, arith}
+use Rattle.std.proofs.Common.{◌≡◌, ◌∙◌, ℕ, length, [], Some, Vec, Global, option_map, refl, sym, ap, arith}
 use Rattle.std.proofs.lemmas.Result.{IfOk-weaker}
 use Rattle.gl_protocol.specs.Commands as C
 use Rattle.gl_protocol.specs.Commands.{error_line}
@@ -34,7 +34,7 @@ returns-clause-does c =
     let x = c.args.script.now in
     let none = alone x (sym c.is_some.ensures ∙ c.if-is_some.false) in
     site_done (script_of x) c.args.site (replica_tree c.new.result) (history_tree c.clear.new.self) c.in_ok-reply.reply.items (ap (option_map replica_tree) none)
-    (omega (arith, c.contents.ensures.count)) c.new.ensures c.clear.ensures c.in_ok-reply.ensures
+    (omega (arith, c.contents.ensures.count, ap length c.cells.ensures, c.if-contents-gt0.false)) c.new.ensures c.clear.ensures c.in_ok-reply.ensures
 
 pub returns-clause-touches : goal.returns-clause-touches
 returns-clause-touches c =
@@ -49,7 +49,7 @@ returns-then-contents-gt0-clause-does c =
     let none = alone x (sym c.is_some.ensures ∙ c.if-is_some.false) in
     let W : Vec ℕ Global → Type 0 = λ reply. reply.items ≡ error_line C.SiteWord in
     let Q : Vec ℕ Global → Type 0 = λ reply. IsChanged (change s (C.Request.Site c.args.site)) s s reply.items in
-    IfOk-weaker c.error_line-then-contents-gt0.result W Q (λ reply p. site_too_late s c.args.site reply.items (ap (option_map replica_tree) none) (omega (arith, c.contents.ensures.count, c.if-contents-gt0.true)) p) c.error_line-then-contents-gt0.ensures
+    IfOk-weaker c.error_line-then-contents-gt0.result W Q (λ reply p. site_too_late s c.args.site reply.items (ap (option_map replica_tree) none) (omega (arith, c.contents.ensures.count, ap length c.cells.ensures, c.if-contents-gt0.true)) p) c.error_line-then-contents-gt0.ensures
 
 pub returns-then-contents-gt0-clause-touches : goal.returns-then-contents-gt0-clause-touches
 returns-then-contents-gt0-clause-touches c =
