@@ -1,4 +1,4 @@
-use Rattle.std.proofs.Common.{◌≡◌, sym, ap, subst}
+use Rattle.std.proofs.Common.{sym, ap, subst}
 use Rattle.gl_calculus.specs.Formula.{Cells}
 use Rattle.gl_protocol.specs.Commands as C
 use Rattle.gl_protocol.specs.Commands.{Is, places_in, without}

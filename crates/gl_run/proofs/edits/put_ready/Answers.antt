@@ -1,4 +1,4 @@
-use Rattle.std.proofs.Common.{◌≡◌, ℕ, [], ◌∷◌, Some, Err, Ok, Vec, Global, sym, subst}
+use Rattle.std.proofs.Common.{ℕ, [], ◌∷◌, Some, Err, Ok, Vec, Global, sym, subst}
 use Rattle.std.proofs.lemmas.Result.{IfOk-weaker}
 use Rattle.gl_protocol.specs.Commands as C
 use Rattle.gl_protocol.specs.Commands.{allowed, with_content}

@@ -1,4 +1,4 @@
-use Rattle.std.proofs.Common.{◌≡◌, ℕ, [], ◌∷◌, Some, Vec, Global, IfOk, sym, ap, subst}
+use Rattle.std.proofs.Common.{ℕ, [], ◌∷◌, Some, Vec, Global, IfOk, sym, ap, subst}
 use Rattle.std.proofs.lemmas.Result.{IfOk-weaker}
 use Rattle.gl_calculus.specs.Grid.{AreInOrder}
 use Rattle.gl_edits.specs.Replicas.{Changes}

@@ -1,4 +1,4 @@
-use Rattle.std.proofs.Common.{◌≡◌, [], List, sym, subst}
+use Rattle.std.proofs.Common.{[], List, sym, subst}
 use Rattle.gl_calculus.specs.Grid.{Addr}
 use Rattle.gl_merge.specs.Edit.{edit_tree}
 use Rattle.gl_run.specs.Script.{known_of, script_of}

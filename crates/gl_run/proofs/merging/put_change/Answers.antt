@@ -1,4 +1,4 @@
-use Rattle.std.proofs.Common.{◌≡◌, ◌∙◌, ◌++◌, Option, Ok, None, option_map, sym, ap, subst}
+use Rattle.std.proofs.Common.{◌∙◌, ◌++◌, Option, Ok, None, option_map, sym, ap, subst}
 use Rattle.gl_calculus.specs.Grid.{Range}
 use Rattle.gl_calculus.specs.Formula.{Cells}
 use Rattle.gl_protocol.specs.Commands.{Is, with_content, without, places_in}
