@@ -137,12 +137,35 @@ pub fn table_by(alloc: Global, ledger: &Ledger) -> Result<Memo<Key, Outcome, Ran
     Ok(notes)
 }
 
+/// One more note: that of a row of another ledger, whose book has its keys.
+fn add_row(
+    alloc: Global,
+    copy: &mut Ledger,
+    book: &Book,
+    row: &Row<Outcome, Range>,
+) -> Result<(), NoMemory>
+    requires below { IsBelow (length book.now) row.now }
+    requires kept { IsLedger copy.old }
+    requires new { is_noted (written copy.old) (key_at book.now row.now.by) ≡ false }
+    requires sound { IsSoundNote (named book.now (note_of row.now)) }
+    ensures ok { OnOk result
+        (written copy.new ≡ written copy.old ++ named book.now (note_of row.now) ∷ []) }
+    ensures kept { IsLedger copy.new }
+{
+    let key = book.key(row.by);
+    let note = note_by(alloc, book, row)?;
+    add_note(alloc, copy, key, &note)
+}
+
 /// The same notes once more, in a book of their keys alone.
 pub fn copy_ledger(alloc: Global, ledger: &Ledger) -> Result<Ledger, NoMemory>
     requires { IsLedger ledger.now }
     ensures notes { IfOk result (λ l. written l ≡ written ledger.now) }
     ensures kept { IfOk result IsLedger }
 {
-    let notes = table_by(alloc, ledger)?;
-    ledger_of(alloc, &notes)
+    let mut copy = Ledger::new(alloc);
+    for i in 0..ledger.rows.len() {
+        add_row(alloc, &mut copy, &ledger.book, &ledger.rows[i])?;
+    }
+    Ok(copy)
 }
