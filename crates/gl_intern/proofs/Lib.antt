@@ -2,7 +2,6 @@ pub mod Options
 pub mod Positions
 pub mod Growing
 pub mod Chains
-pub mod Exact
 pub mod Trees
 pub mod Numbers
 pub mod Keys

@@ -18,7 +18,7 @@ use Rattle.gl_intern.specs.contracts.short.ShortFramePartialEq.TheImpl.{ghosts a
 use Rattle.gl_intern.proofs.Options.{some_exact, map_some, then_some_is}
 use Rattle.gl_intern.proofs.Positions.{found_at, same_place}
 use Rattle.gl_intern.proofs.Chains.{chain, chain_exact}
-use Rattle.gl_intern.proofs.Exact.{override_equality, sheet_equality, frame_equality}
+use Rattle.gl_intern.specs.Exact.{override_equality, sheet_equality, frame_equality}
 
 module _ (t : Tables) where
   link_exact : (a b : Option ShortOverride) (n : Option ℕ) → override_link t a ≡ Some n → override_link t b ≡ Some n → a ≡ b

@@ -28,7 +28,11 @@ pub struct Interner {
 // One call wherever it is dropped, in place of one for each part.
 impl Drop for Interner {
     fn drop(self) {
-        let Interner { parts: _, sheets: _, frames: _ } = self;
+        let Interner {
+            parts: _,
+            sheets: _,
+            frames: _,
+        } = self;
     }
 }
 

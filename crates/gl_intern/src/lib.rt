@@ -12,6 +12,7 @@ mod laws;
 mod numbering;
 mod parts;
 mod short;
+mod words;
 
 pub use interner::Interner;
 pub use laws::short_forms_tell;

@@ -27,7 +27,14 @@ pub struct Parts {
 // One call wherever it is dropped, in place of one for each part.
 impl Drop for Parts {
     fn drop(self) {
-        let Parts { scalars: _, arrays: _, oracles: _, overrides: _, sheets: _, frames: _ } = self;
+        let Parts {
+            scalars: _,
+            arrays: _,
+            oracles: _,
+            overrides: _,
+            sheets: _,
+            frames: _,
+        } = self;
     }
 }
 

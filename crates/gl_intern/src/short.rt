@@ -3,7 +3,7 @@
 use gl_plane::{Addr, Range};
 
 /// A scalar: an integer itself, else its place among the plain scalars or the sheet values.
-#[derive(Clone, Copy, PartialEq, Eq, Hash, Debug)]
+#[derive(Clone, Copy, PartialEq, Eq, Debug)]
 pub enum ShortScalar {
     Int(i64),
     Plain(usize),
@@ -11,14 +11,14 @@ pub enum ShortScalar {
 }
 
 /// A value: a scalar, or the place of an array.
-#[derive(Clone, Copy, PartialEq, Eq, Hash, Debug)]
+#[derive(Clone, Copy, PartialEq, Eq, Debug)]
 pub enum ShortValue {
     One(ShortScalar),
     Array(usize),
 }
 
 /// An override behind those before it, which end at a place.
-#[derive(Clone, Copy, PartialEq, Eq, Hash, Debug)]
+#[derive(Clone, Copy, PartialEq, Eq, Debug)]
 pub struct ShortOverride {
     pub before: Option<usize>,
     pub at: Addr,
@@ -26,7 +26,7 @@ pub struct ShortOverride {
 }
 
 /// A sheet value: the place of its parent frame, none for the top, and its last override.
-#[derive(Clone, Copy, PartialEq, Eq, Hash, Debug)]
+#[derive(Clone, Copy, PartialEq, Eq, Debug)]
 pub struct ShortSheet {
     pub parent: Option<usize>,
     pub last: Option<ShortOverride>,
@@ -36,7 +36,7 @@ pub struct ShortSheet {
 }
 
 /// A frame but the top: the place of its oracle, and its sheet value.
-#[derive(Clone, Copy, PartialEq, Eq, Hash, Debug)]
+#[derive(Clone, Copy, PartialEq, Eq, Debug)]
 pub struct ShortFrame {
     pub oracle: usize,
     pub sheet: ShortSheet,

@@ -1,0 +1,52 @@
+-- Short forms as words, by which they are hashed.
+use Rattle.std.specs.Prelude.{ℕ, ℤ, pos, ◌+◌, ◌*◌, ◌-◌, ◌^◌, Option, Some, None}
+use Rattle.gl_calculus.specs.Grid.{Addr, Range}
+use Rattle.gl_plane.specs.Digest.{mixed}
+use Rattle.gl_intern.specs.declared.short.ShortScalar.{ShortScalar}
+use Rattle.gl_intern.specs.declared.short.ShortScalar.TheVariants.{Int, Plain, Sheet}
+use Rattle.gl_intern.specs.declared.short.ShortValue.{ShortValue}
+use Rattle.gl_intern.specs.declared.short.ShortValue.TheVariants.{One, Array}
+use Rattle.gl_intern.specs.declared.short.ShortOverride.{ShortOverride}
+use Rattle.gl_intern.specs.declared.short.ShortSheet.{ShortSheet}
+use Rattle.gl_intern.specs.declared.short.ShortFrame.{ShortFrame}
+
+abbrev pub place_word : Option ℕ → ℕ
+place_word None = 2 ^ 64 - 1
+place_word (Some n) = n
+
+abbrev pub address_word : Addr → ℕ
+address_word a = a.row * 65536 + a.col
+
+-- of an integer its kind alone
+abbrev pub value_word : ShortValue → ℕ
+value_word (One (Int n)) = 0
+value_word (One (Plain n)) = mixed 1 n
+value_word (One (Sheet n)) = mixed 2 n
+value_word (Array n) = mixed 3 n
+
+-- the integer that a value is, or 0
+abbrev pub value_int : ShortValue → ℤ
+value_int (One (Int n)) = n
+value_int (One (Plain n)) = pos 0
+value_int (One (Sheet n)) = pos 0
+value_int (Array n) = pos 0
+
+abbrev pub override_word : ShortOverride → ℕ
+override_word o = mixed (mixed (place_word o.before) (address_word o.at)) (value_word o.value)
+
+abbrev pub last_word : Option ShortOverride → ℕ
+last_word None = 0
+last_word (Some o) = override_word o
+
+abbrev pub last_int : Option ShortOverride → ℤ
+last_int None = pos 0
+last_int (Some o) = value_int o.value
+
+abbrev pub range_word : Range → ℕ
+range_word r = mixed (address_word r.first) (address_word r.last)
+
+abbrev pub sheet_word : ShortSheet → ℕ
+sheet_word s = mixed (mixed (place_word s.parent) (last_word s.last)) (range_word s.region)
+
+abbrev pub frame_word : ShortFrame → ℕ
+frame_word f = mixed (sheet_word f.sheet) f.oracle

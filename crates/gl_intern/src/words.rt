@@ -1,0 +1,154 @@
+//! Short forms are hashed by one word and one integer, however many parts they have.
+ghost use Rattle.std.specs.Prelude.{◌≡◌};
+ghost use Rattle.gl_plane.specs.Digest.{mixed};
+ghost use Rattle.gl_intern.specs.Words.{place_word, address_word, value_word, value_int, override_word, last_word, last_int, range_word, sheet_word, frame_word};
+
+use crate::short::{ShortFrame, ShortOverride, ShortScalar, ShortSheet, ShortValue};
+use gl_plane::{Addr, Range};
+use std::hash::{Hash, Hasher};
+
+/// The digest of words with one word more.
+fn mixed(digest: u64, word: u64) -> u64
+    ensures { result ≡ mixed digest word }
+{
+    (digest.rotate_left(5) ^ word).wrapping_mul(0x9E37_79B9_7F4A_7C15)
+}
+
+fn place_word(place: Option<usize>) -> u64
+    ensures { result ≡ place_word place }
+{
+    match place {
+        Some(n) => n as u64,
+        None => u64::MAX,
+    }
+}
+
+fn address_word(a: Addr) -> u64
+    ensures { result ≡ address_word a }
+{
+    u64::from(a.row()) * 65536 + u64::from(a.col())
+}
+
+fn value_word(value: ShortValue) -> u64
+    ensures { result ≡ value_word value }
+{
+    match value {
+        ShortValue::One(ShortScalar::Int(_)) => 0,
+        ShortValue::One(ShortScalar::Plain(n)) => mixed(1, n as u64),
+        ShortValue::One(ShortScalar::Sheet(n)) => mixed(2, n as u64),
+        ShortValue::Array(n) => mixed(3, n as u64),
+    }
+}
+
+fn value_int(value: ShortValue) -> i64
+    ensures { result ≡ value_int value }
+{
+    match value {
+        ShortValue::One(ShortScalar::Int(n)) => n,
+        ShortValue::One(ShortScalar::Plain(_)) => 0,
+        ShortValue::One(ShortScalar::Sheet(_)) => 0,
+        ShortValue::Array(_) => 0,
+    }
+}
+
+fn override_word(o: &ShortOverride) -> u64
+    ensures { result ≡ override_word o.now }
+{
+    mixed(
+        mixed(place_word(o.before), address_word(o.at)),
+        value_word(o.value),
+    )
+}
+
+fn last_word(last: &Option<ShortOverride>) -> u64
+    ensures { result ≡ last_word last.now }
+{
+    match last {
+        Some(o) => override_word(o),
+        None => 0,
+    }
+}
+
+fn last_int(last: &Option<ShortOverride>) -> i64
+    ensures { result ≡ last_int last.now }
+{
+    match last {
+        Some(o) => value_int(o.value),
+        None => 0,
+    }
+}
+
+fn range_word(r: &Range) -> u64
+    ensures { result ≡ range_word r.now }
+{
+    mixed(address_word(r.first()), address_word(r.last()))
+}
+
+fn sheet_word(s: &ShortSheet) -> u64
+    ensures { result ≡ sheet_word s.now }
+{
+    mixed(
+        mixed(place_word(s.parent), last_word(&s.last)),
+        range_word(&s.region),
+    )
+}
+
+fn frame_word(f: &ShortFrame) -> u64
+    ensures { result ≡ frame_word f.now }
+{
+    mixed(sheet_word(&f.sheet), f.oracle as u64)
+}
+
+impl Hash for ShortOverride {
+    ghost use Rattle.std.specs.Hash as fed;
+    ghost use Rattle.std.specs.Prelude.{◌++◌};
+    ghost use Rattle.std.proofs.Common.{ap};
+    ghost use Rattle.gl_intern.specs.Exact.{override_equality};
+    ghost use Rattle.gl_intern.specs.Words.{override_word, value_int};
+
+    ghost hash_input = { λ o. fed.u64 (override_word o) ++ fed.i64 (value_int o.value) };
+
+    ghost respects_eq = { λ a b h. ap (λ o. fed.u64 (override_word o) ++ fed.i64 (value_int o.value))
+        (override_equality.0 a b h) };
+
+    fn hash<H: Hasher>(&self, state: &mut H) {
+        override_word(self).hash(state);
+        value_int(self.value).hash(state);
+    }
+}
+
+impl Hash for ShortSheet {
+    ghost use Rattle.std.specs.Hash as fed;
+    ghost use Rattle.std.specs.Prelude.{◌++◌};
+    ghost use Rattle.std.proofs.Common.{ap};
+    ghost use Rattle.gl_intern.specs.Exact.{sheet_equality};
+    ghost use Rattle.gl_intern.specs.Words.{sheet_word, last_int};
+
+    ghost hash_input = { λ s. fed.u64 (sheet_word s) ++ fed.i64 (last_int s.last) };
+
+    ghost respects_eq = { λ a b h. ap (λ s. fed.u64 (sheet_word s) ++ fed.i64 (last_int s.last))
+        (sheet_equality.0 a b h) };
+
+    fn hash<H: Hasher>(&self, state: &mut H) {
+        sheet_word(self).hash(state);
+        last_int(&self.last).hash(state);
+    }
+}
+
+impl Hash for ShortFrame {
+    ghost use Rattle.std.specs.Hash as fed;
+    ghost use Rattle.std.specs.Prelude.{◌++◌};
+    ghost use Rattle.std.proofs.Common.{ap};
+    ghost use Rattle.gl_intern.specs.Exact.{frame_equality};
+    ghost use Rattle.gl_intern.specs.Words.{frame_word, last_int};
+
+    ghost hash_input = { λ f. fed.u64 (frame_word f) ++ fed.i64 (last_int f.sheet.last) };
+
+    ghost respects_eq = { λ a b h. ap (λ f. fed.u64 (frame_word f) ++ fed.i64 (last_int f.sheet.last))
+        (frame_equality.0 a b h) };
+
+    fn hash<H: Hasher>(&self, state: &mut H) {
+        frame_word(self).hash(state);
+        last_int(&self.sheet.last).hash(state);
+    }
+}
