@@ -6,6 +6,8 @@ mod calls;
 #[cfg(test)]
 mod cuts;
 #[cfg(test)]
+mod edits;
+#[cfg(test)]
 mod functions;
 #[cfg(test)]
 mod long;

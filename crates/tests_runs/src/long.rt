@@ -7,17 +7,17 @@ use std::test::Fail;
 
 /// Bytes, once or so many times, or a line for each number from 1 to the last.
 #[derive(Clone, Copy)]
-enum Part {
+pub enum Part {
     Once(&'static [u8]),
     Times(&'static [u8], usize),
     Lines(&'static str, usize, &'static str),
 }
 
 /// The parts of a script and of its replies.
-struct Long {
-    script: &'static [Part],
-    replies: &'static [Part],
-    refused: bool,
+pub struct Long {
+    pub script: &'static [Part],
+    pub replies: &'static [Part],
+    pub refused: bool,
 }
 
 const LINES: [Long; 9] = [
@@ -205,7 +205,7 @@ fn joined(alloc: Global, parts: &[Part]) -> Result<Vec<u8>, NoMemory> {
 }
 
 /// The script has these replies by each pick rule.
-fn long_holds(alloc: Global, long: &Long) -> Result<bool, Fail> {
+pub fn long_holds(alloc: Global, long: &Long) -> Result<bool, Fail> {
     let script = joined(alloc, long.script)?;
     let replies = joined(alloc, long.replies)?;
     holds(
