@@ -54,6 +54,46 @@ fn shape(results: &Results, name: &str) -> Result<Shape, Fail> {
     ))
 }
 
+/// The results say the same of a row and the chain before and behind tidying: of the chain, its
+/// copy, the settling of that, and the cell.
+fn tidied(at: &Setting<'_>, results: Results, name: &str, row: u16) -> Result<Results, Fail>
+    requires { AreTrue same_key (program (version_tree at.now.version) (sheet at.now.cells.now) at.now.w.now) results }
+    ensures { IfOk result (AreTrue same_key (program (version_tree at.now.version) (sheet at.now.cells.now) at.now.w.now)) }
+{
+    let want = (
+        60,
+        Some(Sight::Number(34)),
+        Some(Sight::Number(6)),
+        Some(copied(row)),
+    );
+    let mut results = results;
+    let before = shape(&results, name)?;
+    results.tidy(at.alloc);
+    if before != want || shape(&results, name)? != want {
+        return Err("other results".into());
+    }
+    Ok(results)
+}
+
+/// A run of the copy in a row goes by the results alone, and leaves them.
+fn again(
+    at: &Setting<'_>,
+    results: Results,
+    name: &str,
+    row: u16,
+    kind: u8,
+) -> Result<Results, Fail>
+    requires kind { kind ≤ 2 }
+    requires true_notes { AreTrue same_key (program (version_tree at.now.version) (sheet at.now.cells.now) at.now.w.now) results }
+    ensures { IfOk result (AreTrue same_key (program (version_tree at.now.version) (sheet at.now.cells.now) at.now.w.now)) }
+{
+    let ran = run_with(at, &[name], results, kind)?;
+    if (ran.known, ran.steps) != (60, 0) || ran.seen.first() != Some(&copied(row)) {
+        return Err("another run".into());
+    }
+    Ok(ran.results)
+}
+
 /// The results of the copy in a row, behind those of the row before, whose formula is as good as
 /// gone: as many however often they are tidied, and a run goes by them alone.
 fn next(at: &Setting<'_>, results: Results, row: u16, kind: u8) -> Result<Results, Fail>
@@ -62,31 +102,12 @@ fn next(at: &Setting<'_>, results: Results, row: u16, kind: u8) -> Result<Result
     ensures { IfOk result (AreTrue same_key (program (version_tree at.now.version) (sheet at.now.cells.now) at.now.w.now)) }
 {
     let above = row.saturating_sub(1).max(1);
+    let gone = format!(in at.alloc; "D{above}:D{above}")?;
+    let kept = kept_after(at, results, gone.as_str())?;
     let name = format!(in at.alloc; "D{row}")?;
-    // the chain, its copy, the settling of that, and the cell
-    let want = (
-        60,
-        Some(Sight::Number(34)),
-        Some(Sight::Number(6)),
-        Some(copied(row)),
-    );
-    let kept = kept_after(
-        at,
-        results,
-        format!(in at.alloc; "D{above}:D{above}")?.as_str(),
-    )?;
     let ran = run_with(at, &[name.as_str()], kept, kind)?;
-    let mut tidied = ran.results;
-    let before = shape(&tidied, &name)?;
-    tidied.tidy(at.alloc);
-    if before != want || shape(&tidied, &name)? != want {
-        return Err("other results".into());
-    }
-    let again = run_with(at, &[name.as_str()], tidied, kind)?;
-    if (again.known, again.steps) != (60, 0) || again.seen.first() != Some(&copied(row)) {
-        return Err("another run".into());
-    }
-    Ok(again.results)
+    let tidied = tidied(at, ran.results, name.as_str(), row)?;
+    again(at, tidied, name.as_str(), row, kind)
 }
 
 /// How many results there are behind a hundred rows.
