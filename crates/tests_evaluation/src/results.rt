@@ -129,10 +129,11 @@ const CHANGES: [Change; 6] = [
         kept: 1,
         each: [[1, 1, 0], [1, 2, 0], [1, 1, 0]],
     },
+    // B1 stays, and is known from the start: by no rule is C1 evaluated before it
     Change {
         place: "C1:C1",
         kept: 2,
-        each: [[0, 1, 0], [0, 2, 0], [0, 1, 0]],
+        each: [[0, 1, 0], [0, 1, 0], [0, 1, 0]],
     },
     Change {
         place: "D1:D1",
