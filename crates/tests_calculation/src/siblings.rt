@@ -13,13 +13,13 @@ fn put_copy(alloc: Global, calc: &mut Calc, row: u16) -> Result<(), Fail> {
     edit(alloc, calc, line.as_str())
 }
 
-/// A copy for each of 300 rows, and in each copy one that changes nothing.
+/// A copy for each of 3,000 rows, and in each copy one that changes nothing.
 fn siblings(alloc: Global) -> Result<Calc, Fail> {
     let mut calc = calc_of(
         alloc,
         &["set A1 1", "set B1 =A1*10", "set C1 =VIEW(SHEET(B1),B1)"],
     )?;
-    for row in 1..301u16 {
+    for row in 1..3_001u16 {
         put_copy(alloc, &mut calc, row)?;
     }
     Ok(calc)
@@ -36,8 +36,8 @@ const BEHIND: [Sheet; 3] = [
             ("E1", "10"),
             ("E2", "20"),
             ("E150", "1500"),
-            ("E299", "2990"),
-            ("E300", "3000"),
+            ("E2999", "29990"),
+            ("E3000", "30000"),
         ],
         whys: &[("E1", "none")],
     },
@@ -50,7 +50,7 @@ const BEHIND: [Sheet; 3] = [
             ("C1", "20"),
             ("E1", "20"),
             ("E150", "3000"),
-            ("E300", "6000"),
+            ("E3000", "60000"),
         ],
         whys: &[],
     },
