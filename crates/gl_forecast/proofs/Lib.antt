@@ -1,0 +1,17 @@
+pub mod WorkedForecasts
+pub mod Finite
+pub mod Alike
+pub mod Nodes
+pub mod Orders
+pub mod Oracles
+pub mod Permits
+pub mod Sound
+pub mod Shapes
+pub mod Positive
+pub mod Calls
+pub mod Reading
+pub mod Evaluating
+pub mod Values
+pub mod Settling
+pub mod Answering
+pub mod Once

@@ -1,0 +1,9 @@
+use Rattle.gl_forecast.proofs.Answering.{yes_settles}
+use Rattle.gl_forecast.proofs.Once.{one_forecast}
+use Rattle.gl_forecast.proofs.forecast_laws.Goals as goal
+
+pub returns-clause-one : goal.returns-clause-one
+returns-clause-one g = one_forecast
+
+pub returns-clause-settles : goal.returns-clause-settles
+returns-clause-settles g = yes_settles

@@ -1,0 +1,2 @@
+pub mod Forecast
+pub mod Laws
