@@ -15,3 +15,4 @@ pub mod Values
 pub mod Settling
 pub mod Answering
 pub mod Once
+pub mod Exists

@@ -13,7 +13,7 @@ same_node (Value a) (Value b) = same_addr a b
 same_node (Entry a) (Entry b) = same_addr a b
 same_node m n = false
 
-node_exact : (m n : Node) → same_node m n ≡ true → m ≡ n
+pub node_exact : (m n : Node) → same_node m n ≡ true → m ≡ n
 node_exact (Value a) (Value b) e = ap Value (addr_exact a b e)
 node_exact (Entry a) (Entry b) e = ap Entry (addr_exact a b e)
 node_exact (Value a) (Entry b) e = absurd (cc e)

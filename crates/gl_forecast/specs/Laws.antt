@@ -8,7 +8,11 @@ use Rattle.gl_calculus.specs.Calculation.{IsAnswer, Settled, IsShown, Cycle}
 use Rattle.gl_sound.specs.Fit.{AreFit}
 use Rattle.gl_forecast.specs.Forecast.{Yes, Forecast, IsForecast}
 
--- Two forecasts of one sheet are the same.
+-- A sheet has a forecast.
+abbrev pub SomeForecast : Type 0
+SomeForecast = (S : Cells) → (x : Forecast) × IsForecast S x
+
+-- It has no other one: two forecasts of a sheet are the same.
 abbrev pub OneForecast : Type 0
 OneForecast = (S : Cells) (x y : Forecast) → IsForecast S x → IsForecast S y → x ≡ y
 

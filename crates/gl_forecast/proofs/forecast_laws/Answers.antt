@@ -1,6 +1,10 @@
 use Rattle.gl_forecast.proofs.Answering.{yes_settles}
+use Rattle.gl_forecast.proofs.Exists.{some_forecast}
 use Rattle.gl_forecast.proofs.Once.{one_forecast}
 use Rattle.gl_forecast.proofs.forecast_laws.Goals as goal
+
+pub returns-clause-some : goal.returns-clause-some
+returns-clause-some g = some_forecast
 
 pub returns-clause-one : goal.returns-clause-one
 returns-clause-one g = one_forecast
