@@ -21,7 +21,7 @@ use Rattle.gl_sound.proofs.Values.{IsSoundValue, AllSoundValues}
 use Rattle.gl_sound.proofs.Operators.{negate_sound, compare_sound, operate_sound}
 use Rattle.gl_sound.proofs.Lift.{lift1_sound, lift2_sound, lift3_sound}
 use Rattle.gl_sound.proofs.Functions.{Enough, apply_sound}
-use Rattle.gl_forecast.proofs.Sound.{chosen_sound, replaced_sound, takes_enough}
+use Rattle.gl_sound.proofs.Evaluation.{chosen_sound, replaced_sound, takes_enough}
 use Rattle.gl_forecast.specs.Forecast as Fo
 use Rattle.gl_forecast.specs.Forecast.{Shape, Shapes, shape, shapes, operand_shapes, joined, all_joined, Node, Entry, Piece, Reads, Spills, Calls, pieces, all_pieces, operand_pieces, piece_nodes, piece_makes, makes_sheets, spilled_shape}
 use Rattle.gl_forecast.proofs.Alike.{both_return, alike_weaken}
@@ -201,7 +201,7 @@ module _ (version : Version) (S : Cells) (fit : AreFit S) (w w' : Oracle) (fits 
   from sb f q h g = alike_weaken (Gets (IsOf (shape sp sb f))) (Gets (IsFrom sb f)) (elim [ Ok v ↦ λ k. (k.0, k.1, h v k) | Err b ↦ λ k. absurd k ]) g
 
   enough : (bs : Bindings) (f : Fun) (fs : Formulas) → IsTrue (takes f fs) → Enough f (length (E.arguments version Top bs fs))
-  enough bs f fs h = takes_enough version Top bs f fs h
+  enough bs f fs h = takes_enough S w fit version Top bs f fs h
 
   mutual
     pub eval_good : (bs : Bindings) (sb : Shapes) (f : Formula) → Bound bs sb → IsTrue (is_fit f) → AllFine (pieces f) → Good (IsFrom sb f) (E.eval version Top bs f)

@@ -5,7 +5,6 @@ pub mod Nodes
 pub mod Orders
 pub mod Oracles
 pub mod Permits
-pub mod Sound
 pub mod Shapes
 pub mod Positive
 pub mod Calls

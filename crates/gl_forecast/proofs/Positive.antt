@@ -8,8 +8,7 @@ use Rattle.gl_calculus.specs.Formula.{Formula, Formulas, Operands, Fun, Content,
 use Rattle.gl_calculus.specs.Formula as F
 use Rattle.gl_sound.specs.Fit.{takes, is_fit, are_fit, are_fit_operands, AreFit}
 use Rattle.gl_sound.proofs.Values.{extents_of}
-use Rattle.gl_sound.proofs.References.{FitContent}
-use Rattle.gl_forecast.proofs.Sound.{content_fit}
+use Rattle.gl_sound.proofs.References.{FitContent, content_fit}
 use Rattle.gl_forecast.specs.Forecast as Fo
 use Rattle.gl_forecast.specs.Forecast.{Shape, Shapes, full, any_size, joined, all_joined, under, beside, shape, shapes, operand_shapes, content_shape, spilled_shape}
 use Rattle.gl_forecast.proofs.Shapes.{IsPositive, AllPositive, full_positive, joined_positive, all_joined_positive, cut_positive}

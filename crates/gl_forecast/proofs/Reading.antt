@@ -15,7 +15,7 @@ use Rattle.gl_calculus.specs.Reference.{held_top, value_of, own, spilling, Readi
 use Rattle.gl_calculus.proofs.Proper.{fact_at_single}
 use Rattle.gl_sound.specs.Fit.{AreFit}
 use Rattle.gl_sound.proofs.Values.{IsSound, AllSound, IsSoundValue, array_sound, extents_of}
-use Rattle.gl_forecast.proofs.Sound.{content_fit, shown_sound, spilled_sound, facts_count}
+use Rattle.gl_sound.proofs.References.{content_fit, shown_sound, spilled_sound, facts_count}
 use Rattle.gl_sound.proofs.Sheets.{SoundIf}
 use Rattle.gl_forecast.specs.Forecast as Fo
 use Rattle.gl_forecast.specs.Forecast.{Node, Entry, spilled_shape, covering, cell_nodes, address_nodes, spill_nodes}

@@ -16,7 +16,7 @@ use Rattle.gl_calculus.specs.Evaluation.{program, evaluation, cell_value, eval}
 use Rattle.gl_calculus.proofs.Proper.{fact_at_single}
 use Rattle.gl_calculus.proofs.Settles.{formula_listed}
 use Rattle.gl_sound.specs.Fit.{is_fit, AreFit}
-use Rattle.gl_forecast.proofs.Sound.{content_fit}
+use Rattle.gl_sound.proofs.References.{content_fit}
 use Rattle.gl_forecast.specs.Forecast as Fo
 use Rattle.gl_forecast.specs.Forecast.{Node, Entry, Piece, pieces, content_pieces, piece_nodes, piece_makes, dependences, uses_sheets, spilled_shape}
 use Rattle.gl_forecast.proofs.Alike.{Alike, both_return, both_look, alike_bind, alike_weaken, alike_asked, gives_both}

@@ -32,14 +32,14 @@ use Rattle.gl_sound.proofs.References.{SoundFrame, FitHeld, own_fit, FitFacts, a
 
 -- ---- rules on scalars
 
-chosen_sound : (c x y : Scalar) → IsSound c → IsSound x → IsSound y → IsSound (E.chosen c x y)
+pub chosen_sound : (c x y : Scalar) → IsSound c → IsSound x → IsSound y → IsSound (E.chosen c x y)
 chosen_sound (Scalar.Bool true) x y h k l = k
 chosen_sound (Scalar.Bool false) x y h k l = l
 chosen_sound Scalar.Blank x y h k l = l
 chosen_sound (Scalar.Err e) x y h k l = refl
 chosen_sound c x y h k l = refl
 
-replaced_sound : (x y : Scalar) → IsSound x → IsSound y → IsSound (E.in_place_of_error x y)
+pub replaced_sound : (x y : Scalar) → IsSound x → IsSound y → IsSound (E.in_place_of_error x y)
 replaced_sound (Scalar.Err k) y h l = l
 replaced_sound x y h l = h
 
@@ -162,7 +162,7 @@ module _ (S : Cells) (w : Oracle) where
       good_call e F.Fun.This [] s n g = keeps_return (this_sound e s)
       good_call e f xs s n g = good_apply f xs n g
 
-      takes_enough : (e : Frame) (bs : Bindings) (f : Fun) (fs : Formulas) → IsTrue (takes f fs) → Enough f (length (E.arguments version e bs fs))
+      pub takes_enough : (e : Frame) (bs : Bindings) (f : Fun) (fs : Formulas) → IsTrue (takes f fs) → Enough f (length (E.arguments version e bs fs))
       takes_enough e bs F.Fun.HStack (F.Formulas.formula_and f fs) h = omega arith
       takes_enough e bs F.Fun.VStack (F.Formulas.formula_and f fs) h = omega arith
       takes_enough e bs F.Fun.HStack F.Formulas.no_formula h = absurd (cc h)

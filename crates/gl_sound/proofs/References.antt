@@ -40,7 +40,7 @@ content_if : (b : Bool) (x y : Option Content) → FitContent x → FitContent y
 content_if true x y h k = h
 content_if false x y h k = k
 
-content_fit : (S : Cells) (a : Addr) → AreFit S → FitContent (content S a)
+pub content_fit : (S : Cells) (a : Addr) → AreFit S → FitContent (content S a)
 content_fit [] a h = tt
 content_fit (c ∷ cs) a h = content_if (same_addr a c.0) (Some c.1) (content cs a) h.0 (content_fit cs a h.1)
 
@@ -103,13 +103,13 @@ at_fit xs a h = or_fit a (find_fact xs a) (found_fit xs a h)
 
 -- ---- what is read
 
-shown_sound : (p : Option Permit) (v : Value) → IsSoundValue v → IsSound (shown p v)
+pub shown_sound : (p : Option Permit) (v : Value) → IsSoundValue v → IsSound (shown p v)
 shown_sound p (One x) h = h
 shown_sound (Some V.Permit.Refused) (Array s xs) h = refl
 shown_sound (Some V.Permit.Permitted) (Array s xs) h = item_sound (Array s xs) 0 0 h
 shown_sound None (Array s xs) h = item_sound (Array s xs) 0 0 h
 
-spilled_sound : (v : Option Value) (i j : ℕ) → SoundIf v → IsSound (spilled v i j)
+pub spilled_sound : (v : Option Value) (i j : ℕ) → SoundIf v → IsSound (spilled v i j)
 spilled_sound (Some (Array s xs)) i j h = item_or_sound Scalar.Blank (Array s xs) i j refl h
 spilled_sound (Some (One x)) i j h = refl
 spilled_sound None i j h = refl
@@ -127,7 +127,7 @@ module _ (S : Cells) (w : Oracle) where
   pub facts_fit : AreFit S → (r : Range) → FitFacts (facts S w r)
   facts_fit fit r = facts_at fit (addresses r)
 
-  facts_count : (r : Range) → length (facts S w r) ≡ (extents r).rows * (extents r).cols
+  pub facts_count : (r : Range) → length (facts S w r) ≡ (extents r).rows * (extents r).cols
   facts_count r =
       length-map (addresses r) (fact S w) ∙ table_length (λ i j. addr j i) r.first.col (extents r).cols (range_with_len r.first.row (extents r).rows)
       ∙ ap (λ n. n * (extents r).cols) (length-range_with_len r.first.row (extents r).rows)
