@@ -3,7 +3,7 @@ use crate::calls::{Row, holds};
 use std::test::Fail;
 
 /// Scripts of replicas, and of steps that are undone and done again.
-const ROWS: [Row<'static>; 10] = [
+const ROWS: [Row<'static>; 14] = [
     // a replica takes the edits of others, and exports its registers
     Row {
         script: b"site 2\nset A1 7\nedit 2 1 A1 6\nshow A1\nset B1 =A1\nexport\n",
@@ -15,6 +15,27 @@ const ROWS: [Row<'static>; 10] = [
         script: b"site 3\nedit 3 2 B1 =A1\nedit 1 2 A1 7\nedit 2 1 A1 6\nedit 1 2 A1 7\nshow B1\nedit 2 1 A1 8\nclear A1\nexport\n",
         replies: b"ok\nok\nok\nok\nok\n6\nerror conflict\nok\nexport 2\nedit 4 3 A1\nedit 3 2 B1 =A1\n",
         refused: true,
+    },
+    // what these two export is taken by another one, forth and back
+    Row {
+        script: b"site 4\nedit 2 1 A1 6\nedit 3 2 B1 =A1\nshow B1\nexport\n",
+        replies: b"ok\nok\nok\n6\nexport 2\nedit 2 1 A1 6\nedit 3 2 B1 =A1\n",
+        refused: false,
+    },
+    Row {
+        script: b"site 4\nedit 3 2 B1 =A1\nedit 2 1 A1 6\nedit 3 2 B1 =A1\nshow B1\nexport\n",
+        replies: b"ok\nok\nok\nok\n6\nexport 2\nedit 2 1 A1 6\nedit 3 2 B1 =A1\n",
+        refused: false,
+    },
+    Row {
+        script: b"site 4\nedit 4 3 A1\nedit 3 2 B1 =A1\nget B1\nexport\n",
+        replies: b"ok\nok\nok\n=A1\nexport 2\nedit 4 3 A1\nedit 3 2 B1 =A1\n",
+        refused: false,
+    },
+    Row {
+        script: b"site 4\nedit 3 2 B1 =A1\nedit 4 3 A1\nedit 2 1 A1 6\nget B1\nexport\n",
+        replies: b"ok\nok\nok\nok\n=A1\nexport 2\nedit 4 3 A1\nedit 3 2 B1 =A1\n",
+        refused: false,
     },
     // at the last time there is no next stamp
     Row {
