@@ -23,7 +23,8 @@ use Rattle.gl_calculus.specs.Costs.{Finishes}
 use Rattle.gl_calculus.proofs.Tests.{key_equality}
 use Rattle.gl_core.specs.Held.{Held}
 use Rattle.gl_core.specs.State.{State, state_of, seeds_of, notes_in, is_noted, IsFor}
-use Rattle.gl_core.specs.Answers.{AllowsKnown, AllowsDemanded}
+use Rattle.gl_demand.specs.Steps.{AllowsDemanded}
+use Rattle.gl_core.specs.Answers.{AllowsKnown}
 use Rattle.gl_calc.specs.Costs.{Breaks}
 use Rattle.gl_calc.specs.Kept.{AreKept}
 use Rattle.gl_calc.specs.Shown.{IsRound}

@@ -1,20 +1,17 @@
 -- What an address shows by what is seen of formula cells.
 use Rattle.std.proofs.Common.{◌≡◌, ◌⊎◌, inl, inr, Bool, true, false, if◌then◌else◌, ℕ, zero, suc, [], ◌∷◌, Option, Some, None, Result, Ok, refl, sym, ap, subst, ◌∙◌, option_map}
 use Rattle.gl_query.specs.Query.{run, val, Has}
-use Rattle.gl_query.specs.Evaluation.{given}
 use Rattle.gl_calculus.specs.Grid.{Addr}
 use Rattle.gl_calculus.specs.Value as V
 use Rattle.gl_calculus.specs.Value.{Oracle, Permit, Scalar, Blank, Value, Frame, Top}
 use Rattle.gl_calculus.specs.Formula.{Version, Formula, Content, Const, Form, Cells, content}
 use Rattle.gl_calculus.specs.Oracle.{status, Cover, cover}
-use Rattle.gl_calculus.specs.Facts.{Fact, fact, facts}
 use Rattle.gl_calculus.specs.Key as K
 use Rattle.gl_calculus.specs.Key.{Cell, Outcome, Eval, same_key, give, ◌>>=◌}
-use Rattle.gl_calculus.specs.Reference.{Reading, own, shown, spilled, deref}
-use Rattle.gl_calculus.specs.Evaluation.{program, evaluation, cell_value}
+use Rattle.gl_calculus.specs.Reference.{shown, spilled}
+use Rattle.gl_calculus.specs.Evaluation.{program}
 use Rattle.gl_calculus.specs.Calculation as C
 use Rattle.gl_calculus.specs.Calculation.{IsShown, TopHas, TopLoops}
-use Rattle.gl_calculus.proofs.Proper.{fact_at_single}
 use Rattle.gl_plane.specs.Entries.{offsets}
 use Rattle.gl_query.specs.Lists.{Member}
 use Rattle.gl_query.specs.Machine.{Seed}
@@ -27,15 +24,9 @@ use Rattle.gl_calculus.specs.Memory.{Table, Notes, IsTableOf}
 use Rattle.gl_calculus.specs.Calculation.{DemandedIn}
 use Rattle.gl_calculus.proofs.Settles.{formula_listed}
 use Rattle.gl_calculus.proofs.Tests.{key_equality}
+use Rattle.gl_calculus.proofs.Shows.{formula_shows, blank_shows, element_shows}
 use Rattle.gl_core.specs.Results.{outcome_in}
 use Rattle.gl_calc.proofs.Formulas.{key_member}
-
--- an address is read, by its fact; and a covering root, by its own
-abbrev read : Fact → Eval Value
-read x = deref Top [] x >>= λ (y : Reading). give {R = Value} (V.One y.0)
-
-abbrev read_root : Cover → Fact → Eval Value
-read_root c x = (own Top x >>= λ (v : Option Value). give {R = Reading} (spilled v c.rows c.cols, x ∷ [])) >>= λ (y : Reading). give {R = Value} (V.One y.0)
 
 -- ---- notes by their outcomes
 
@@ -57,45 +48,6 @@ unnoted (n ∷ ns) k e m = by (same_key k n.key) refl e m (unnoted ns k)
     by false t d (inr i) r = r d i
 
 module _ (version : Version) (S : Cells) (w : Oracle) where
-  abbrev reads : ℕ → Eval Value → Option (Result Value K.Budget)
-  reads n p = run (val (program version S w) n) (given (facts S w) p)
-
-  -- what an address shows by its fact
-  by_fact : (a : Addr) (x : Scalar) (n : ℕ) → reads n (read (fact S w a)) ≡ Some (Ok (V.One x)) → IsShown version S w a (C.Shown.Value x)
-  by_fact a x n h = C.value (n, subst (λ u. reads n (read u) ≡ Some (Ok (V.One x))) (sym (fact_at_single S w a)) h)
-
-  -- what an address without content shows by the fact of the root that covers it
-  by_root : (a : Addr) (c : Cover) (x : Scalar) (n : ℕ) → content S a ≡ None → cover w a ≡ Some c → reads n (read_root c (fact S w c.root)) ≡ Some (Ok (V.One x)) → IsShown version S w a (C.Shown.Value x)
-  by_root a c x n e q h = by_fact a x n (rw (e, q) (subst (λ u. reads n (read_root c u) ≡ Some (Ok (V.One x))) (sym (fact_at_single S w c.root)) h))
-
-  pub constant_shows : (a : Addr) (x : Scalar) → content S a ≡ Some (Const x) → IsShown version S w a (C.Shown.Value x)
-  constant_shows a x e = by_fact a x 0 (rw e refl)
-
-  pub formula_shows : (a : Addr) (f : Formula) (v : Value) → content S a ≡ Some (Form f) → TopHas version S w a (Outcome.Value v) → IsShown version S w a (C.Shown.Value (shown (status w a) v))
-  formula_shows a f v e (n, h) = by_fact a (shown (status w a) v) n (rw (e, h) refl)
-
-  pub blank_shows : (a : Addr) → content S a ≡ None → cover w a ≡ None → IsShown version S w a (C.Shown.Value Blank)
-  blank_shows a e q = by_fact a Blank 0 (rw (e, q) refl)
-
-  -- the value of a cell that holds no formula
-  constant_value : (a : Addr) (x : Scalar) (v : Value) → content S a ≡ Some (Const x) → TopHas version S w a (Outcome.Value v) → v ≡ V.One x
-  unfolding program evaluation cell_value
-  constant_value a x v e (zero, h) = absurd (cc h)
-  constant_value a x v e (suc n, h) = cc (rw (fact_at_single S w a, e) at h)
-
-  nothing_value : (a : Addr) (v : Value) → content S a ≡ None → TopHas version S w a (Outcome.Value v) → v ≡ V.One Blank
-  unfolding program evaluation cell_value
-  nothing_value a v e (zero, h) = absurd (cc h)
-  nothing_value a v e (suc n, h) = cc (rw (fact_at_single S w a, e) at h)
-
-  pub element_shows : (a : Addr) (c : Cover) (v : Value) → content S a ≡ None → cover w a ≡ Some c → TopHas version S w c.root (Outcome.Value v) → IsShown version S w a (C.Shown.Value (spilled (Some v) c.rows c.cols))
-  element_shows a c v e q (n, h) = by (content S c.root) refl
-    where
-      by : (o : Option Content) → content S c.root ≡ o → IsShown version S w a (C.Shown.Value (spilled (Some v) c.rows c.cols))
-      by None d = subst (λ u. IsShown version S w a (C.Shown.Value (spilled (Some u) c.rows c.cols))) (sym (nothing_value c.root v d (n, h))) (by_root a c Blank 0 e q (rw d refl))
-      by (Some (Const x)) d = subst (λ u. IsShown version S w a (C.Shown.Value (spilled (Some u) c.rows c.cols))) (sym (constant_value c.root x v d (n, h))) (by_root a c Blank 0 e q (rw d refl))
-      by (Some (Form f)) d = by_root a c (spilled (Some v) c.rows c.cols) n e q (rw (d, h) refl)
-
   -- what a formula cell has of which a table has a note, and one of which it has none
   pub top_has : (t : Table) (e : Frame) (a : Addr) (o : Outcome) → e ≡ Top → IsTableOf version S w t → Some o ≡ outcome_in t.notes (Cell e a) → TopHas version S w a o
   top_has t e a o q h f =
@@ -119,7 +71,7 @@ module _ (version : Version) (S : Cells) (w : Oracle) where
   pub outcome_seen : (t : Table) (e : Frame) (a : Addr) (f : Formula) (o : Outcome) (p : Option Permit) (x : C.Shown) → e ≡ Top → content S a ≡ Some (Form f) → IsTableOf version S w t → Some o ≡ outcome_in t.notes (Cell e a) → p ≡ status w a → (v : Value) × (o ≡ Outcome.Value v) × (x ≡ C.Shown.Value (shown p v)) → IsShown version S w a x
   outcome_seen t e a f o p x q d h g s (v, m, y) =
       subst (λ u. IsShown version S w a u) (sym (y ∙ ap (λ u. C.Shown.Value (shown u v)) s))
-      (formula_shows a f v d (subst (λ u. TopHas version S w a u) m (top_has t e a o q h g)))
+      (formula_shows version S w a f v d (subst (λ u. TopHas version S w a u) m (top_has t e a o q h g)))
 
   -- what is shown by what is found of a cover
   pub covered_seen : (a root : Addr) (rows cols : ℕ) (x : C.Shown) → content S a ≡ None → Some (root, rows, cols) ≡ option_map offsets (cover w a) → (v : Value) × TopHas version S w root (Outcome.Value v) × (x ≡ C.Shown.Value (spilled (Some v) rows cols)) → IsShown version S w a x
@@ -130,10 +82,10 @@ module _ (version : Version) (S : Cells) (w : Oracle) where
       by (Some c) d m =
           let t : (root, rows, cols) ≡ offsets c = cc m in
           subst (λ u. IsShown version S w a u) (sym (y ∙ ap (λ (u : Addr × ℕ × ℕ). C.Shown.Value (spilled (Some v) u.1 u.2)) t))
-          (element_shows a c v e d (subst (λ (u : Addr × ℕ × ℕ). TopHas version S w u.0 (Outcome.Value v)) t h))
+          (element_shows version S w a c v e d (subst (λ (u : Addr × ℕ × ℕ). TopHas version S w u.0 (Outcome.Value v)) t h))
 
   pub uncovered_seen : (a : Addr) → content S a ≡ None → None ≡ option_map offsets (cover w a) → IsShown version S w a (C.Shown.Value Blank)
-  uncovered_seen a e q = blank_shows a e (by (cover w a) q)
+  uncovered_seen a e q = blank_shows version S w a e (by (cover w a) q)
     where
       by : (o : Option Cover) → None ≡ option_map offsets o → o ≡ None
       by None m = refl

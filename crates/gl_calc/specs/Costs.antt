@@ -8,7 +8,7 @@ use Rattle.gl_calculus.specs.Calculation as C
 use Rattle.gl_calculus.specs.Calculation.{GoesOn, Ends}
 use Rattle.gl_calculus.specs.Memory.{Table, no_table, base, IsTableOf}
 use Rattle.gl_calculus.specs.Costs.{IsAnew, Finishes}
-use Rattle.gl_core.specs.Answers.{AllowsDemanded}
+use Rattle.gl_demand.specs.Steps.{AllowsDemanded}
 
 -- the steps of a round that spends its work, begun with a table and with what was touched since
 abbrev pub Breaks : Version → Cells → Table × List Addr → Oracle → ℕ → ℕ → Type 0

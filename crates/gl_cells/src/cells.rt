@@ -20,10 +20,16 @@ use std::collections::BTreeMap;
 use std::marker::Model;
 
 /// The contents by address, all proper and within the limits of a sheet.
-#[derive(Drop)]
 pub struct Cells {
     map: BTreeMap<Addr, Content>,
     forms: usize,
+}
+
+// One call wherever it is dropped, in place of one for each part.
+impl Drop for Cells {
+    fn drop(self) {
+        let Cells { map: _, forms: _ } = self;
+    }
 }
 
 impl Model for Cells {

@@ -29,7 +29,8 @@ use Rattle.gl_demand.specs.Steps.{one_more}
 use Rattle.gl_core.specs.Held.{Held}
 use Rattle.gl_core.specs.State.{State, state_of, seeds_of, notes_in, is_noted, newly_noted, noted_after, IsFor}
 use Rattle.gl_query.specs.InOrder.{AreOrdered, note_keys}
-use Rattle.gl_core.specs.Answers.{counted, AllowsDemanded, AllowsKnown}
+use Rattle.gl_demand.specs.Steps.{AllowsDemanded}
+use Rattle.gl_core.specs.Answers.{counted, AllowsKnown}
 use Rattle.gl_core.proofs.Seeing.{none_of}
 
 -- a run of picks from one core to another, with the count of steps

@@ -30,15 +30,7 @@ abbrev pub counted : (K.Key → Bool) → Option K.Key → ℕ → ℕ
 counted noted None n = n
 counted noted (Some k) n = cond (noted k) n (one_more n)
 
--- The steps from n to m are at most 1 and the number of reads for each of some demanded keys without a note, however these reads are found.
-pub record AllowsDemanded (demanded : K.Key → Type 0) (program : K.Key → Query K.Key K.Outcome Range K.Outcome) (noted : K.Key → Bool) (n m : ℕ) : Type 0 where
-  pub keys : List K.Key
-  pub distinct : AreDistinct keys
-  pub few : length keys ≤ max_demanded
-  pub each : (k : K.Key) → Member k keys → demanded k × (noted k ≡ false)
-  pub most : (cs : List (Counted K.Key)) → counted_keys cs ≡ keys → AreReads same_key program cs → m ≤ n + sum_reads cs
-
--- The same for exactly the known keys without a note, of which the reads are there.
+-- The steps from n to m are at most 1 and the number of reads for each known key without a note, of which the reads are there.
 pub record AllowsKnown (program : K.Key → Query K.Key K.Outcome Range K.Outcome) (noted : K.Key → Bool) (st : State) (n m : ℕ) : Type 0 where
   pub counts : List (Counted K.Key)
   pub keys : counted_keys counts ≡ unnoted noted st

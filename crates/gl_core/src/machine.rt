@@ -22,7 +22,8 @@ ghost use Rattle.gl_demand.specs.Sound.{AreSoundKeys};
 ghost use Rattle.gl_core.specs.State.{state_of, seeds_of, notes_in, note_trees, is_noted, noted_after, HaveSoundParts, IsFor};
 ghost use Rattle.gl_query.specs.InOrder.{note_keys};
 ghost use Rattle.gl_core.specs.Table.{IsTable, AreIdle};
-ghost use Rattle.gl_core.specs.Answers.{picked_tree, counted, AllowsDemanded, AllowsKnown};
+ghost use Rattle.gl_demand.specs.Steps.{AllowsDemanded};
+ghost use Rattle.gl_core.specs.Answers.{picked_tree, counted, AllowsKnown};
 
 use crate::answers::{CoreFault, Picked};
 use crate::converting::ledger_of;

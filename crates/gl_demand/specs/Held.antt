@@ -1,5 +1,5 @@
 -- What an address holds in a frame, as the code finds it.
-use Rattle.std.specs.Prelude.{Bool, true, false, Option, Some, None, IsTrue}
+use Rattle.std.specs.Prelude.{Option, Some, None, IsTrue}
 use Rattle.gl_calculus.specs.Grid.{Addr}
 use Rattle.gl_calculus.specs.Value as V
 use Rattle.gl_calculus.specs.Value.{Frame, Top, In, sheet_value}
@@ -29,9 +29,3 @@ or_else None other = other
 abbrev pub override_in : Frame → Addr → Option V.Value
 override_in Top a = None
 override_in (In (sheet_value r os e k w) o) a = or_else (override_at os a) (override_in e a)
-
--- a formula is held
-abbrev pub is_computed : Option R.Held → Bool
-is_computed None = false
-is_computed (Some (R.Given v)) = false
-is_computed (Some (R.Computed f)) = true

@@ -1,7 +1,7 @@
 -- Short forms as words, by which they are hashed.
 use Rattle.std.specs.Prelude.{ℕ, ℤ, pos, ◌+◌, ◌*◌, ◌-◌, ◌^◌, Option, Some, None}
-use Rattle.gl_calculus.specs.Grid.{Addr, Range}
-use Rattle.gl_plane.specs.Digest.{mixed}
+use Rattle.gl_calculus.specs.Grid.{Range}
+use Rattle.gl_plane.specs.Digest.{mixed, address_word}
 use Rattle.gl_intern.specs.declared.short.ShortScalar.{ShortScalar}
 use Rattle.gl_intern.specs.declared.short.ShortScalar.TheVariants.{Int, Plain, Sheet}
 use Rattle.gl_intern.specs.declared.short.ShortValue.{ShortValue}
@@ -13,9 +13,6 @@ use Rattle.gl_intern.specs.declared.short.ShortFrame.{ShortFrame}
 abbrev pub place_word : Option ℕ → ℕ
 place_word None = 2 ^ 64 - 1
 place_word (Some n) = n
-
-abbrev pub address_word : Addr → ℕ
-address_word a = a.row * 65536 + a.col
 
 -- of an integer its kind alone
 abbrev pub value_word : ShortValue → ℕ

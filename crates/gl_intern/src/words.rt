@@ -1,18 +1,10 @@
 //! Short forms are hashed by one word and one integer, however many parts they have.
 ghost use Rattle.std.specs.Prelude.{◌≡◌};
-ghost use Rattle.gl_plane.specs.Digest.{mixed};
-ghost use Rattle.gl_intern.specs.Words.{place_word, address_word, value_word, value_int, override_word, last_word, last_int, range_word, sheet_word, frame_word};
+ghost use Rattle.gl_intern.specs.Words.{place_word, value_word, value_int, override_word, last_word, last_int, range_word, sheet_word, frame_word};
 
 use crate::short::{ShortFrame, ShortOverride, ShortScalar, ShortSheet, ShortValue};
-use gl_plane::{Addr, Range};
+use gl_plane::{Range, address_word, mixed};
 use std::hash::{Hash, Hasher};
-
-/// The digest of words with one word more.
-fn mixed(digest: u64, word: u64) -> u64
-    ensures { result ≡ mixed digest word }
-{
-    (digest.rotate_left(5) ^ word).wrapping_mul(0x9E37_79B9_7F4A_7C15)
-}
 
 fn place_word(place: Option<usize>) -> u64
     ensures { result ≡ place_word place }
@@ -21,12 +13,6 @@ fn place_word(place: Option<usize>) -> u64
         Some(n) => n as u64,
         None => u64::MAX,
     }
-}
-
-fn address_word(a: Addr) -> u64
-    ensures { result ≡ address_word a }
-{
-    u64::from(a.row()) * 65536 + u64::from(a.col())
 }
 
 fn value_word(value: ShortValue) -> u64

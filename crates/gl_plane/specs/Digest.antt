@@ -1,6 +1,7 @@
 -- A digest of an oracle's entries, from the first to the last.
 use Rattle.std.specs.Prelude.{ℕ, ◌+◌, ◌*◌, ◌%◌, ◌^◌, [], ◌∷◌, bit_xor}
 use Rattle.std.specs.Int.{w64, rotate_left}
+use Rattle.gl_calculus.specs.Grid.{Addr}
 use Rattle.gl_calculus.specs.Value.{Permit, Permitted, Refused, Entry, Oracle}
 
 -- the digest with one word more: the factor is odd, so other words give other digests
@@ -11,9 +12,9 @@ abbrev pub permit_bit : Permit → ℕ
 permit_bit Permitted = 1
 permit_bit Refused = 0
 
--- where the root lies, as a word
-abbrev pub place_word : Entry → ℕ
-place_word x = x.root.row * 65536 + x.root.col
+-- an address as a word
+abbrev pub address_word : Addr → ℕ
+address_word a = a.row * 65536 + a.col
 
 -- how large the array is and whether it may spill, as a word
 abbrev pub shape_word : Entry → ℕ
@@ -21,7 +22,7 @@ shape_word x = (x.size.rows * 65536 + x.size.cols) * 2 + permit_bit x.permit
 
 -- the digest with one entry more
 abbrev pub stirred : ℕ → Entry → ℕ
-stirred digest x = mixed (mixed digest (place_word x)) (shape_word x)
+stirred digest x = mixed (mixed digest (address_word x.root)) (shape_word x)
 
 abbrev pub digest_from : ℕ → Oracle → ℕ
 digest_from digest [] = digest

@@ -1,28 +1,28 @@
-//! The digest of an oracle's entries, which grows entry by entry.
+//! Digests, which grow word by word, and the words of addresses and entries.
 ghost use Rattle.std.specs.Prelude.{◌≡◌};
-ghost use Rattle.gl_plane.specs.Digest.{mixed, place_word, shape_word, stirred};
+ghost use Rattle.gl_plane.specs.Digest.{mixed, address_word, shape_word, stirred};
 
-use crate::{Entry, Permit};
-
-/// The digest with one entry more.
-pub fn stirred(digest: u64, entry: &Entry) -> u64
-    ensures { result ≡ stirred digest entry.now }
-{
-    mixed(mixed(digest, place_word(entry)), shape_word(entry))
-}
+use crate::{Addr, Entry, Permit};
 
 /// The digest with one word more.
-fn mixed(digest: u64, word: u64) -> u64
+pub fn mixed(digest: u64, word: u64) -> u64
     ensures { result ≡ mixed digest word }
 {
     (digest.rotate_left(5) ^ word).wrapping_mul(0x9E37_79B9_7F4A_7C15)
 }
 
-/// Where the root lies.
-fn place_word(entry: &Entry) -> u64
-    ensures { result ≡ place_word entry.now }
+/// An address as a word: other addresses give other words.
+pub fn address_word(a: Addr) -> u64
+    ensures { result ≡ address_word a }
 {
-    u64::from(entry.root.row()) * 65536 + u64::from(entry.root.col())
+    u64::from(a.row()) * 65536 + u64::from(a.col())
+}
+
+/// The digest with one entry more.
+pub(crate) fn stirred(digest: u64, entry: &Entry) -> u64
+    ensures { result ≡ stirred digest entry.now }
+{
+    mixed(mixed(digest, address_word(entry.root)), shape_word(entry))
 }
 
 /// How large the array is, and whether it may spill.

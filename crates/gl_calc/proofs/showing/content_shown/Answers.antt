@@ -7,7 +7,7 @@ use Rattle.gl_ast.specs.View.{formula_tree}
 use Rattle.gl_cells.specs.Content.{content_tree}
 use Rattle.gl_value.specs.Made.{shown_tree}
 use Rattle.gl_value.specs.View.{scalar_tree}
-use Rattle.gl_calc.proofs.Shows.{constant_shows}
+use Rattle.gl_calculus.proofs.Shows.{constant_shows}
 use Rattle.gl_calc.proofs.showing.content_shown.Goals as goal
 
 pub returns-in-Const-clause-shown : goal.returns-in-Const-clause-shown

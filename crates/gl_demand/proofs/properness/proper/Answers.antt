@@ -4,7 +4,7 @@ use Rattle.gl_calculus.specs.Reference.{own_content}
 use Rattle.gl_calculus.specs.Sound.{IsProperKey}
 use Rattle.gl_cells.specs.Sheet.{sheet}
 use Rattle.gl_value.specs.View.{frame_tree}
-use Rattle.gl_demand.specs.Held.{is_computed}
+use Rattle.gl_calculus.specs.Reference.{is_computed}
 use Rattle.gl_demand.specs.View.{key_tree}
 use Rattle.gl_demand.specs.declared.key.Key.{Key}
 use Rattle.gl_demand.proofs.IsFormula.{is_formula, no_formula}
