@@ -21,3 +21,4 @@ pub mod Differences
 pub mod Costs
 pub mod Sound
 pub mod Laws
+pub mod SameOutcome

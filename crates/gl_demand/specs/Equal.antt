@@ -5,8 +5,8 @@ use Rattle.gl_calculus.specs.Key.{same_key}
 use Rattle.gl_calculus.proofs.Tests.{key_equality}
 use Rattle.gl_value.proofs.DerivedEq.{eq_is_env, eq_is_sheet, eq_is_value}
 use Rattle.gl_demand.specs.View.{key_tree, budget_tree, outcome_tree}
-use Rattle.gl_calculus.specs.Outcomes.{same_budget, same_outcome}
-use Rattle.gl_calculus.proofs.Outcomes.{outcome_equality}
+use Rattle.gl_calculus.specs.SameOutcome.{same_budget, same_outcome}
+use Rattle.gl_calculus.proofs.OutcomeTests.{outcome_equality}
 use Rattle.gl_demand.specs.declared.key.Key.{Key}
 use Rattle.gl_demand.specs.declared.key.Key.TheVariants.{Cell, Settle}
 use Rattle.gl_demand.specs.declared.outcome.Budget.{Budget}
