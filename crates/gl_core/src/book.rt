@@ -1,5 +1,5 @@
 //! Keys by numbers.
-ghost use Rattle.std.specs.Prelude.{◌≡◌, ◌<◌, ◌^◌, [], Some, None, IsTrue, length, position, slice_get, OnOk, OnErr, IfOk};
+ghost use Rattle.std.specs.Prelude.{◌≡◌, ◌<◌, ◌^◌, [], Some, None, IsTrue, length, position, slice_get, OnOk, OnErr, IfOk, IfSome};
 ghost use Rattle.gl_calculus.specs.Sound.{is_sound_key};
 ghost use Rattle.gl_demand.specs.View.{key_tree};
 ghost use Rattle.gl_intern.specs.Numbered.{firsts, put_pair};
@@ -7,6 +7,7 @@ ghost use Rattle.gl_core.specs.Numbers.{Grows, IsNumber, AreBooked};
 ghost use Rattle.gl_core.specs.Shorts.{key_pairs};
 ghost use Rattle.gl_core.specs.contracts.short.ShortPartialEq.TheImpl.{ghosts as form};
 
+use crate::guesses::{copy_word, guessed, remember};
 use crate::short::{Short, find_short, short_form};
 use gl_demand::Key;
 use gl_intern::Interner;
@@ -19,10 +20,13 @@ use std::marker::Model;
 const MOST: usize = 4_000_000_000;
 
 /// Keys, each once, seen as a list of plain keys. A key's number is its place in the list, and
-/// never changes. The keys stand beside their short forms, by which they are looked up.
+/// never changes. The keys stand beside their short forms, by which they are looked up. The number of
+/// a key in a copy is guessed first, which takes one comparison in place of a walk.
 pub struct Book {
     interner: Interner,
     keys: IndexMap<Short, Key>,
+    // by words, which other keys may have as well
+    guesses: IndexMap<u64, u32>,
 }
 
 // One call wherever it is dropped, in place of one for each part.
@@ -31,6 +35,7 @@ impl Drop for Book {
         let Book {
             interner: _,
             keys: _,
+            guesses: _,
         } = self;
     }
 }
@@ -61,6 +66,7 @@ impl Book {
         Book {
             interner: Interner::new(alloc),
             keys: IndexMap::new(alloc),
+            guesses: IndexMap::new(alloc),
         }
     }
 
@@ -76,22 +82,59 @@ impl Book {
     pub fn find(&self, key: &Key) -> Option<u32>
         ensures { IsNumber self.now (key_tree key.now) result }
     {
-        match find_short(&self.interner, key) {
-            Some(short) => find_place(&self.keys, short),
-            None => None,
+        match self.guess(key) {
+            Some(n) => Some(n),
+            None => self.look_up(key),
         }
     }
 
     /// The number of a key, which gets one where it has none. After `NoMemory` the keys are as
-    /// before.
+    /// before, or one of them is new.
     pub fn number(&mut self, key: Key) -> Result<u32, NoMemory>
         requires { IsTrue (is_sound_key (key_tree key)) }
         ensures number { IfOk result (λ n. slice_get self.new n ≡ Some (key_tree key)) }
         ensures grows { Grows self.old self.new }
         ensures booked { AreBooked self.old → AreBooked self.new }
     {
+        match self.guess(&key) {
+            Some(n) => Ok(n),
+            None => self.number_by_form(key),
+        }
+    }
+
+    /// The number that a key of a copy probably has, where it does have it.
+    fn guess(&self, key: &Key) -> Option<u32>
+        ensures { IfSome result (λ n. slice_get self.now n ≡ Some (key_tree key.now)) }
+    {
+        match guessed(&self.guesses, key) {
+            Some(n) if self.is_at(n as usize, key) => Some(n),
+            _ => None,
+        }
+    }
+
+    /// The number of a key by its short form: `None` exactly where it has none.
+    fn look_up(&self, key: &Key) -> Option<u32>
+        ensures { IsNumber self.now (key_tree key.now) result }
+    {
+        match find_short(&self.interner, key) {
+            Some(short) => find_place(&self.keys, short),
+            None => None,
+        }
+    }
+
+    /// The number of a key by its short form, which gets one where it has none. It is guessed the
+    /// next time.
+    fn number_by_form(&mut self, key: Key) -> Result<u32, NoMemory>
+        requires { IsTrue (is_sound_key (key_tree key)) }
+        ensures number { IfOk result (λ n. slice_get self.new n ≡ Some (key_tree key)) }
+        ensures grows { Grows self.old self.new }
+        ensures booked { AreBooked self.old → AreBooked self.new }
+    {
         let short = short_form(&mut self.interner, &key)?;
-        place(&mut self.keys, short, key)
+        let word = copy_word(&key);
+        let n = place(&mut self.keys, short, key)?;
+        remember(&mut self.guesses, word, n)?;
+        Ok(n)
     }
 
     /// The key with a number.

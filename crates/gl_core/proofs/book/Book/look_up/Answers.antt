@@ -5,7 +5,7 @@ use Rattle.gl_demand.specs.View.{key_tree}
 use Rattle.gl_core.specs.Numbers.{IsNumber}
 use Rattle.gl_core.specs.Shorts.{key_pairs}
 use Rattle.gl_core.proofs.Shorts.{is_number, unseen}
-use Rattle.gl_core.proofs.book.Book.find.Goals as goal
+use Rattle.gl_core.proofs.book.Book.look_up.Goals as goal
 
 pub returns-in-Some : goal.returns-in-Some
 returns-in-Some c =

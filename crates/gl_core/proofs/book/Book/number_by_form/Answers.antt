@@ -6,7 +6,7 @@ use Rattle.gl_core.specs.Numbers.{Grows}
 use Rattle.gl_core.specs.Shorts.{key_pairs}
 use Rattle.gl_core.specs.contracts.short.ShortPartialEq.TheImpl.{ghosts as form}
 use Rattle.gl_core.proofs.Shorts.{short_grown, short_after, keys_after, key_there, entry_count}
-use Rattle.gl_core.proofs.book.Book.number.Goals as goal
+use Rattle.gl_core.proofs.book.Book.number_by_form.Goals as goal
 
 pub invariant_of-self : goal.invariant_of-self
 invariant_of-self c = short_grown c.self.inside.interner c.short_form.new.interner c.in_err-short.ensures.grows (key_pairs c.self.inside.keys.entries) c.self.invariant
