@@ -98,7 +98,7 @@ impl Book {
     {
         match self.guess(&key) {
             Some(n) => Ok(n),
-            None => self.number_by_form(key),
+            None => self.number_anew(key),
         }
     }
 
@@ -122,8 +122,7 @@ impl Book {
         }
     }
 
-    /// The number of a key by its short form, which gets one where it has none. It is guessed the
-    /// next time.
+    /// The number of a key by its short form, which gets one where it has none.
     fn number_by_form(&mut self, key: Key) -> Result<u32, NoMemory>
         requires { IsTrue (is_sound_key (key_tree key)) }
         ensures number { IfOk result (λ n. slice_get self.new n ≡ Some (key_tree key)) }
@@ -131,10 +130,26 @@ impl Book {
         ensures booked { AreBooked self.old → AreBooked self.new }
     {
         let short = short_form(&mut self.interner, &key)?;
+        place(&mut self.keys, short, key)
+    }
+
+    /// The same, and it is guessed the next time.
+    fn number_anew(&mut self, key: Key) -> Result<u32, NoMemory>
+        requires { IsTrue (is_sound_key (key_tree key)) }
+        ensures number { IfOk result (λ n. slice_get self.new n ≡ Some (key_tree key)) }
+        ensures grows { Grows self.old self.new }
+        ensures booked { AreBooked self.old → AreBooked self.new }
+    {
         let word = copy_word(&key);
-        let n = place(&mut self.keys, short, key)?;
-        remember(&mut self.guesses, word, n)?;
+        let n = self.number_by_form(key)?;
+        self.remember(word, n)?;
         Ok(n)
+    }
+
+    fn remember(&mut self, word: Option<u64>, n: u32) -> Result<(), NoMemory>
+        ensures { self.new ≡ self.old }
+    {
+        remember(&mut self.guesses, word, n)
     }
 
     /// The key with a number.
