@@ -4,6 +4,8 @@ use Rattle.gl_query.specs.Lists.{AreDistinct}
 use Rattle.gl_calculus.specs.Grid.{Addr}
 use Rattle.gl_edits.specs.Steps.{befores, afters}
 use Rattle.gl_cells.specs.declared.content.Content.{Content}
+use Rattle.gl_calc.specs.View.{sheet_of}
+use Rattle.gl_replies.specs.Rooms.{HasRoom}
 use Rattle.gl_undo.specs.View.{AreProperChanges, changes_tree, places}
 use Rattle.gl_undo.specs.History.{done, undone}
 use Rattle.gl_run.specs.declared.script.Script.{Script}
@@ -16,6 +18,7 @@ pub record StepsBack (x : Script) (cs : List (Addr × Option Content)) : Type 0 
   pub changes : changes_tree cs ≡ latest_changes befores (done x.history)
   pub apart : AreDistinct (places cs)
   pub proper : AreProperChanges cs
+  pub room : HasRoom (sheet_of x.calc) (changes_tree cs)
 
 -- outside a replica, these are what the addresses of the latest undone step had after it
 pub record StepsForward (x : Script) (cs : List (Addr × Option Content)) : Type 0 where
@@ -24,3 +27,4 @@ pub record StepsForward (x : Script) (cs : List (Addr × Option Content)) : Type
   pub changes : changes_tree cs ≡ latest_changes afters (undone x.history)
   pub apart : AreDistinct (places cs)
   pub proper : AreProperChanges cs
+  pub room : HasRoom (sheet_of x.calc) (changes_tree cs)

@@ -10,6 +10,7 @@ ghost use Rattle.gl_ast.specs.View.{version_tree};
 ghost use Rattle.gl_csvin.specs.Import.{csv_records};
 ghost use Rattle.gl_order.specs.Rule.{PicksBelow, rule_of};
 ghost use Rattle.gl_script.specs.Command.{Asks};
+ghost use Rattle.gl_run.specs.Kept.{IsKept};
 ghost use Rattle.gl_run.specs.Replies.{IsNoQuery, IsProperRequest, IsQueryOf};
 ghost use Rattle.gl_run.specs.Script.{known_of, script_of};
 ghost use Rattle.gl_run.specs.Spends.{Spends};
@@ -50,11 +51,13 @@ pub fn answer_line<F: Fn(u8, u64, u64) -> u64, L: Watch>(
     requires rule { PicksBelow (F.pre (rule_of order.now)) (F.post (rule_of order.now)) }
     requires kind { kind ≤ 2 }
     requires line { payload_len line.now ≡ None }
+    requires kept { IsKept (script_of script.old) }
     ensures acts { IfOk result (λ reply.
         Acts csv_records (version_tree version) (script_of script.old) (Line line.now) (script_of script.new) reply.items) }
     ensures spends { IfOk result (λ reply. Spends (version_tree version) (known_of script.old)
         (Line line.now) reply.items (known_of script.new) steps.old steps.new) }
     ensures err { OnErr result (script_of script.new ≡ script_of script.old) }
+    ensures kept { IsKept (script_of script.new) }
 {
     match command(alloc, line) {
         Ok(request) => answer_request(alloc, script, version, order, kind, steps, request),
@@ -75,6 +78,7 @@ fn answer_request<F: Fn(u8, u64, u64) -> u64, L: Watch>(
     requires rule { PicksBelow (F.pre (rule_of order.now)) (F.post (rule_of order.now)) }
     requires kind { kind ≤ 2 }
     requires proper { IsProperRequest request }
+    requires kept { IsKept (script_of script.old) }
     ensures acts { IfOk result (λ reply. (l : Bytes) → payload_len l ≡ None → Asks l request
         → Acts csv_records (version_tree version) (script_of script.old) (Line l) (script_of script.new) reply.items) }
     ensures spends { IfOk result (λ reply. (l : Bytes) → payload_len l ≡ None → Asks l request
@@ -123,6 +127,7 @@ fn answer_other(
 ) -> Result<Vec<u8>, NoMemory>
     requires other { IsNoQuery request }
     requires proper { IsProperRequest request }
+    requires kept { IsKept (script_of script.old) }
     ensures acts { IfOk result (λ reply. (l : Bytes) → payload_len l ≡ None → Asks l request
         → Acts csv_records (version_tree version) (script_of script.old) (Line l) (script_of script.new) reply.items) }
     ensures spends { IfOk result (λ reply. (n : ℕ) (l : Bytes) → payload_len l ≡ None → Asks l request

@@ -11,6 +11,7 @@ ghost use Rattle.gl_cells.specs.Sheet.{sheet, AreProper};
 ghost use Rattle.gl_csvin.specs.Import.{csv_records};
 ghost use Rattle.gl_script.specs.Command.{Asks};
 ghost use Rattle.gl_run.specs.Changed.{IsChanged, imported_state};
+ghost use Rattle.gl_run.specs.Kept.{IsKept};
 ghost use Rattle.gl_run.specs.Ready.{IsReady};
 ghost use Rattle.gl_run.specs.Replies.{HasPlace, IsRefusal, csv_word};
 ghost use Rattle.gl_run.specs.Script.{known_of, script_of};
@@ -35,13 +36,15 @@ pub fn answer_import(
     header: &[u8],
     payload: &[u8],
 ) -> Result<Vec<u8>, NoMemory>
-    requires { IsSome (payload_len header.now) }
+    requires header { IsSome (payload_len header.now) }
+    requires kept { IsKept (script_of script.old) }
     ensures acts { IfOk result (λ reply. (version : PlainVersion)
         → Acts csv_records version (script_of script.old) (Import header.now payload.now) (script_of script.new) reply.items) }
     ensures spends { IfOk result (λ reply. (version : PlainVersion) (n : ℕ)
         → Spends version (known_of script.old) (Import header.now payload.now) reply.items
         (known_of script.new) n n) }
     ensures err { OnErr result (script_of script.new ≡ script_of script.old) }
+    ensures kept { IsKept (script_of script.new) }
 {
     match place(alloc, header) {
         Ok(Some(at)) => import_at(alloc, script, at, payload),

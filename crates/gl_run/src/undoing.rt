@@ -9,6 +9,8 @@ ghost use Rattle.gl_calc.specs.View.{sheet_of};
 ghost use Rattle.gl_cells.specs.Content.{content_tree};
 ghost use Rattle.gl_undo.specs.View.{AreProperChanges, IsProperOption, changes_tree, places};
 ghost use Rattle.gl_run.specs.Changed.{IsChanged, Marks};
+ghost use Rattle.gl_replies.specs.Rooms.{HasRoom};
+ghost use Rattle.gl_run.specs.Kept.{IsKept};
 ghost use Rattle.gl_run.specs.Restored.{StepsBack, StepsForward};
 ghost use Rattle.gl_run.specs.Script.{known_of, script_of};
 ghost use Rattle.gl_run.specs.Spends.{Touches};
@@ -21,12 +23,13 @@ use crate::changes::{Change, Parts};
 use crate::lines::{error_line, text_line};
 use crate::script::Script;
 use gl_calc::Calc;
-use gl_cells::{Cells, Content};
+use gl_cells::{Cells, Content, PutFault};
 use gl_plane::{Addr, NoMemory, Range};
 use std::alloc::Global;
 
 /// Undoes the latest step.
 pub(crate) fn undo(alloc: Global, script: &mut Script) -> Result<Vec<u8>, NoMemory>
+    requires { IsKept (script_of script.old) }
     ensures does { IfOk result (λ reply. IsChanged (change (script_of script.old) C.Request.Undo)
         (script_of script.old) (script_of script.new) reply.items) }
     ensures touches { IfOk result (λ reply. Touches reply.items
@@ -65,6 +68,7 @@ fn undo_step(alloc: Global, script: &mut Script, list: Vec<Change>) -> Result<Ve
 
 /// Does the latest undone step again.
 pub(crate) fn redo(alloc: Global, script: &mut Script) -> Result<Vec<u8>, NoMemory>
+    requires { IsKept (script_of script.old) }
     ensures does { IfOk result (λ reply. IsChanged (change (script_of script.old) C.Request.Redo)
         (script_of script.old) (script_of script.new) reply.items) }
     ensures touches { IfOk result (λ reply. Touches reply.items
@@ -105,6 +109,7 @@ fn redo_step(alloc: Global, script: &mut Script, list: Vec<Change>) -> Result<Ve
 fn restore(alloc: Global, calc: &mut Calc, list: Vec<Change>) -> Result<(), NoMemory>
     requires apart { AreDistinct (places list.items) }
     requires proper { AreProperChanges list.items }
+    requires room { HasRoom (sheet_of calc.old) (changes_tree list.items) }
     ensures sheet { OnOk result
         (sheet_of calc.new ≡ with_changes (sheet_of calc.old) (changes_tree list.items)) }
     ensures marks { OnOk result
@@ -118,8 +123,10 @@ fn restore(alloc: Global, calc: &mut Calc, list: Vec<Change>) -> Result<(), NoMe
             remove_all(calc, &going);
             Ok(())
         }
-        // no limit is passed: what comes back was there beside what stays
-        Err(_) => Err(NoMemory),
+        Err(PutFault::NoMemory) => Err(NoMemory),
+        // what comes has room beside all that is there
+        Err(PutFault::Formulas) => unreachable!(),
+        Err(PutFault::Contents) => unreachable!(),
     }
 }
 

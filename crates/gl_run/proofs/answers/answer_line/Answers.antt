@@ -1,10 +1,13 @@
-use Rattle.std.proofs.Common.{ℕ, Vec, Global}
+use Rattle.std.proofs.Common.{◌≡◌, ℕ, None, Vec, Global}
+use Rattle.gl_language.specs.Text.{Bytes}
+use Rattle.gl_protocol.specs.Header.{payload_len}
+use Rattle.gl_run.proofs.Keeping.{kept_by}
 use Rattle.std.proofs.lemmas.Result.{IfOk-weaker}
 use Rattle.gl_protocol.specs.Framing.{Line}
 use Rattle.gl_protocol.specs.Acts.{Acts}
 use Rattle.gl_ast.specs.View.{version_tree}
 use Rattle.gl_csvin.specs.Import.{csv_records}
-use Rattle.gl_script.specs.Command.{word_of}
+use Rattle.gl_script.specs.Command.{Asks, word_of}
 use Rattle.gl_run.specs.Replies.{IsRefusal}
 use Rattle.gl_run.specs.Script.{known_of, script_of}
 use Rattle.gl_run.proofs.Asking.{asked_proper}
@@ -34,3 +37,14 @@ returns-in-Err-clause-spends g c =
 
 pub answer_request-requires-clause-proper : goal.answer_request-requires-clause-proper
 answer_request-requires-clause-proper g c = asked_proper c.args.line.now c.in-Ok.request c.in-Ok.ensures
+
+pub returns-in-Ok-clause-kept : goal.returns-in-Ok-clause-kept
+returns-in-Ok-clause-kept g c =
+    let s = script_of c.args.script.now in
+    let s' = script_of c.answer_request.new.script in
+    let l = c.args.line.now in
+    let version = version_tree c.args.version in
+    let P : Vec ℕ Global → Type 0 = λ reply. (l : Bytes) → payload_len l ≡ None → Asks l c.in-Ok.request → Acts csv_records version s (Line l) s' reply.items in
+    let Q : Vec ℕ Global → Type 0 = λ reply. Acts csv_records version s (Line l) s' reply.items in
+    let acts = IfOk-weaker c.answer_request.result P Q (λ reply a. a l c.requires.line c.in-Ok.ensures) c.answer_request.ensures.acts in
+    kept_by (λ (v : Vec ℕ Global). v.items) version s s' (Line l) c.answer_request.result c.requires.kept acts c.answer_request.ensures.err

@@ -1,6 +1,9 @@
-use Rattle.std.proofs.Common.{◌≡◌, ℕ, Vec, Global}
+use Rattle.std.proofs.Common.{◌≡◌, ℕ, Some, Vec, Global}
 use Rattle.std.proofs.lemmas.Result.{IfOk-weaker}
-use Rattle.gl_calculus.specs.Formula.{Version}
+use Rattle.gl_calculus.specs.Formula.{Version, One}
+use Rattle.gl_language.specs.Text.{Bytes}
+use Rattle.gl_run.proofs.Keeping.{kept_by}
+use Rattle.gl_run.specs.Replies.{HasPlace}
 use Rattle.gl_protocol.specs.Framing.{Import}
 use Rattle.gl_protocol.specs.Acts.{Acts}
 use Rattle.gl_protocol.specs.Commands.{AddressWord, error_line}
@@ -28,3 +31,15 @@ returns-in-Ok-None-clause-spends c =
     let P : Vec ℕ Global → Type 0 = λ reply. reply.items ≡ error_line AddressWord in
     let Q : Vec ℕ Global → Type 0 = λ reply. (version : Version) (n : ℕ) → Spends version K (Import l p) reply.items K n n in
     IfOk-weaker c.error_line.result P Q (λ reply e version n. refused_spends version K n (Import l p) AddressWord reply.items e) c.error_line.ensures
+
+pub returns-in-Ok-Some-clause-kept : goal.returns-in-Ok-Some-clause-kept
+returns-in-Ok-Some-clause-kept c =
+    let s = script_of c.args.script.now in
+    let s' = script_of c.import_at.new.script in
+    let l = c.args.header.now in
+    let p = c.args.payload.now in
+    let at_place = rw c.in-Ok-Some.field-0-is at c.in-Ok-Some.ensures in
+    let P : Vec ℕ Global → Type 0 = λ reply. (version : Version) (l : Bytes) → HasPlace l (Some c.in-Ok-Some.at) → Acts csv_records version s (Import l p) s' reply.items in
+    let Q : Vec ℕ Global → Type 0 = λ reply. Acts csv_records One s (Import l p) s' reply.items in
+    let acts = IfOk-weaker c.import_at.result P Q (λ reply a. a One l at_place) c.import_at.ensures.acts in
+    kept_by (λ (v : Vec ℕ Global). v.items) One s s' (Import l p) c.import_at.result c.requires.kept acts c.import_at.ensures.err

@@ -1,16 +1,19 @@
-use Rattle.std.proofs.Common.{◌≡◌, ◌∙◌, ℕ, Some, Vec, Global, option_map, refl, sym, ap}
+use Rattle.std.proofs.Common.{◌≡◌, ◌∙◌, ℕ, Some, Vec, Global, option_map, refl, sym, ap, subst}
 use Rattle.std.proofs.lemmas.Result.{IfOk-weaker}
 use Rattle.gl_edits.specs.Steps.{befores}
 use Rattle.gl_protocol.specs.Commands as C
 use Rattle.gl_protocol.specs.Commands.{error_line}
 use Rattle.gl_protocol.specs.Script.{change}
 use Rattle.gl_merge.specs.Replica.{replica_tree}
+use Rattle.gl_calc.specs.View.{sheet_of}
+use Rattle.gl_replies.specs.Rooms.{HasRoom}
 use Rattle.gl_undo.specs.View.{changes_tree}
 use Rattle.gl_undo.specs.History.{done}
 use Rattle.gl_run.specs.Changed.{IsChanged}
 use Rattle.gl_run.specs.Script.{known_of, script_of}
 use Rattle.gl_run.specs.Spends.{Touches}
 use Rattle.gl_run.specs.Touched.{touched_by}
+use Rattle.gl_run.proofs.Keeping.{room_back}
 use Rattle.gl_run.proofs.Spending.{touches_kept}
 use Rattle.gl_run.proofs.Stepping.{alone, some_replica, told_first, told_nothing, undo_in_replica, undo_nothing}
 use Rattle.gl_run.proofs.undoing.undo.Goals as goal
@@ -41,6 +44,7 @@ undo_step-requires c =
       changes = told_first befores (done x.history) (changes_tree c.in-Ok-Some.list.items) (rw c.in-Ok-Some.field-0-is at c.in-Ok-Some.ensures.value);
       apart = rw c.in-Ok-Some.field-0-is at c.in-Ok-Some.ensures.apart;
       proper = rw c.in-Ok-Some.field-0-is at c.in-Ok-Some.ensures.proper;
+      room = subst (HasRoom (sheet_of x.calc)) (sym (told_first befores (done x.history) (changes_tree c.in-Ok-Some.list.items) (rw c.in-Ok-Some.field-0-is at c.in-Ok-Some.ensures.value))) (room_back (sheet_of x.calc) (done x.history) (rw c.in-Ok-Some.field-0-is at c.in-Ok-Some.ensures.left) c.requires.roomy.back);
     }
 
 pub returns-in-Ok-None-clause-does : goal.returns-in-Ok-None-clause-does

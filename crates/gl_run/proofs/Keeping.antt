@@ -1,0 +1,32 @@
+-- Each item leaves a state that is kept.
+use Rattle.std.proofs.Common.{◌≡◌, ◌∙◌, ◌<◌, ◌≤◌, ℕ, List, [], ◌∷◌, length, Option, Some, None, Result, Ok, Err, IfOk, OnErr, sym, ap, subst, arith}
+use Rattle.gl_calculus.specs.Formula.{Version, Cells, formula_addresses}
+use Rattle.gl_calculus.specs.Limits.{max_formulas, max_contents}
+use Rattle.gl_language.specs.Text.{Bytes}
+use Rattle.gl_edits.specs.Replicas.{Changes}
+use Rattle.gl_edits.specs.Steps.{Step, befores, afters}
+use Rattle.gl_protocol.specs.Framing.{Item}
+use Rattle.gl_protocol.specs.Script.{Script, new_script}
+use Rattle.gl_protocol.specs.Acts.{Acts}
+use Rattle.gl_csvin.specs.Import.{csv_records}
+use Rattle.gl_replies.specs.Rooms.{HasRoom, RoomBack, RoomOn}
+use Rattle.gl_replies.proofs.Roomy.{acts_keep_rooms}
+use Rattle.gl_replies.proofs.States.{acts_keep_states, new_state}
+use Rattle.gl_run.specs.Kept.{IsKept}
+use Rattle.gl_run.specs.Touched.{latest_changes}
+
+pub new_kept : IsKept new_script
+new_kept = record { state = new_state; roomy = record { back = tt; on = tt } }
+
+pub kept_by : {V E : Type 0} (items : V → Bytes) (version : Version) (s s' : Script) (x : Item) (r : Result V E) → IsKept s → IfOk r (λ v. Acts csv_records version s x s' (items v)) → OnErr r (s' ≡ s) → IsKept s'
+kept_by items version s s' x (Ok v) h a e = record { state = acts_keep_states csv_records version s s' x (items v) h.state a; roomy = acts_keep_rooms csv_records version s s' x (items v) h.state h.roomy a }
+kept_by items version s s' x (Err u) h a e = subst IsKept (sym e) h
+
+-- what comes with the latest step has room
+pub room_back : (S : Cells) (ds : List Step) → 0 < length ds → RoomBack S ds → HasRoom S (latest_changes befores ds)
+room_back S [] l h = absurd (omega (arith, l))
+room_back S (d ∷ ds) l h = h.0
+
+pub room_on : (S : Cells) (us : List Step) → 0 < length us → RoomOn S us → HasRoom S (latest_changes afters us)
+room_on S [] l h = absurd (omega (arith, l))
+room_on S (u ∷ us) l h = h.0
