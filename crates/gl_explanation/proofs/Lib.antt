@@ -1,0 +1,13 @@
+pub mod WorkedExplanations
+pub mod Claims
+pub mod Walks
+pub mod Explaining
+pub mod Once
+pub mod Steps
+pub mod Few
+pub mod Apart
+pub mod Numbering
+pub mod Checking
+pub mod Judging
+pub mod Going
+pub mod Spending

@@ -1,0 +1,4 @@
+pub mod Walk
+pub mod Certificate
+pub mod Allowance
+pub mod Laws
