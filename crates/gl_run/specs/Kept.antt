@@ -4,6 +4,9 @@ use Rattle.gl_replies.specs.States.{IsState}
 use Rattle.gl_replies.specs.Rooms.{IsRoomy}
 
 -- Its steps lead back and on, and pass no limit on the way.
-pub record IsKept (s : Script) : Type 0 where
+pub record Keeps (s : Script) : Type 0 where
   pub state : IsState s
   pub roomy : IsRoomy s
+
+abbrev pub IsKept : Script → Type 0
+IsKept s = ∥ Keeps s ∥₁

@@ -1,6 +1,5 @@
 use Rattle.std.proofs.Common.{ℕ, Vec, Global, refl}
 use Rattle.std.proofs.lemmas.Result.{IfOk-weaker}
-use Rattle.gl_protocol.specs.Commands as C
 use Rattle.gl_ast.specs.View.{version_tree}
 use Rattle.gl_run.specs.Replies.{query_tree}
 use Rattle.gl_run.specs.Script.{known_of, script_of}

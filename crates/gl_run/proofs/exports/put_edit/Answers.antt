@@ -1,9 +1,8 @@
-use Rattle.std.proofs.Common.{◌≡◌, ◌++◌, ◌∷◌, [], Option, OnOk, option_map, ap, ◌∙◌}
+use Rattle.std.proofs.Common.{◌++◌, ◌∷◌, [], Option, option_map, ap, ◌∙◌}
 use Rattle.std.proofs.lemmas.Result.{on_ok_weaker}
 use Rattle.std.specs.String.{string_bytes}
 use Rattle.std.specs.Prelude.{codes}
 use Rattle.std.specs.Fmt.{decimal}
-use Rattle.gl_language.specs.Text.{Bytes}
 use Rattle.gl_calculus.specs.Notation.{address_text}
 use Rattle.gl_protocol.specs.Tables.{text_behind_place}
 use Rattle.gl_cells.specs.Content.{content_tree}

@@ -1,4 +1,4 @@
-use Rattle.std.proofs.Common.{◌≡◌, ◌∙◌, ◌++◌, List, take, sym, ap, arith, append_assoc}
+use Rattle.std.proofs.Common.{◌∙◌, ◌++◌, List, take, sym, ap, arith, append_assoc}
 use Rattle.std.specs.String.{string_bytes}
 use Rattle.gl_edits.specs.Replicas.{Edit}
 use Rattle.gl_language.specs.Text.{Bytes}

@@ -13,7 +13,7 @@ use Rattle.gl_run.specs.Changed.{IsChanged}
 use Rattle.gl_run.specs.Script.{known_of, script_of}
 use Rattle.gl_run.specs.Spends.{Touches}
 use Rattle.gl_run.specs.Touched.{touched_by}
-use Rattle.gl_run.proofs.Keeping.{room_back}
+use Rattle.gl_run.proofs.Keeping.{can_undo}
 use Rattle.gl_run.proofs.Spending.{touches_kept}
 use Rattle.gl_run.proofs.Stepping.{alone, some_replica, told_first, told_nothing, undo_in_replica, undo_nothing}
 use Rattle.gl_run.proofs.undoing.undo.Goals as goal
@@ -44,7 +44,7 @@ undo_step-requires c =
       changes = told_first befores (done x.history) (changes_tree c.in-Ok-Some.list.items) (rw c.in-Ok-Some.field-0-is at c.in-Ok-Some.ensures.value);
       apart = rw c.in-Ok-Some.field-0-is at c.in-Ok-Some.ensures.apart;
       proper = rw c.in-Ok-Some.field-0-is at c.in-Ok-Some.ensures.proper;
-      room = subst (HasRoom (sheet_of x.calc)) (sym (told_first befores (done x.history) (changes_tree c.in-Ok-Some.list.items) (rw c.in-Ok-Some.field-0-is at c.in-Ok-Some.ensures.value))) (room_back (sheet_of x.calc) (done x.history) (rw c.in-Ok-Some.field-0-is at c.in-Ok-Some.ensures.left) c.requires.roomy.back);
+      room = subst (HasRoom (sheet_of x.calc)) (sym (told_first befores (done x.history) (changes_tree c.in-Ok-Some.list.items) (rw c.in-Ok-Some.field-0-is at c.in-Ok-Some.ensures.value))) (can_undo (script_of x) c.requires (rw c.in-Ok-Some.field-0-is at c.in-Ok-Some.ensures.left));
     }
 
 pub returns-in-Ok-None-clause-does : goal.returns-in-Ok-None-clause-does

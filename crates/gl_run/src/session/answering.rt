@@ -1,0 +1,342 @@
+// The replies of a session, item by item.
+ghost use Rattle.std.specs.Prelude.{◌≡◌, ◌≢◌, ◌||◌, ◌≤◌, ℕ, false, None, IfOk, IfErr, OnOk, IfSome, codes};
+ghost use Rattle.std.specs.Option.{option_to_list};
+ghost use Rattle.gl_order.specs.Rule.{PicksBelow, rule_of};
+ghost use Rattle.gl_ast.specs.View.{version_tree};
+ghost use Rattle.gl_csvin.specs.Import.{csv_records};
+ghost use Rattle.gl_script.specs.Framer.{told};
+ghost use Rattle.gl_script.specs.Framer.{stream_at};
+ghost use Rattle.gl_protocol.specs.FramingLaw.{up_to_quit};
+ghost use Rattle.gl_protocol.specs.Stream.{nothing, step, gained, after, closing};
+ghost use Rattle.gl_protocol.specs.Framing.{has_quit};
+ghost use Rattle.gl_protocol.specs.Acts.{Acts};
+ghost use Rattle.gl_protocol.specs.Output.{is_line, is_refusal};
+ghost use Rattle.gl_run.specs.Script.{known_of, script_of};
+ghost use Rattle.gl_run.specs.Spends.{Spends};
+ghost use Rattle.gl_run.specs.State.{state_of, start, fresh};
+ghost use Rattle.gl_run.specs.Act.{Act};
+ghost use Rattle.gl_run.specs.Framed.{IsFramed, HasHeader};
+ghost use Rattle.gl_run.specs.Emitted.{Emits, Leaves};
+
+use crate::answers::{answer_line, answer_long, answer_truncated, is_version_line};
+use crate::imports::answer_import;
+use crate::script::new_script;
+use crate::session::{Session, Stop};
+use crate::write::write_all;
+use gl_ast::Version;
+use gl_demand::{Steps, Watch};
+use gl_order::Order;
+use gl_plane::NoMemory;
+use gl_port::{Failed, Sink};
+use gl_script::{Ended, Framer, is_quit};
+use std::alloc::Global;
+
+// Whether a reply is an `error` line.
+fn is_refusal(reply: &[u8]) -> bool
+    ensures { result ≡ is_refusal reply.now }
+{
+    reply.starts_with(b"error ".as_slice())
+}
+
+// `||` as a call, whose clause is at hand behind it.
+fn either(a: bool, b: bool) -> bool
+    ensures { result ≡ (a || b) }
+{
+    a || b
+}
+
+impl Session {
+    /// Nothing is begun, and the sheet is empty.
+    pub fn new(alloc: Global) -> Result<Session, NoMemory>
+        ensures stream { IfOk result (λ s. stream_at s.framer ≡ nothing) }
+        ensures state { IfOk result (λ s. (n : ℕ) → state_of s n ≡ start n) }
+        ensures refused { IfOk result (λ s. s.refused ≡ false) }
+    {
+        let script = new_script(alloc)?;
+        Ok(Session {
+            framer: Framer::new(alloc),
+            script,
+            version: None,
+            refused: false,
+        })
+    }
+
+    /// Whether a command was refused.
+    pub fn refused(&self) -> bool
+        ensures { result ≡ self.now.refused }
+    {
+        self.refused
+    }
+
+    // Whether it is the line that gives a script version Two.
+    fn asks_version_two(&self, ended: Ended) -> bool
+        ensures { IfSome (told ended self.now.framer) (λ item. result ≡ is_line (codes "gridlet 2") item) }
+    {
+        match ended {
+            Ended::Line => is_version_line(self.framer.line()),
+            _ => false,
+        }
+    }
+
+    // The reply to the item that ended, in a script of this version.
+    fn answer_in<F: Fn(u8, u64, u64) -> u64, L: Watch>(
+        &mut self,
+        alloc: Global,
+        version: Version,
+        order: &Order<F>,
+        kind: u8,
+        steps: &mut Steps<L>,
+        ended: Ended,
+    ) -> Result<Vec<u8>, NoMemory>
+        requires rule { PicksBelow (F.pre (rule_of order.now)) (F.post (rule_of order.now)) }
+        requires kind { kind ≤ 2 }
+        requires framed { IfSome (told ended self.old.framer) IsFramed }
+        ensures acts { IfOk result (λ reply. IfSome (told ended self.old.framer) (λ item.
+            Acts csv_records (version_tree version) (script_of self.old.script) item (script_of self.new.script) reply.items)) }
+        ensures spends { IfOk result (λ reply. IfSome (told ended self.old.framer) (λ item.
+            Spends (version_tree version) (known_of self.old.script) item reply.items
+            (known_of self.new.script) steps.old steps.new)) }
+        ensures framer { self.new.framer ≡ self.old.framer }
+        ensures version { self.new.version ≡ self.old.version }
+        ensures refused { self.new.refused ≡ self.old.refused }
+    {
+        match ended {
+            Ended::Nothing => Ok(Vec::new(alloc)),
+            Ended::Line => answer_line(
+                alloc,
+                &mut self.script,
+                version,
+                order,
+                kind,
+                steps,
+                self.framer.line(),
+            ),
+            Ended::Import => answer_import(
+                alloc,
+                &mut self.script,
+                self.framer.header(),
+                self.framer.payload(),
+            ),
+            Ended::Long => answer_long(alloc),
+            Ended::Truncated => answer_truncated(alloc),
+        }
+    }
+
+    // The reply to the first item, which gives the script its version.
+    fn answer_first<F: Fn(u8, u64, u64) -> u64, L: Watch>(
+        &mut self,
+        alloc: Global,
+        order: &Order<F>,
+        kind: u8,
+        steps: &mut Steps<L>,
+        ended: Ended,
+    ) -> Result<Vec<u8>, NoMemory>
+        requires rule { PicksBelow (F.pre (rule_of order.now)) (F.post (rule_of order.now)) }
+        requires kind { kind ≤ 2 }
+        requires framed { IfSome (told ended self.old.framer) IsFramed }
+        ensures acts { IfOk result (λ reply. IfSome (told ended self.old.framer) (λ item.
+            Act (fresh (known_of self.old.script) steps.old) item (state_of self.new steps.new) reply.items)) }
+        ensures framer { self.new.framer ≡ self.old.framer }
+        ensures refused { self.new.refused ≡ self.old.refused }
+    {
+        if self.asks_version_two(ended) {
+            self.version = Some(Version::Two);
+            return Ok(b"ok\n".to_vec(alloc)?);
+        }
+        self.version = Some(Version::One);
+        self.answer_in(alloc, Version::One, order, kind, steps, ended)
+    }
+
+    // The reply to the item that ended.
+    fn answer<F: Fn(u8, u64, u64) -> u64, L: Watch>(
+        &mut self,
+        alloc: Global,
+        order: &Order<F>,
+        kind: u8,
+        steps: &mut Steps<L>,
+        ended: Ended,
+    ) -> Result<Vec<u8>, NoMemory>
+        requires rule { PicksBelow (F.pre (rule_of order.now)) (F.post (rule_of order.now)) }
+        requires kind { kind ≤ 2 }
+        requires framed { IfSome (told ended self.old.framer) IsFramed }
+        ensures acts { IfOk result (λ reply. IfSome (told ended self.old.framer) (λ item.
+            Act (state_of self.old steps.old) item (state_of self.new steps.new) reply.items)) }
+        ensures framer { self.new.framer ≡ self.old.framer }
+        ensures refused { self.new.refused ≡ self.old.refused }
+    {
+        match self.version {
+            Some(version) => self.answer_in(alloc, version, order, kind, steps, ended),
+            None => self.answer_first(alloc, order, kind, steps, ended),
+        }
+    }
+
+    // Whether it is `quit`.
+    fn quits(&self, ended: Ended) -> bool
+        ensures { result ≡ has_quit (option_to_list (told ended self.now.framer)) }
+    {
+        match ended {
+            Ended::Line => is_quit(self.framer.line()),
+            _ => false,
+        }
+    }
+
+    // Answers an item, and writes the reply. Tells whether it is `quit`.
+    fn emit_item<F: Fn(u8, u64, u64) -> u64, L: Watch, K: Sink>(
+        &mut self,
+        alloc: Global,
+        order: &Order<F>,
+        kind: u8,
+        steps: &mut Steps<L>,
+        ended: Ended,
+        sink: &mut K,
+    ) -> Result<bool, Stop>
+        requires rule { PicksBelow (F.pre (rule_of order.now)) (F.post (rule_of order.now)) }
+        requires kind { kind ≤ 2 }
+        requires some { ended ≢ Ended.Nothing }
+        requires framed { IfSome (told ended self.old.framer) IsFramed }
+        ensures ok { OnOk result (Emits self.old self.new steps.old steps.new
+            (K.taken sink.old) (K.taken sink.new) (K.takes sink.old) (K.takes sink.new)
+            (option_to_list (told ended self.old.framer))) }
+        ensures quits { IfOk result (λ quits.
+            quits ≡ has_quit (option_to_list (told ended self.old.framer))) }
+        ensures framer { self.new.framer ≡ self.old.framer }
+        ensures err { IfErr result (λ stop. Leaves stop
+            (state_of self.old steps.old) (K.taken sink.old) (K.taken sink.new)
+            (K.takes sink.old) (K.faults sink.old) (K.faults sink.new)
+            (option_to_list (told ended self.old.framer))) }
+        ensures count { OnOk result (K.faults sink.new ≡ K.faults sink.old) }
+    {
+        let quits = self.quits(ended);
+        let reply = self.answer(alloc, order, kind, steps, ended)?;
+        self.refused = either(self.refused, is_refusal(&reply));
+        match write_all(sink, &reply) {
+            Ok(()) => Ok(quits),
+            Err(Failed) => Err(Stop::WriteFault),
+        }
+    }
+
+    // The same, where an item ended.
+    fn emit<F: Fn(u8, u64, u64) -> u64, L: Watch, K: Sink>(
+        &mut self,
+        alloc: Global,
+        order: &Order<F>,
+        kind: u8,
+        steps: &mut Steps<L>,
+        ended: Ended,
+        sink: &mut K,
+    ) -> Result<bool, Stop>
+        requires rule { PicksBelow (F.pre (rule_of order.now)) (F.post (rule_of order.now)) }
+        requires kind { kind ≤ 2 }
+        requires framed { IfSome (told ended self.old.framer) IsFramed }
+        ensures ok { OnOk result (Emits self.old self.new steps.old steps.new
+            (K.taken sink.old) (K.taken sink.new) (K.takes sink.old) (K.takes sink.new)
+            (option_to_list (told ended self.old.framer))) }
+        ensures quits { IfOk result (λ quits.
+            quits ≡ has_quit (option_to_list (told ended self.old.framer))) }
+        ensures framer { self.new.framer ≡ self.old.framer }
+        ensures err { IfErr result (λ stop. Leaves stop
+            (state_of self.old steps.old) (K.taken sink.old) (K.taken sink.new)
+            (K.takes sink.old) (K.faults sink.old) (K.faults sink.new)
+            (option_to_list (told ended self.old.framer))) }
+        ensures count { OnOk result (K.faults sink.new ≡ K.faults sink.old) }
+    {
+        match ended {
+            Ended::Nothing => Ok(false),
+            item => self.emit_item(alloc, order, kind, steps, item, sink),
+        }
+    }
+
+    // Takes the next byte. Tells whether a `quit` ended with it.
+    fn take_byte<F: Fn(u8, u64, u64) -> u64, L: Watch, K: Sink>(
+        &mut self,
+        alloc: Global,
+        order: &Order<F>,
+        kind: u8,
+        steps: &mut Steps<L>,
+        b: u8,
+        sink: &mut K,
+    ) -> Result<bool, Stop>
+        requires rule { PicksBelow (F.pre (rule_of order.now)) (F.post (rule_of order.now)) }
+        requires kind { kind ≤ 2 }
+        requires header { HasHeader (stream_at self.old.framer) }
+        ensures ok { OnOk result (Emits self.old self.new steps.old steps.new
+            (K.taken sink.old) (K.taken sink.new) (K.takes sink.old) (K.takes sink.new)
+            (option_to_list (step (stream_at self.old.framer) b).1)) }
+        ensures quits { IfOk result (λ quits.
+            quits ≡ has_quit (option_to_list (step (stream_at self.old.framer) b).1)) }
+        ensures framer { OnOk result
+            (stream_at self.new.framer ≡ (step (stream_at self.old.framer) b).0) }
+        ensures err { IfErr result (λ stop. Leaves stop
+            (state_of self.old steps.old) (K.taken sink.old) (K.taken sink.new)
+            (K.takes sink.old) (K.faults sink.old) (K.faults sink.new)
+            (option_to_list (step (stream_at self.old.framer) b).1)) }
+        ensures count { OnOk result (K.faults sink.new ≡ K.faults sink.old) }
+    {
+        let ended = self.framer.push(b)?;
+        self.emit(alloc, order, kind, steps, ended, sink)
+    }
+
+    /// Takes the next bytes, up to a `quit`, and writes the replies to the items that end in them.
+    /// Tells whether a `quit` did. After an `Err` it is of no further use.
+    pub fn take<F: Fn(u8, u64, u64) -> u64, L: Watch, K: Sink>(
+        &mut self,
+        alloc: Global,
+        order: &Order<F>,
+        kind: u8,
+        steps: &mut Steps<L>,
+        chunk: &[u8],
+        sink: &mut K,
+    ) -> Result<bool, Stop>
+        requires rule { PicksBelow (F.pre (rule_of order.now)) (F.post (rule_of order.now)) }
+        requires kind { kind ≤ 2 }
+        requires header { HasHeader (stream_at self.old.framer) }
+        ensures ok { OnOk result (Emits self.old self.new steps.old steps.new
+            (K.taken sink.old) (K.taken sink.new) (K.takes sink.old) (K.takes sink.new)
+            (up_to_quit (gained (stream_at self.old.framer) chunk.now))) }
+        ensures quits { IfOk result (λ quits.
+            quits ≡ has_quit (gained (stream_at self.old.framer) chunk.now)) }
+        ensures framer { IfOk result (λ quits. quits ≡ false
+            → stream_at self.new.framer ≡ after (stream_at self.old.framer) chunk.now) }
+        ensures err { IfErr result (λ stop. Leaves stop
+            (state_of self.old steps.old) (K.taken sink.old) (K.taken sink.new)
+            (K.takes sink.old) (K.faults sink.old) (K.faults sink.new)
+            (up_to_quit (gained (stream_at self.old.framer) chunk.now))) }
+        ensures count { OnOk result (K.faults sink.new ≡ K.faults sink.old) }
+    {
+        for b in chunk {
+            match self.take_byte(alloc, order, kind, steps, *b, sink) {
+                Ok(false) => {}
+                Ok(true) => return Ok(true),
+                Err(stop) => return Err(stop),
+            }
+        }
+        Ok(false)
+    }
+
+    /// Ends the input, and writes the reply to the item that ends with it. After an `Err` it is of no
+    /// further use.
+    pub fn finish<F: Fn(u8, u64, u64) -> u64, L: Watch, K: Sink>(
+        &mut self,
+        alloc: Global,
+        order: &Order<F>,
+        kind: u8,
+        steps: &mut Steps<L>,
+        sink: &mut K,
+    ) -> Result<(), Stop>
+        requires rule { PicksBelow (F.pre (rule_of order.now)) (F.post (rule_of order.now)) }
+        requires kind { kind ≤ 2 }
+        requires header { HasHeader (stream_at self.old.framer) }
+        ensures ok { OnOk result (Emits self.old self.new steps.old steps.new
+            (K.taken sink.old) (K.taken sink.new) (K.takes sink.old) (K.takes sink.new)
+            (option_to_list (closing (stream_at self.old.framer)))) }
+        ensures err { IfErr result (λ stop. Leaves stop
+            (state_of self.old steps.old) (K.taken sink.old) (K.taken sink.new)
+            (K.takes sink.old) (K.faults sink.old) (K.faults sink.new)
+            (option_to_list (closing (stream_at self.old.framer)))) }
+        ensures count { OnOk result (K.faults sink.new ≡ K.faults sink.old) }
+    {
+        let ended = self.framer.finish()?;
+        self.emit(alloc, order, kind, steps, ended, sink)?;
+        Ok(())
+    }
+}
