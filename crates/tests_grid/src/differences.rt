@@ -101,9 +101,19 @@ fn oracle_of(alloc: Global, arrays: &Arrays) -> Result<Oracle, Fail>
     granted(alloc, &sizes, &blocks)
 }
 
+/// The address has another status in the other oracle.
+fn status_differs(w: &Oracle, v: &Oracle, a: Addr) -> bool {
+    w.status(a) != v.status(a)
+}
+
+/// The address has another cover in the other oracle.
+fn cover_differs(w: &Oracle, v: &Oracle, a: Addr) -> bool {
+    w.cover(a) != v.cover(a)
+}
+
 /// The address has another status or another cover in the other oracle.
 fn differs(w: &Oracle, v: &Oracle, a: Addr) -> bool {
-    w.status(a) != v.status(a) || w.cover(a) != v.cover(a)
+    status_differs(w, v, a) || cover_differs(w, v, a)
 }
 
 /// In a row of a small grid, the ranges cover the addresses at which the oracles differ.
