@@ -130,13 +130,13 @@ pub proper_test : (S : Cells) (k : Key) → IsProperKey S k → is_proper S k �
 proper_test S (Cell e a) (f, h) = rw h refl
 proper_test S (Settle s) h = refl
 
-asks_test : (S : Cells) {A R : Type 0} → {q : Query Key Outcome A R} → EachAsked (IsProperKey S) q → EachAsked (λ k. is_proper S k ≡ true) q
+pub asks_test : (S : Cells) {A R : Type 0} → {q : Query Key Outcome A R} → EachAsked (IsProperKey S) q → EachAsked (λ k. is_proper S k ≡ true) q
 asks_test S no_ask = no_ask
 asks_test S (look e) = look (asks_test S e)
 asks_test S (ask {k = k} p e) = ask (proper_test S k p) (λ o. asks_test S (e o))
 
 -- the key that decides what an address shows is a formula's of the top
-decides : (S : Cells) (w : Oracle) (a : Addr) (k : Key) → key_at S w a ≡ Some k → (b : Addr) × (f : Formula) × (k ≡ Cell Top b) × (content S b ≡ Some (Form f))
+pub decides : (S : Cells) (w : Oracle) (a : Addr) (k : Key) → key_at S w a ≡ Some k → (b : Addr) × (f : Formula) × (k ≡ Cell Top b) × (content S b ≡ Some (Form f))
 decides S w a k e = by (content S a) refl e
   where
     formula : (b : Addr) (c : Option Content) → content S b ≡ c → formula_key b c ≡ Some k → (b : Addr) × (f : Formula) × (k ≡ Cell Top b) × (content S b ≡ Some (Form f))
@@ -152,7 +152,7 @@ decides S w a k e = by (content S a) refl e
     by (Some c) d z = formula a (Some c) d z
     by None d z = under (cover w a) z
 
-root_proper : (S : Cells) (w : Oracle) (a : Addr) (k : Key) → key_at S w a ≡ Some k → is_proper S k ≡ true
+pub root_proper : (S : Cells) (w : Oracle) (a : Addr) (k : Key) → key_at S w a ≡ Some k → is_proper S k ≡ true
 root_proper S w a k e = let (b, f, d, h) = decides S w a k e in subst (λ u. is_proper S u ≡ true) (sym d) (rw h refl)
 
 module _ (version : Version) (S : Cells) (w : Oracle) (a : Addr) where

@@ -16,7 +16,7 @@ snoc_not_nil : {X : Type 0} (xs : List X) (x : X) → [] ≡ xs ++ x ∷ [] → 
 snoc_not_nil [] x e = absurd (cc e)
 snoc_not_nil (y ∷ xs) x e = absurd (cc e)
 
-snoc_same : {X : Type 0} (xs ys : List X) (x y : X) → xs ++ x ∷ [] ≡ ys ++ y ∷ [] → (xs ≡ ys) × (x ≡ y)
+pub snoc_same : {X : Type 0} (xs ys : List X) (x y : X) → xs ++ x ∷ [] ≡ ys ++ y ∷ [] → (xs ≡ ys) × (x ≡ y)
 snoc_same [] [] x y e = (refl, cc e)
 snoc_same [] (z ∷ ys) x y e = let d : [] ≡ ys ++ y ∷ [] = cc e in absurd (snoc_not_nil ys y d)
 snoc_same (z ∷ xs) [] x y e = let d : xs ++ x ∷ [] ≡ [] = cc e in absurd (snoc_not_nil xs x (sym d))

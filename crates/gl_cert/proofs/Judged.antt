@@ -1,0 +1,25 @@
+-- What a check over a set of the loops finds is what the definition says of their list.
+use Rattle.std.proofs.Common.{◌≡◌, ℕ, List, Option, sym, ap, ◌∙◌}
+use Rattle.gl_query.specs.Lists.{has_member}
+use Rattle.gl_calculus.specs.Grid.{Addr}
+use Rattle.gl_calculus.specs.Value.{Oracle}
+use Rattle.gl_calculus.specs.Formula.{Version, Cells}
+use Rattle.gl_calculus.specs.Key.{Key, Outcome, same_key}
+use Rattle.gl_calculus.specs.SameOutcome.{same_outcome}
+use Rattle.gl_calculus.specs.Evaluation.{program}
+use Rattle.gl_calculus.proofs.Tests.{key_equality}
+use Rattle.gl_explanation.specs.Walk.{Claim, first_free}
+use Rattle.gl_explanation.specs.Certificate.{is_proper, says}
+use Rattle.gl_explanation.proofs.Checking.{free_same}
+use Rattle.gl_explanation.proofs.Judging.{says_same}
+
+module _ (version : Version) (S : Cells) (w : Oracle) (ns ms : List (Claim Key Outcome)) (set ls : List Key) (same : ns ≡ ms) (alike : (j : Key) → has_member same_key j set ≡ has_member same_key j ls) where
+  abbrev free : List (Claim Key Outcome) → List Key → List Key → Option ℕ
+  free xs ks js = first_free same_key same_outcome (is_proper S) (program version S w) xs ks js
+
+  pub free_is : (js : List Key) (o : Option ℕ) → js ≡ ls → o ≡ free ns set js → free ms ls ls ≡ o
+  free_is js o e h =
+      sym (h ∙ free_same same_key same_outcome (is_proper S) (program version S w) key_equality ns set ls alike js ∙ ap (free ns ls) e ∙ ap (λ xs. free xs ls ls) same)
+
+  pub says_is : (a : Addr) → says S w a ns set ≡ says S w a ms ls
+  says_is a = says_same S w a ns set ls alike ∙ ap (λ xs. says S w a xs ls) same

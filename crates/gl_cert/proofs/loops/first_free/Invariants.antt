@@ -1,0 +1,19 @@
+use Rattle.std.proofs.Common.{◌≡◌, ◌≤◌, ◌+◌, map, drop}
+use Rattle.gl_calculus.specs.Evaluation.{program}
+use Rattle.gl_calculus.specs.Key.{same_key}
+use Rattle.gl_calculus.specs.SameOutcome.{same_outcome}
+use Rattle.gl_explanation.specs.Certificate.{is_proper}
+use Rattle.gl_explanation.specs.Walk.{first_free}
+use Rattle.gl_explanation.proofs.Numbering.{further}
+use Rattle.gl_ast.specs.View.{version_tree}
+use Rattle.gl_cells.specs.Sheet.{sheet}
+use Rattle.gl_demand.specs.View.{key_tree}
+use Rattle.gl_cert.specs.Notes.{claims}
+use Rattle.gl_cert.proofs.loops.first_free.Given as goal
+
+abbrev pub invariant-loop-i : goal.invariant-loop-i
+invariant-loop-i g l = record {
+  whole : first_free same_key same_outcome (is_proper (sheet l.cells)) (program (version_tree l.version) (sheet l.cells) l.w) (claims l.notes) (map key_tree l.loops.keys) (map key_tree l.list)
+      ≡ further l.i (first_free same_key same_outcome (is_proper (sheet l.cells)) (program (version_tree l.version) (sheet l.cells) l.w) (claims l.notes) (map key_tree l.loops.keys) (map key_tree (drop l.i l.list)));
+  steps : l.steps ≤ l.fn.steps + l.i;
+}

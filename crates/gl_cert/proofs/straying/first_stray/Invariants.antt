@@ -1,0 +1,18 @@
+use Rattle.std.proofs.Common.{◌≤◌, ◌+◌, drop}
+use Rattle.gl_calculus.specs.Evaluation.{program}
+use Rattle.gl_calculus.specs.Key.{same_key}
+use Rattle.gl_calculus.specs.SameOutcome.{same_outcome}
+use Rattle.gl_calculus.proofs.Tests.{key_equality}
+use Rattle.gl_explanation.specs.Certificate.{is_proper}
+use Rattle.gl_explanation.proofs.Checking.{Passed}
+use Rattle.gl_ast.specs.View.{version_tree}
+use Rattle.gl_cells.specs.Sheet.{sheet}
+use Rattle.gl_cert.specs.Claims.{claim_trees}
+use Rattle.gl_cert.specs.Notes.{claims}
+use Rattle.gl_cert.proofs.straying.first_stray.Given as goal
+
+abbrev pub invariant-loop-i : goal.invariant-loop-i
+invariant-loop-i g l = record {
+  passed : Passed same_key same_outcome (is_proper (sheet l.cells)) (program (version_tree l.version) (sheet l.cells) l.w) key_equality (claim_trees l.list) (claims l.notes) (claim_trees (drop l.i l.list)) l.i;
+  steps : l.steps ≤ l.fn.steps + l.i;
+}

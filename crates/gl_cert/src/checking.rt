@@ -1,0 +1,141 @@
+//! The check of a certificate.
+ghost use Rattle.std.specs.Prelude.{◌≡◌, ◌≤◌, ◌+◌, [], None, length, map, option_map, IfOk};
+ghost use Rattle.gl_calculus.specs.Calculation.{IsShown};
+ghost use Rattle.gl_calculus.specs.Evaluation.{program};
+ghost use Rattle.gl_calculus.specs.Key.{same_key};
+ghost use Rattle.gl_calculus.specs.SameOutcome.{same_outcome};
+ghost use Rattle.gl_explanation.specs.Certificate as E;
+ghost use Rattle.gl_explanation.specs.Certificate.{verdict, judged, says_so, says, is_proper};
+ghost use Rattle.gl_explanation.specs.Walk.{first_free};
+ghost use Rattle.gl_value.specs.Made.{shown_tree};
+ghost use Rattle.gl_ast.specs.View.{version_tree};
+ghost use Rattle.gl_cells.specs.Sheet.{sheet};
+ghost use Rattle.gl_demand.specs.Sound.{AreSoundKeys};
+ghost use Rattle.gl_demand.specs.View.{key_tree};
+ghost use Rattle.gl_cert.specs.Notes.{claims};
+ghost use Rattle.gl_cert.specs.View.{cert_tree, verdict_tree};
+
+use crate::loops::{first_free, key_set};
+use crate::straying::first_stray;
+use crate::{Cert, Notes, Verdict, says};
+use gl_ast::Version;
+use gl_cells::Cells;
+use gl_demand::{Key, Steps, Watch};
+use gl_plane::{Addr, NoMemory, Oracle};
+use gl_value::Shown;
+use indexmap::IndexSet;
+use std::alloc::Global;
+
+/// The verdict by what is said to be shown.
+fn judge(c: &Cert, said: Option<Shown>) -> Verdict
+    ensures { verdict_tree result
+        ≡ judged None None (says_so (cert_tree c.now).shown (option_map shown_tree said)) }
+{
+    match said {
+        Some(x) => {
+            if c.shown == x {
+                return Verdict::Accepted;
+            }
+            Verdict::Wrong
+        }
+        None => Verdict::Wrong,
+    }
+}
+
+/// The verdict on what is shown, where all notes and loops are right.
+fn check_shown(
+    cells: &Cells,
+    w: &Oracle,
+    a: Addr,
+    c: &Cert,
+    notes: &Notes,
+    loops: &IndexSet<Key>,
+) -> Result<Verdict, NoMemory>
+    ensures { IfOk result (λ v. verdict_tree v ≡ judged None None (says_so (cert_tree c.now).shown
+        (says (sheet cells.now) w.now a (claims notes.now) (map key_tree loops.now.keys)))) }
+{
+    match says(cells, w, a, notes, loops) {
+        Ok(said) => Ok(judge(c, said)),
+        Err(NoMemory) => Err(NoMemory),
+    }
+}
+
+/// The verdict on the loops and on what is shown, where all notes are right.
+fn check_loops<L: Watch>(
+    alloc: Global,
+    cells: &Cells,
+    w: &Oracle,
+    a: Addr,
+    c: &Cert,
+    notes: &Notes,
+    version: Version,
+    steps: &mut Steps<L>,
+) -> Result<Verdict, NoMemory>
+    requires noted { claims notes.now ≡ (cert_tree c.now).notes }
+    requires loops { AreSoundKeys (cert_tree c.now).loops }
+    ensures verdict { IfOk result (λ v. verdict_tree v ≡ judged None
+        (first_free same_key same_outcome (is_proper (sheet cells.now))
+        (program (version_tree version) (sheet cells.now) w.now)
+        (cert_tree c.now).notes (cert_tree c.now).loops (cert_tree c.now).loops)
+        (says_so (cert_tree c.now).shown
+        (says (sheet cells.now) w.now a (cert_tree c.now).notes (cert_tree c.now).loops))) }
+    ensures steps { steps.new ≤ steps.old + length (cert_tree c.now).loops }
+{
+    let loops = key_set(alloc, &c.loops)?;
+    match first_free(alloc, cells, w, &c.loops, &loops, notes, version, steps) {
+        Ok(None) => check_shown(cells, w, a, c, notes, &loops),
+        Ok(Some(at)) => Ok(Verdict::Loop { at }),
+        Err(NoMemory) => Err(NoMemory),
+    }
+}
+
+/// The verdict on a certificate.
+fn verdict_on<L: Watch>(
+    alloc: Global,
+    cells: &Cells,
+    w: &Oracle,
+    a: Addr,
+    c: &Cert,
+    version: Version,
+    steps: &mut Steps<L>,
+) -> Result<Verdict, NoMemory>
+    requires keys { AreSoundKeys (map (λ n. n.0) (cert_tree c.now).notes) }
+    requires loops { AreSoundKeys (cert_tree c.now).loops }
+    ensures verdict { IfOk result (λ v. verdict_tree v
+        ≡ verdict (version_tree version) (sheet cells.now) w.now a (cert_tree c.now)) }
+    ensures steps { steps.new ≤ steps.old
+        + length (cert_tree c.now).notes + length (cert_tree c.now).loops }
+{
+    let mut notes = Notes::new(alloc);
+    match first_stray(alloc, cells, w, &c.notes, &mut notes, version, steps) {
+        Ok(None) => check_loops(alloc, cells, w, a, c, &notes, version, steps),
+        Ok(Some(at)) => Ok(Verdict::Note { at }),
+        Err(NoMemory) => Err(NoMemory),
+    }
+}
+
+/// Checks a certificate of what an address shows, in a sheet and under an oracle.
+///
+/// `Note` and `Loop` tell the first note, or else the first loop, that is not right, and `Wrong` that
+/// only what is shown is not. What an accepted certificate says is what the address shows. Each note
+/// and each loop takes one step at most, also where the answer is `NoMemory`.
+pub fn check<L: Watch>(
+    alloc: Global,
+    cells: &Cells,
+    w: &Oracle,
+    a: Addr,
+    c: &Cert,
+    version: Version,
+    steps: &mut Steps<L>,
+) -> Result<Verdict, NoMemory>
+    requires keys { AreSoundKeys (map (λ n. n.0) (cert_tree c.now).notes) }
+    requires loops { AreSoundKeys (cert_tree c.now).loops }
+    ensures verdict { IfOk result (λ v. verdict_tree v
+        ≡ verdict (version_tree version) (sheet cells.now) w.now a (cert_tree c.now)) }
+    ensures shows { IfOk result (λ v. verdict_tree v ≡ E.Accepted
+        → IsShown (version_tree version) (sheet cells.now) w.now a (cert_tree c.now).shown) }
+    ensures steps { steps.new ≤ steps.old
+        + length (cert_tree c.now).notes + length (cert_tree c.now).loops }
+{
+    verdict_on(alloc, cells, w, a, c, version, steps)
+}

@@ -1,0 +1,105 @@
+-- A turn of the walk, by what becomes of its notes and its stack.
+use Rattle.std.proofs.Common.{◌≡◌, ℕ, ◌+◌, ◌<◌, ◌≤◌, List, [], ◌∷◌, ◌++◌, length, true, false, Some, None, IsTrue, refl, sym, ap, subst, ◌∙◌, arith}
+use Rattle.std.proofs.lemmas.List.{length-append, length-reverse}
+use Rattle.gl_query.specs.Lists.{has_member}
+use Rattle.gl_query.specs.Query.{Ready, Need, found}
+use Rattle.gl_calculus.specs.Limits.{max_demanded}
+use Rattle.gl_calculus.specs.Value.{Oracle}
+use Rattle.gl_calculus.specs.Formula.{Version, Cells}
+use Rattle.gl_calculus.specs.Key.{Key, Outcome, same_key}
+use Rattle.gl_calculus.specs.SameOutcome.{same_outcome}
+use Rattle.gl_calculus.specs.Evaluation.{program}
+use Rattle.gl_calculus.specs.Sound.{is_sound_key, IsProperKey}
+use Rattle.gl_demand.specs.Sound.{AreSoundKeys}
+use Rattle.gl_explain.proofs.Tops.{more_sound}
+use Rattle.gl_calculus.proofs.OutcomeTests.{outcome_equality}
+use Rattle.gl_calculus.proofs.Proper.{asks_proper}
+use Rattle.gl_calculus.proofs.Tests.{key_equality}
+use Rattle.gl_explanation.specs.Walk.{Claim, noted, Explained, IsWalk}
+use Rattle.gl_explanation.specs.Certificate.{is_proper}
+use Rattle.gl_explanation.proofs.Explaining.{asks_test}
+use Rattle.gl_explanation.proofs.Judging.{test_proper}
+use Rattle.gl_explanation.proofs.Going as Go
+use Rattle.gl_explanation.proofs.Spending as Sp
+use Rattle.gl_explanation.proofs.Walks as Wa
+use Rattle.gl_explain.specs.Walking.{IsWalking, HasEnded, IsFull, IsTurned, left}
+use Rattle.gl_explain.specs.Putting.{IsTakenOff, IsPutOn, there, full, on}
+use Rattle.gl_explain.specs.declared.turning.Turned.{Turned}
+use Rattle.gl_explain.specs.declared.turning.Turned.TheVariants.{On, Ended, Full}
+
+module _ (version : Version) (S : Cells) (w : Oracle) (root : Key) where
+  abbrev Walking : ℕ → ℕ → List (Claim Key Outcome) → List Key → Type 0
+  Walking n m done up = IsWalking version S w root n m done up
+
+  pub begin_walk : (n : ℕ) → is_proper S root ≡ true → Walking n n [] (root ∷ [])
+  begin_walk n f = record { fine = f; so_far = Go.begins same_key same_outcome (is_proper S) max_demanded (program version S w) key_equality outcome_equality (λ k. asks_test S (asks_proper S w version k)) root f n (omega arith) }
+
+  pub top_free : (n m : ℕ) (done : List (Claim Key Outcome)) (us : List Key) (k : Key) → Walking n m done (us ++ k ∷ []) → noted same_key done k ≡ None
+  top_free n m done us k h = Go.top_unnoted same_key same_outcome (is_proper S) max_demanded (program version S w) key_equality outcome_equality (λ k. asks_test S (asks_proper S w version k)) root h.fine n m done us k h.so_far
+
+  pub top_proper : (n m : ℕ) (done : List (Claim Key Outcome)) (us : List Key) (k : Key) → Walking n m done (us ++ k ∷ []) → IsProperKey S k
+  top_proper n m done us k h = test_proper S k (Go.top_allowed same_key same_outcome (is_proper S) max_demanded (program version S w) key_equality outcome_equality (λ k. asks_test S (asks_proper S w version k)) root h.fine n m done us k h.so_far)
+
+  -- what a walk that ended found
+  ends_sound : (h : is_proper S root ≡ true) (done : List (Claim Key Outcome)) (up : List Key) → IsWalk same_key max_demanded (program version S w) (root ∷ []) (Explained done up) →
+      Wa.Sound same_key same_outcome (is_proper S) max_demanded (program version S w) key_equality outcome_equality (λ k. asks_test S (asks_proper S w version k)) root h done up
+  ends_sound h done up (i, e) = Wa.walk_finds same_key same_outcome (is_proper S) max_demanded (program version S w) key_equality outcome_equality (λ k. asks_test S (asks_proper S w version k)) root h i (Explained done up) e
+
+  pub end_empty : (n m : ℕ) (done : List (Claim Key Outcome)) → Walking n m done [] → HasEnded version S w root n m done []
+  end_empty n m done h =
+      let e = Go.emptied same_key same_outcome (is_proper S) max_demanded (program version S w) key_equality outcome_equality (λ k. asks_test S (asks_proper S w version k)) root h.fine n m done h.so_far in
+      record { walked = e; allows = Sp.emptied_spent same_key same_outcome (is_proper S) max_demanded (program version S w) key_equality outcome_equality (λ k. asks_test S (asks_proper S w version k)) root h.fine n m done h.so_far (ends_sound h.fine done [] e) }
+
+  -- a turn where the top has an outcome
+  pub off_turned : (n m l : ℕ) (done more : List (Claim Key Outcome)) (up us : List Key) (o : Outcome) (t : Turned) → Walking n m done up → IsTakenOff o done up t more us →
+      ((k : Key) (vs : List Key) → up ≡ vs ++ k ∷ [] → found (noted same_key done) (program version S w k) ≡ Ready o) → l ≤ m + 1 → IsTurned version S w root n l more us t
+  off_turned n m l done more up us o t h x f b =
+      subst (IsTurned version S w root n l more us) (sym x.goes_on)
+      (subst (λ d. Walking n l d us) (sym x.noted)
+      (let g = subst (Walking n m done) x.off h in
+      record { fine = g.fine; so_far = Go.taken_off same_key same_outcome (is_proper S) max_demanded (program version S w) key_equality outcome_equality (λ k. asks_test S (asks_proper S w version k)) root g.fine n m l done us x.top o g.so_far (f x.top us x.off) b }))
+
+  -- a turn where it lacks a key
+  pub on_turned : (n m l : ℕ) (done : List (Claim Key Outcome)) (up us vs : List Key) (k j : Key) (t : Turned) → Walking n m done up → up ≡ us ++ k ∷ [] → IsPutOn j done up t vs →
+      found (noted same_key done) (program version S w k) ≡ Need j → l ≤ m + 1 → IsTurned version S w root n l done vs t
+  on_turned n m l done up us vs k j t h e p f b = by t vs p
+    where
+      g : Walking n m done (us ++ k ∷ [])
+      g = subst (Walking n m done) e h
+
+      by : (t : Turned) (vs : List Key) → IsPutOn j done up t vs → IsTurned version S w root n l done vs t
+      by _ _ (there i) =
+          let i' = subst (λ z. has_member same_key j z ≡ true) e i in
+          let c = Go.circled same_key same_outcome (is_proper S) max_demanded (program version S w) key_equality outcome_equality (λ k. asks_test S (asks_proper S w version k)) root g.fine n m done us k j g.so_far f i' in
+          subst (HasEnded version S w root n l done) (sym e)
+          (record { walked = c; allows = Sp.circled_spent same_key same_outcome (is_proper S) max_demanded (program version S w) key_equality outcome_equality (λ k. asks_test S (asks_proper S w version k)) root g.fine n m l done us k g.so_far (ends_sound g.fine done (us ++ k ∷ []) c) b })
+      by _ _ (full i c) =
+          let i' = subst (λ z. has_member same_key j z ≡ false) e i in
+          let c' = subst (λ z. length done + length z ≡ max_demanded) e c in
+          let (ks, d, q, each, most) = Sp.exhausted_spent same_key same_outcome (is_proper S) max_demanded (program version S w) key_equality outcome_equality (λ k. asks_test S (asks_proper S w version k)) root g.fine n m l done us k g.so_far c' b in
+          record {
+            walked = Go.exhausted same_key same_outcome (is_proper S) max_demanded (program version S w) key_equality outcome_equality (λ k. asks_test S (asks_proper S w version k)) root g.fine n m done us k j g.so_far f i' c';
+            allows = record { keys = ks; distinct = d; few = q; each = λ x y. (each x y, refl); most = most };
+          }
+      by _ _ (on i c) =
+          let i' = subst (λ z. has_member same_key j z ≡ false) e i in
+          let c' : length done + length (us ++ k ∷ []) ≡ max_demanded → ⊥ = λ z. c (ap (λ y. length done + length y) e ∙ z) in
+          subst (λ z. Walking n l done (z ++ j ∷ [])) (sym e)
+          (record { fine = g.fine; so_far = Go.put_on same_key same_outcome (is_proper S) max_demanded (program version S w) key_equality outcome_equality (λ k. asks_test S (asks_proper S w version k)) root g.fine n m l done us k j g.so_far f i' c' b })
+
+  walking_room : (n m : ℕ) (done : List (Claim Key Outcome)) (up : List Key) → Walking n m done up → length done + length up ≤ max_demanded
+  walking_room n m done up h = omega (arith, h.so_far.room, ap length h.so_far.order, ap length h.so_far.stacked, length-reverse h.so_far.notes, length-reverse h.so_far.stack)
+
+  pub put_falls : (n m : ℕ) (done : List (Claim Key Outcome)) (up vs : List Key) (j : Key) (t : Turned) → Walking n m done up → IsPutOn j done up t vs → t ≡ On → left done vs < left done up
+  put_falls n m done up vs j t h p e = by t vs p e
+    where
+      by : (t : Turned) (vs : List Key) → IsPutOn j done up t vs → t ≡ On → left done vs < left done up
+      by _ _ (there i) e = absurd (cc e)
+      by _ _ (full i c) e = absurd (cc e)
+      by _ _ (on i c) e = omega (arith, c, walking_room n m done up h, length-append up (j ∷ []))
+
+-- the keys on the stack stay sound
+pub put_sound : (done : List (Claim Key Outcome)) (up vs : List Key) (j : Key) (t : Turned) → IsPutOn j done up t vs → AreSoundKeys up → IsTrue (is_sound_key j) → AreSoundKeys vs
+put_sound done up _ j _ (there i) h s = h
+put_sound done up _ j _ (full i c) h s = h
+put_sound done up _ j _ (on i c) h s = more_sound up j h s

@@ -1,0 +1,25 @@
+use Rattle.std.proofs.Common.{◌≡◌, ◌+◌, false, length, map, sym, subst, ap, ◌∙◌, arith}
+use Rattle.gl_query.specs.Lists.{has_member}
+use Rattle.gl_calculus.specs.Limits.{max_demanded}
+use Rattle.gl_calculus.specs.Key.{same_key}
+use Rattle.gl_demand.specs.View.{key_tree}
+use Rattle.gl_cert.specs.Notes.{claims}
+use Rattle.gl_explain.specs.Putting.{IsPutOn, there, full, on}
+use Rattle.gl_explain.specs.declared.turning.Turned.TheVariants.{On}
+use Rattle.gl_explain.proofs.Tops.{trees_length, put_last}
+use Rattle.gl_explain.proofs.turning.put_on.Goals as goal
+
+pub returns-then-is_among : goal.returns-then-is_among
+returns-then-is_among c = record { put = there (sym c.is_among.ensures ∙ c.if-is_among.true) }
+
+pub returns-then-len-eq-MAX_DEMANDED : goal.returns-then-len-eq-MAX_DEMANDED
+returns-then-len-eq-MAX_DEMANDED c =
+    let e : length (claims c.args.notes.now) + length (map key_tree c.args.stack.now.keys) ≡ max_demanded = omega (arith, c.len.ensures.count, c.len-2.ensures.len, c.if-len-eq-MAX_DEMANDED.true, trees_length c.args.stack.now.keys) in
+    record { put = full (sym c.is_among.ensures ∙ c.if-is_among.false) e }
+
+pub returns : goal.returns
+returns c =
+    let off : has_member same_key (key_tree c.args.key) (map key_tree c.args.stack.now.keys) ≡ false = sym c.is_among.ensures ∙ c.if-is_among.false in
+    let few : length (claims c.args.notes.now) + length (map key_tree c.args.stack.now.keys) ≡ max_demanded → ⊥ = λ e. omega (arith, e, c.len.ensures.count, c.len-2.ensures.len, c.if-len-eq-MAX_DEMANDED.false, trees_length c.args.stack.now.keys) in
+    let last = ap (map key_tree) c.in_ok-insert.ensures.keys ∙ put_last c.args.stack.now.keys c.args.key off in
+    record { put = subst (IsPutOn (key_tree c.args.key) (claims c.args.notes.now) (map key_tree c.args.stack.now.keys) On) (sym last) (on off few) }

@@ -1,0 +1,139 @@
+use Rattle.std.proofs.Common.{◌≡◌, ℕ, ◌≤◌, ◌+◌, ◌<◌, None, map, [], ◌∷◌, ◌++◌, IsTrue, ap, sym, subst, ◌∙◌, arith}
+use Rattle.std.proofs.lemmas.Result.{IfOk-weaker}
+use Rattle.gl_query.specs.Query.{Ready, Need, found}
+use Rattle.gl_calculus.specs.Evaluation.{program}
+use Rattle.gl_calculus.specs.Key as K
+use Rattle.gl_calculus.specs.Key.{same_key}
+use Rattle.gl_calculus.specs.Sound.{is_sound_key}
+use Rattle.gl_explanation.specs.Walk.{noted}
+use Rattle.gl_ast.specs.View.{version_tree}
+use Rattle.gl_cells.specs.Sheet.{sheet}
+use Rattle.gl_demand.specs.Sound.{AreSoundKeys, IsSoundFound}
+use Rattle.gl_demand.specs.View.{key_tree, outcome_tree, found_tree}
+use Rattle.gl_demand.specs.Steps.{one_more}
+use Rattle.gl_cert.specs.Notes.{claims}
+use Rattle.gl_explain.specs.Walking.{IsWalking, HasEnded, IsTurned, left}
+use Rattle.gl_explain.specs.Putting.{IsTakenOff, IsPutOn}
+use Rattle.gl_explain.specs.declared.turning.Turned.TheVariants.{On}
+use Rattle.gl_explain.proofs.Tops.{trees_top, top_sound, below_sound, one_top, stepped}
+use Rattle.gl_explain.proofs.Turns.{top_free, top_proper, off_turned, on_turned, end_empty, put_falls, put_sound}
+use Rattle.gl_explain.proofs.turning.turn.Goals as goal
+
+pub level-requires-clause-sound : goal.level-requires-clause-sound
+level-requires-clause-sound g c = top_sound c.args.stack.now.keys c.in-Some.key.now c.requires.sound c.in-Some.ensures.some
+
+pub level-requires-clause-proper : goal.level-requires-clause-proper
+level-requires-clause-proper g c =
+    let v = version_tree c.args.version in
+    let S = sheet c.args.cells.now in
+    let w = c.args.w.now in
+    let done = claims c.args.notes.now in
+    let up = map key_tree c.args.stack.now.keys in
+    let m = c.args.steps.now in
+    let k = c.in-Some.key.now in
+    let (below, d) = c.in-Some.ensures.some in
+    let us = map key_tree below in
+    let e = trees_top c.args.stack.now.keys below k d in
+    let (root, n, h) = c.requires.walking in
+    top_proper v S w root n m done us (key_tree k) (subst (IsWalking v S w root n m done) e h)
+
+pub take_off-requires-clause-top : goal.take_off-requires-clause-top
+take_off-requires-clause-top g c = λ j t.
+    let v = version_tree c.args.version in
+    let S = sheet c.args.cells.now in
+    let w = c.args.w.now in
+    let done = claims c.args.notes.now in
+    let up = map key_tree c.args.stack.now.keys in
+    let m = c.args.steps.now in
+    let k = c.in-Some.key.now in
+    let (below, d) = c.in-Some.ensures.some in
+    let us = map key_tree below in
+    let e = trees_top c.args.stack.now.keys below k d in
+    let (root, n, h) = c.requires.walking in
+    let o = outcome_tree c.in-Ok-Ready.outcome in
+    let f : IsSoundFound (key_tree k) (Ready o) = subst (λ f. IsSoundFound (key_tree k) (found_tree f)) c.in-Ok-Ready.field-0-is c.in-Ok-Ready.ensures.sound in
+    subst (λ x. (noted same_key done (key_tree x) ≡ None) × IsTrue (is_sound_key (key_tree x)) × IsSoundFound (key_tree x) (Ready o)) (one_top c.args.stack.now.keys k j (below, d) t)
+    (top_free v S w root n m done us (key_tree k) (subst (IsWalking v S w root n m done) e h), top_sound c.args.stack.now.keys k c.requires.sound (below, d), f)
+
+pub returns-in-Ok-Ready-clause-turned : goal.returns-in-Ok-Ready-clause-turned
+returns-in-Ok-Ready-clause-turned g c =
+    let v = version_tree c.args.version in
+    let S = sheet c.args.cells.now in
+    let w = c.args.w.now in
+    let done = claims c.args.notes.now in
+    let up = map key_tree c.args.stack.now.keys in
+    let m = c.args.steps.now in
+    let k = c.in-Some.key.now in
+    let (below, d) = c.in-Some.ensures.some in
+    let us = map key_tree below in
+    let e = trees_top c.args.stack.now.keys below k d in
+    let o = outcome_tree c.in-Ok-Ready.outcome in
+    let more = claims c.take_off.new.notes in
+    let vs = map key_tree c.take_off.new.stack.keys in
+    let l = c.level.new.steps in
+    let le : l ≤ m + 1 = subst (λ x. x ≤ m + 1) (sym c.level.ensures.counted) (stepped m) in
+    let f : found (noted same_key done) (program v S w (key_tree k)) ≡ Ready o = sym c.in-Ok-Ready.ensures.found ∙ ap found_tree c.in-Ok-Ready.field-0-is in
+    IfOk-weaker c.take_off.result (λ t. IsTakenOff o done up t more vs) (λ t. (root : K.Key) (n : ℕ) → IsWalking v S w root n m done up → IsTurned v S w root n l more vs t)
+    (λ t x root n h. off_turned v S w root n m l done more up vs o t h x (λ j us' q. subst (λ y. found (noted same_key done) (program v S w y) ≡ Ready o) (one_top up (key_tree k) j (us, e) (us', q)) f) le)
+    c.take_off.ensures.taken
+
+pub returns-in-Ok-Ready-clause-sound : goal.returns-in-Ok-Ready-clause-sound
+returns-in-Ok-Ready-clause-sound g c =
+    let o = outcome_tree c.in-Ok-Ready.outcome in
+    let done = claims c.args.notes.now in
+    let up = map key_tree c.args.stack.now.keys in
+    let more = claims c.take_off.new.notes in
+    let vs = map key_tree c.take_off.new.stack.keys in
+    IfOk-weaker c.take_off.result (λ t. IsTakenOff o done up t more vs) (λ t. AreSoundKeys vs) (λ t x. below_sound up vs x.top c.requires.sound x.off) c.take_off.ensures.taken
+
+pub returns-in-Ok-Need-clause-turned : goal.returns-in-Ok-Need-clause-turned
+returns-in-Ok-Need-clause-turned g c =
+    let v = version_tree c.args.version in
+    let S = sheet c.args.cells.now in
+    let w = c.args.w.now in
+    let done = claims c.args.notes.now in
+    let up = map key_tree c.args.stack.now.keys in
+    let m = c.args.steps.now in
+    let k = c.in-Some.key.now in
+    let (below, d) = c.in-Some.ensures.some in
+    let us = map key_tree below in
+    let e = trees_top c.args.stack.now.keys below k d in
+    let j = key_tree c.in-Ok-Need.key in
+    let vs = map key_tree c.put_on.new.stack.keys in
+    let l = c.level.new.steps in
+    let le : l ≤ m + 1 = subst (λ x. x ≤ m + 1) (sym c.level.ensures.counted) (stepped m) in
+    let f : found (noted same_key done) (program v S w (key_tree k)) ≡ Need j = sym c.in-Ok-Need.ensures.found ∙ ap found_tree c.in-Ok-Need.field-0-is in
+    IfOk-weaker c.put_on.result (λ t. IsPutOn j done up t vs) (λ t. (root : K.Key) (n : ℕ) → IsWalking v S w root n m done up → IsTurned v S w root n l done vs t)
+    (λ t x root n h. on_turned v S w root n m l done up us vs (key_tree k) j t h e x f le)
+    c.put_on.ensures.put
+
+pub returns-in-Ok-Need-clause-falls : goal.returns-in-Ok-Need-clause-falls
+returns-in-Ok-Need-clause-falls g c =
+    let v = version_tree c.args.version in
+    let S = sheet c.args.cells.now in
+    let w = c.args.w.now in
+    let done = claims c.args.notes.now in
+    let up = map key_tree c.args.stack.now.keys in
+    let j = key_tree c.in-Ok-Need.key in
+    let vs = map key_tree c.put_on.new.stack.keys in
+    let (root, n, h) = c.requires.walking in
+    IfOk-weaker c.put_on.result (λ t. IsPutOn j done up t vs) (λ t. t ≡ On → left done vs < left done up) (λ t x. put_falls v S w root n c.args.steps.now done up vs j t h x) c.put_on.ensures.put
+
+pub returns-in-Ok-Need-clause-sound : goal.returns-in-Ok-Need-clause-sound
+returns-in-Ok-Need-clause-sound g c =
+    let done = claims c.args.notes.now in
+    let up = map key_tree c.args.stack.now.keys in
+    let j = key_tree c.in-Ok-Need.key in
+    let vs = map key_tree c.put_on.new.stack.keys in
+    let s : IsTrue (is_sound_key j) = subst (λ f. IsSoundFound (key_tree c.in-Some.key.now) (found_tree f)) c.in-Ok-Need.field-0-is c.in-Ok-Need.ensures.sound in
+    IfOk-weaker c.put_on.result (λ t. IsPutOn j done up t vs) (λ t. AreSoundKeys vs) (λ t x. put_sound done up vs j t x c.requires.sound s) c.put_on.ensures.put
+
+pub returns-in-None-clause-turned : goal.returns-in-None-clause-turned
+returns-in-None-clause-turned g c = λ root n h.
+    let v = version_tree c.args.version in
+    let S = sheet c.args.cells.now in
+    let w = c.args.w.now in
+    let done = claims c.args.notes.now in
+    let m = c.args.steps.now in
+    let e = ap (map key_tree) c.in-None.ensures.none in
+    subst (HasEnded v S w root n m done) (sym e) (end_empty v S w root n m done (subst (IsWalking v S w root n m done) e h))

@@ -1,0 +1,44 @@
+use Rattle.std.proofs.Common.{map, [], sym, subst}
+use Rattle.gl_ast.specs.View.{version_tree}
+use Rattle.gl_cells.specs.Sheet.{sheet}
+use Rattle.gl_demand.specs.Sound.{AreSoundKeys}
+use Rattle.gl_demand.specs.View.{key_tree}
+use Rattle.gl_cert.specs.Notes.{claims}
+use Rattle.gl_explain.specs.Walking.{IsWalking, IsTurned}
+use Rattle.gl_explain.proofs.Tops.{one_sound}
+use Rattle.gl_explain.proofs.Turns.{begin_walk}
+use Rattle.gl_explain.proofs.walking.walk.Goals as goal
+
+pub turns-init : goal.turns-init
+turns-init g c =
+    let v = version_tree c.args.version in
+    let S = sheet c.args.cells.now in
+    let w = c.args.w.now in
+    let r = key_tree c.args.root.now in
+    let n = c.args.steps.now in
+    record {
+      walking = subst (λ d. IsWalking v S w r n n d (map key_tree c.in_ok-stack.stack.keys)) (sym c.new-notes.ensures) (subst (λ u. IsWalking v S w r n n [] u) (sym c.in_ok-stack.ensures) (begin_walk v S w r n c.requires.proper));
+      sound = subst AreSoundKeys (sym c.in_ok-stack.ensures) (one_sound r c.requires.sound);
+    }
+
+pub turn-requires-clause-walking : goal.turn-requires-clause-walking
+turn-requires-clause-walking g c = (key_tree c.args.root.now, c.args.steps.now, c.turns.invariant.walking)
+
+pub turns-smaller : goal.turns-smaller
+turns-smaller g c = c.in-Ok-On.ensures.falls c.in-Ok-On.field-0-is
+
+pub turns-preserved : goal.turns-preserved
+turns-preserved g c = record {
+  walking = subst (IsTurned (version_tree c.args.version) (sheet c.args.cells.now) c.args.w.now (key_tree c.args.root.now) c.args.steps.now c.turn.new.steps (claims c.turn.new.notes) (map key_tree c.turn.new.stack.keys)) c.in-Ok-On.field-0-is (c.in-Ok-On.ensures.turned (key_tree c.args.root.now) c.args.steps.now c.turns.invariant.walking);
+  sound = c.in-Ok-On.ensures.sound;
+}
+
+pub returns-in-Ok-Ended : goal.returns-in-Ok-Ended
+returns-in-Ok-Ended g c = (
+  subst (IsTurned (version_tree c.args.version) (sheet c.args.cells.now) c.args.w.now (key_tree c.args.root.now) c.args.steps.now c.turn.new.steps (claims c.turn.new.notes) (map key_tree c.turn.new.stack.keys)) c.in-Ok-Ended.field-0-is (c.in-Ok-Ended.ensures.turned (key_tree c.args.root.now) c.args.steps.now c.turns.invariant.walking),
+  c.in-Ok-Ended.ensures.sound,
+)
+
+pub returns-in-Ok-Full : goal.returns-in-Ok-Full
+returns-in-Ok-Full g c =
+    subst (IsTurned (version_tree c.args.version) (sheet c.args.cells.now) c.args.w.now (key_tree c.args.root.now) c.args.steps.now c.turn.new.steps (claims c.turn.new.notes) (map key_tree c.turn.new.stack.keys)) c.in-Ok-Full.field-0-is (c.in-Ok-Full.ensures.turned (key_tree c.args.root.now) c.args.steps.now c.turns.invariant.walking)

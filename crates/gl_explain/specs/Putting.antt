@@ -1,0 +1,25 @@
+-- What becomes of a stack in one turn.
+use Rattle.std.specs.Prelude.{◌≡◌, ℕ, ◌+◌, ◌++◌, List, [], ◌∷◌, length, true, false}
+use Rattle.gl_query.specs.Lists.{has_member}
+use Rattle.gl_calculus.specs.Limits.{max_demanded}
+use Rattle.gl_calculus.specs.Key.{Key, Outcome, same_key}
+use Rattle.gl_explanation.specs.Walk.{Claim}
+use Rattle.gl_explain.specs.declared.turning.Turned.{Turned}
+use Rattle.gl_explain.specs.declared.turning.Turned.TheVariants.{On, Ended, Full}
+
+-- the last of a list
+abbrev pub IsTop : {X : Type 0} → List X → X → Type 0
+IsTop {X} xs x = (below : List X) × (xs ≡ below ++ x ∷ [])
+
+-- the top is taken off, and its outcome noted
+pub record IsTakenOff (o : Outcome) (done : List (Claim Key Outcome)) (up : List Key) (t : Turned) (more : List (Claim Key Outcome)) (us : List Key) : Type 0 where
+  pub goes_on : t ≡ On
+  pub top : Key
+  pub off : up ≡ us ++ top ∷ []
+  pub noted : more ≡ done ++ (top, o) ∷ []
+
+-- a key is put on, or is there, or is one too many
+pub data IsPutOn (j : Key) (done : List (Claim Key Outcome)) (up : List Key) : Turned → List Key → Type 0 where
+  there : has_member same_key j up ≡ true → IsPutOn j done up Ended up
+  full : has_member same_key j up ≡ false → length done + length up ≡ max_demanded → IsPutOn j done up Full up
+  on : has_member same_key j up ≡ false → (length done + length up ≡ max_demanded → ⊥) → IsPutOn j done up On (up ++ j ∷ [])

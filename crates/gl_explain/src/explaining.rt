@@ -1,0 +1,129 @@
+//! The explanation of an address.
+ghost use Rattle.std.specs.Prelude.{◌≡◌, ℕ, Some, None, map, IfOk};
+ghost use Rattle.gl_calculus.specs.Calculation as C;
+ghost use Rattle.gl_calculus.specs.Calculation.{IsAnswer};
+ghost use Rattle.gl_calculus.specs.Formula as F;
+ghost use Rattle.gl_explanation.specs.Certificate as E;
+ghost use Rattle.gl_explanation.specs.Certificate.{Explains, verdict, key_at};
+ghost use Rattle.gl_ast.specs.View.{version_tree};
+ghost use Rattle.gl_cells.specs.Sheet.{sheet};
+ghost use Rattle.gl_demand.specs.Sound.{AreSoundKeys};
+ghost use Rattle.gl_demand.specs.View.{key_tree};
+ghost use Rattle.gl_cert.specs.Notes.{claims};
+ghost use Rattle.gl_explain.specs.Steps.{AllowsWalk};
+ghost use Rattle.gl_explain.specs.View.{explained_tree};
+ghost use Rattle.gl_explain.specs.Walked.{IsExplained};
+ghost use Rattle.gl_explain.specs.Walking.{HasEnded};
+
+use crate::Explained;
+use crate::ending::{made, spent};
+use crate::walking::{Walked, walk};
+use gl_ast::Version;
+use gl_cells::Cells;
+use gl_cert::{Notes, key_at};
+use gl_demand::{Key, Steps, Watch};
+use gl_plane::{Addr, NoMemory, Oracle};
+use indexmap::IndexSet;
+use std::alloc::Global;
+
+/// What is made of a walk from the key that decides, which has ended.
+fn ended(
+    alloc: Global,
+    cells: &Cells,
+    w: &Oracle,
+    a: Addr,
+    root: &Key,
+    notes: Notes,
+    loops: IndexSet<Key>,
+) -> Result<Explained, NoMemory>
+    requires root { key_at (sheet cells.now) w.now a ≡ Some (key_tree root.now) }
+    requires sound { AreSoundKeys (map key_tree loops.keys) }
+    requires ended { (version : F.Version) × (n : ℕ) × (m : ℕ) × HasEnded version (sheet cells.now) w.now (key_tree root.now) n m (claims notes) (map key_tree loops.keys) }
+    ensures { IfOk result (λ x. (version : F.Version) (n m : ℕ) → HasEnded version (sheet cells.now) w.now (key_tree root.now) n m (claims notes) (map key_tree loops.keys)
+        → IsExplained version (sheet cells.now) w.now a n m (explained_tree x)) }
+{
+    match spent(&notes, root) {
+        Some(b) => Ok(Explained::Aborts(b)),
+        None => match made(alloc, cells, w, a, notes, loops) {
+            Ok(cert) => Ok(Explained::Cert(cert)),
+            Err(NoMemory) => Err(NoMemory),
+        },
+    }
+}
+
+/// The explanation of an address that a key decides.
+fn decided<L: Watch>(
+    alloc: Global,
+    cells: &Cells,
+    w: &Oracle,
+    a: Addr,
+    root: &Key,
+    version: Version,
+    steps: &mut Steps<L>,
+) -> Result<Explained, NoMemory>
+    requires { key_at (sheet cells.now) w.now a ≡ Some (key_tree root.now) }
+    ensures { IfOk result (λ x. IsExplained (version_tree version) (sheet cells.now) w.now a steps.old steps.new (explained_tree x)) }
+{
+    match walk(alloc, cells, w, root, version, steps) {
+        Ok(Walked::Ended(notes, loops)) => ended(alloc, cells, w, a, root, notes, loops),
+        Ok(Walked::Full) => Ok(Explained::Work),
+        Err(NoMemory) => Err(NoMemory),
+    }
+}
+
+/// The explanation of an address that no key decides.
+fn undecided(alloc: Global, cells: &Cells, w: &Oracle, a: Addr) -> Result<Explained, NoMemory>
+    requires { key_at (sheet cells.now) w.now a ≡ None }
+    ensures { IfOk result (λ x. (version : F.Version) (n : ℕ) → IsExplained version (sheet cells.now) w.now a n n (explained_tree x)) }
+{
+    match made(alloc, cells, w, a, Notes::new(alloc), IndexSet::new(alloc)) {
+        Ok(cert) => Ok(Explained::Cert(cert)),
+        Err(NoMemory) => Err(NoMemory),
+    }
+}
+
+/// The explanation of an address.
+fn explained<L: Watch>(
+    alloc: Global,
+    cells: &Cells,
+    w: &Oracle,
+    a: Addr,
+    version: Version,
+    steps: &mut Steps<L>,
+) -> Result<Explained, NoMemory>
+    ensures { IfOk result (λ x. IsExplained (version_tree version) (sheet cells.now) w.now a steps.old steps.new (explained_tree x)) }
+{
+    match key_at(cells, w, a) {
+        Some(root) => decided(alloc, cells, w, a, &root, version, steps),
+        None => undecided(alloc, cells, w, a),
+    }
+}
+
+/// Explains what an address shows, in a sheet and under an oracle.
+///
+/// The walk begins with the key that decides, evaluates the top of its stack over the notes, and
+/// either notes it or puts on the first key that it lacks. It ends where nothing is left, or where
+/// what is lacked is on the stack: the stack is then the loops. `Work` comes where more than
+/// `MAX_DEMANDED` keys would be put on, and `Aborts` where the key that decides spends a budget; in a
+/// settled calculation neither comes. `check` accepts each certificate.
+pub fn certificate<L: Watch>(
+    alloc: Global,
+    cells: &Cells,
+    w: &Oracle,
+    a: Addr,
+    version: Version,
+    steps: &mut Steps<L>,
+) -> Result<Explained, NoMemory>
+    ensures explained { IfOk result (λ x. Explains (version_tree version) (sheet cells.now) w.now a (explained_tree x)) }
+    ensures accepted { IfOk result (λ x. (c : E.Certificate) → explained_tree x ≡ E.Cert c
+        → verdict (version_tree version) (sheet cells.now) w.now a c ≡ E.Accepted) }
+    ensures certified { IfOk result (λ x. (i : ℕ) → IsAnswer (version_tree version) (sheet cells.now) (C.Settled w.now i)
+        → (c : E.Certificate) × (explained_tree x ≡ E.Cert c)) }
+    ensures sound { IfOk result (λ x. (c : E.Certificate) → explained_tree x ≡ E.Cert c
+        → AreSoundKeys (map (λ n. n.0) c.notes) × AreSoundKeys c.loops) }
+    ensures steps { IfOk result (λ x. AllowsWalk (version_tree version) (sheet cells.now) w.now a (explained_tree x) steps.old steps.new) }
+{
+    // For its clause that the sheet is in order.
+    let _formulas = cells.formulas();
+    explained(alloc, cells, w, a, version, steps)
+}

@@ -1,0 +1,104 @@
+//! One turn of a walk.
+ghost use Rattle.std.specs.Prelude.{◌≡◌, ◌<◌, ◌≤◌, ◌+◌, ℕ, List, [], ◌∷◌, ◌++◌, None, map, IsTrue, IfOk, IfSome, IfNone};
+ghost use Rattle.gl_query.specs.Query.{Ready, Need, found};
+ghost use Rattle.gl_calculus.specs.Evaluation.{program};
+ghost use Rattle.gl_calculus.specs.Key as K;
+ghost use Rattle.gl_calculus.specs.Key.{same_key};
+ghost use Rattle.gl_calculus.specs.Sound.{is_sound_key};
+ghost use Rattle.gl_explanation.specs.Walk.{noted};
+ghost use Rattle.gl_ast.specs.View.{version_tree};
+ghost use Rattle.gl_cells.specs.Sheet.{sheet};
+ghost use Rattle.gl_demand.specs.Sound.{AreSoundKeys, IsSoundFound};
+ghost use Rattle.gl_demand.specs.View.{key_tree, outcome_tree, found_tree};
+ghost use Rattle.gl_cert.specs.Notes.{claims};
+ghost use Rattle.gl_explain.specs.Walking.{IsWalking, IsTurned, left};
+ghost use Rattle.gl_explain.specs.declared.turning.Turned.TheVariants.{On};
+ghost use Rattle.gl_explain.specs.Putting.{IsTop, IsTakenOff, IsPutOn};
+
+use crate::MAX_DEMANDED;
+use gl_ast::Version;
+use gl_cells::Cells;
+use gl_cert::{Notes, is_among, level};
+use gl_demand::{Found, Key, Outcome, Steps, Watch};
+use gl_plane::{NoMemory, Oracle};
+use indexmap::IndexSet;
+use std::alloc::Global;
+
+/// How a walk stands after a turn: it goes on; or it has ended, with an empty stack or in a circle;
+/// or one more key would be too many.
+#[derive(Clone, Copy, Drop)]
+pub enum Turned {
+    On,
+    Ended,
+    Full,
+}
+
+/// The top of a stack.
+fn top(stack: &IndexSet<Key>) -> Option<&Key>
+    ensures some { IfSome result (λ k. IsTop stack.now.keys k.now) }
+    ensures none { IfNone result (stack.now.keys ≡ []) }
+{
+    stack.last()
+}
+
+/// Takes the top off, and notes its outcome.
+fn take_off(
+    notes: &mut Notes,
+    stack: &mut IndexSet<Key>,
+    outcome: Outcome,
+) -> Result<Turned, NoMemory>
+    requires top { (k : Key) → IsTop stack.old.keys k → (noted same_key (claims notes.old) (key_tree k) ≡ None)
+        × IsTrue (is_sound_key (key_tree k)) × IsSoundFound (key_tree k) (Ready (outcome_tree outcome)) }
+    requires some { (k : Key) × IsTop stack.old.keys k }
+    ensures taken { IfOk result (λ t. IsTakenOff (outcome_tree outcome) (claims notes.old) (map key_tree stack.old.keys)
+        t (claims notes.new) (map key_tree stack.new.keys)) }
+{
+    if let Some(key) = stack.pop() {
+        notes.note(key, outcome)?;
+    }
+    Ok(Turned::On)
+}
+
+/// Puts a key on, unless it is there, or one more would be too many.
+fn put_on(notes: &Notes, stack: &mut IndexSet<Key>, key: Key) -> Result<Turned, NoMemory>
+    ensures put { IfOk result (λ t. IsPutOn (key_tree key) (claims notes.now) (map key_tree stack.old.keys)
+        t (map key_tree stack.new.keys)) }
+{
+    if is_among(stack, &key) {
+        return Ok(Turned::Ended);
+    }
+    if notes.len() + stack.len() == MAX_DEMANDED {
+        return Ok(Turned::Full);
+    }
+    stack.insert(key)?;
+    Ok(Turned::On)
+}
+
+/// A turn on the top of the stack, which takes one step at most.
+pub fn turn<L: Watch>(
+    alloc: Global,
+    cells: &Cells,
+    w: &Oracle,
+    notes: &mut Notes,
+    stack: &mut IndexSet<Key>,
+    version: Version,
+    steps: &mut Steps<L>,
+) -> Result<Turned, NoMemory>
+    requires walking { (root : K.Key) × (n : ℕ) × IsWalking (version_tree version) (sheet cells.now) w.now root n steps.old (claims notes.old) (map key_tree stack.old.keys) }
+    requires sound { AreSoundKeys (map key_tree stack.old.keys) }
+    ensures turned { IfOk result (λ t. (root : K.Key) (n : ℕ)
+        → IsWalking (version_tree version) (sheet cells.now) w.now root n steps.old (claims notes.old) (map key_tree stack.old.keys)
+        → IsTurned (version_tree version) (sheet cells.now) w.now root n steps.new (claims notes.new) (map key_tree stack.new.keys) t) }
+    ensures falls { IfOk result (λ t. t ≡ On → left (claims notes.new) (map key_tree stack.new.keys)
+        < left (claims notes.old) (map key_tree stack.old.keys)) }
+    ensures sound { IfOk result (λ _. AreSoundKeys (map key_tree stack.new.keys)) }
+{
+    match top(stack) {
+        Some(key) => match level(alloc, cells, w, key, notes, version, steps) {
+            Ok(Found::Ready(outcome)) => take_off(notes, stack, outcome),
+            Ok(Found::Need(key)) => put_on(notes, stack, key),
+            Err(NoMemory) => Err(NoMemory),
+        },
+        None => Ok(Turned::Ended),
+    }
+}

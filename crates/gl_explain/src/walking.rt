@@ -1,0 +1,62 @@
+//! The walk from a key.
+ghost use Rattle.std.specs.Prelude.{◌≡◌, ℕ, [], ◌∷◌, map, true, IsTrue, IfOk};
+ghost use Rattle.gl_calculus.specs.Sound.{is_sound_key};
+ghost use Rattle.gl_explanation.specs.Certificate.{is_proper};
+ghost use Rattle.gl_ast.specs.View.{version_tree};
+ghost use Rattle.gl_cells.specs.Sheet.{sheet};
+ghost use Rattle.gl_demand.specs.View.{key_tree};
+ghost use Rattle.gl_explain.specs.Walked.{IsFound};
+
+use crate::turning::{Turned, turn};
+use gl_ast::Version;
+use gl_cells::Cells;
+use gl_cert::Notes;
+use gl_demand::{Key, Steps, Watch};
+use gl_plane::{NoMemory, Oracle, Share};
+use indexmap::IndexSet;
+use std::alloc::Global;
+
+/// What a walk found: its notes, and the keys that wait for each other, if it ended in a circle; or
+/// that one more key would be too many.
+#[derive(Drop)]
+pub enum Walked {
+    Ended(Notes, IndexSet<Key>),
+    Full,
+}
+
+/// A stack of one key.
+fn stack_of(alloc: Global, root: &Key) -> Result<IndexSet<Key>, NoMemory>
+    ensures { IfOk result (λ s. map key_tree s.keys ≡ key_tree root.now ∷ []) }
+{
+    let root = root.share()?;
+    let mut stack = IndexSet::new(alloc);
+    match stack.insert(root) {
+        Ok(_) => Ok(stack),
+        Err(_) => Err(NoMemory),
+    }
+}
+
+/// The walk from a key.
+pub fn walk<L: Watch>(
+    alloc: Global,
+    cells: &Cells,
+    w: &Oracle,
+    root: &Key,
+    version: Version,
+    steps: &mut Steps<L>,
+) -> Result<Walked, NoMemory>
+    requires sound { IsTrue (is_sound_key (key_tree root.now)) }
+    requires proper { is_proper (sheet cells.now) (key_tree root.now) ≡ true }
+    ensures { IfOk result (λ x. IsFound (version_tree version) (sheet cells.now) w.now (key_tree root.now) steps.old steps.new x) }
+{
+    let mut stack = stack_of(alloc, root)?;
+    let mut notes = Notes::new(alloc);
+    'turns: loop {
+        match turn(alloc, cells, w, &mut notes, &mut stack, version, steps) {
+            Ok(Turned::On) => {}
+            Ok(Turned::Ended) => return Ok(Walked::Ended(notes, stack)),
+            Ok(Turned::Full) => return Ok(Walked::Full),
+            Err(NoMemory) => return Err(NoMemory),
+        }
+    }
+}
