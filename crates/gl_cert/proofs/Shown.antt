@@ -1,5 +1,5 @@
 -- What is shown, compared by the code's equality.
-use Rattle.std.proofs.Common.{◌≡◌, Bool, true, false, Some, None, IsTrue, refl, sym, ap, subst, ◌∙◌}
+use Rattle.std.proofs.Common.{◌≡◌, Bool, true, false, Some, None, refl, sym, ap, subst, ◌∙◌}
 use Rattle.gl_explanation.specs.Certificate as E
 use Rattle.gl_explanation.specs.Certificate.{same_shown, judged, says_so}
 use Rattle.gl_explanation.proofs.Explaining.{shown_exact, shown_same}

@@ -1,5 +1,5 @@
 -- Outcomes in a map by the code's equality, as claims.
-use Rattle.std.proofs.Common.{◌≡◌, Bool, true, false, cond, List, [], ◌∷◌, ◌++◌, Option, Some, None, option_map, map, ℕ, zero, suc, ◌+◌, ◌<◌, length, get_or, drop, arith, Result, Ok, Err, OnOk, OnErr, inl, inr, IsTrue, refl, ap, sym, subst, ◌∙◌}
+use Rattle.std.proofs.Common.{◌≡◌, Bool, true, false, cond, List, [], ◌∷◌, ◌++◌, Some, None, option_map, map, ℕ, zero, suc, ◌+◌, ◌<◌, length, get_or, drop, arith, Result, Ok, Err, OnOk, OnErr, inl, inr, IsTrue, refl, ap, sym, subst, ◌∙◌}
 use Rattle.std.proofs.lemmas.List.{at_drop_more}
 use Rattle.std.specs.Map.{lookup}
 use Rattle.gl_query.specs.Lists.{Member}

@@ -10,12 +10,11 @@ use Rattle.gl_calculus.specs.Key.{Key, Cell, Budget, Outcome, Settled, Abort, sa
 use Rattle.gl_calculus.specs.SameOutcome.{same_outcome}
 use Rattle.gl_calculus.specs.Sound.{is_sound_key, is_outcome_of}
 use Rattle.gl_calculus.specs.Evaluation.{program}
-use Rattle.gl_calculus.specs.Calculation.{Shown}
 use Rattle.gl_calculus.proofs.OutcomeTests.{outcome_equality}
 use Rattle.gl_calculus.proofs.Proper.{asks_proper}
 use Rattle.gl_calculus.proofs.Tests.{key_equality}
 use Rattle.gl_explanation.specs.Walk.{Claim, noted, Walked, Explained, Exhausted, IsWalk}
-use Rattle.gl_explanation.specs.Certificate.{Certificate, Answer, Cert, Work, Aborts, work, aborts, cert, key_at, start, says, shown_by_key, shown_by_note, IsWalked, is_proper}
+use Rattle.gl_explanation.specs.Certificate.{Certificate, Cert, Work, Aborts, work, aborts, cert, key_at, start, says, shown_by_key, shown_by_note, IsWalked, is_proper}
 use Rattle.gl_explanation.specs.Allowance.{AllowsNotes}
 use Rattle.gl_explanation.proofs.Explaining.{asks_test, root_proper, decides}
 use Rattle.gl_explanation.proofs.Few.{walk_few}

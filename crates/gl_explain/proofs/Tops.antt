@@ -1,7 +1,7 @@
 -- The top of a stack.
-use Rattle.std.proofs.Common.{◌≡◌, ℕ, zero, suc, ◌-◌, List, [], ◌∷◌, ◌++◌, map, length, cond, Bool, true, false, nat_lt, ◌+◌, ◌≤◌, slice_get, option_map, Option, Some, None, IfSome, IsTrue, Bor, refl, sym, ap, subst, inl, inr, ◌∙◌, arith}
+use Rattle.std.proofs.Common.{◌≡◌, ℕ, zero, suc, ◌-◌, List, [], ◌∷◌, ◌++◌, map, length, cond, Bool, true, false, nat_lt, ◌+◌, ◌≤◌, slice_get, Option, Some, None, IfSome, IsTrue, Bor, refl, sym, ap, subst, inl, inr, ◌∙◌, arith}
 use Rattle.std.specs.Option.{option_copied}
-use Rattle.gl_query.specs.Lists.{Member, has_member}
+use Rattle.gl_query.specs.Lists.{has_member}
 use Rattle.gl_calculus.specs.Key as K
 use Rattle.gl_calculus.specs.Key.{same_key}
 use Rattle.gl_calculus.specs.Sound.{is_sound_key}

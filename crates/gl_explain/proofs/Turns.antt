@@ -1,5 +1,5 @@
 -- A turn of the walk, by what becomes of its notes and its stack.
-use Rattle.std.proofs.Common.{◌≡◌, ℕ, ◌+◌, ◌<◌, ◌≤◌, List, [], ◌∷◌, ◌++◌, length, true, false, Some, None, IsTrue, refl, sym, ap, subst, ◌∙◌, arith}
+use Rattle.std.proofs.Common.{◌≡◌, ℕ, ◌+◌, ◌<◌, ◌≤◌, List, [], ◌∷◌, ◌++◌, length, true, false, None, IsTrue, refl, sym, ap, subst, ◌∙◌, arith}
 use Rattle.std.proofs.lemmas.List.{length-append, length-reverse}
 use Rattle.gl_query.specs.Lists.{has_member}
 use Rattle.gl_query.specs.Query.{Ready, Need, found}
@@ -22,10 +22,10 @@ use Rattle.gl_explanation.proofs.Judging.{test_proper}
 use Rattle.gl_explanation.proofs.Going as Go
 use Rattle.gl_explanation.proofs.Spending as Sp
 use Rattle.gl_explanation.proofs.Walks as Wa
-use Rattle.gl_explain.specs.Walking.{IsWalking, HasEnded, IsFull, IsTurned, left}
+use Rattle.gl_explain.specs.Walking.{IsWalking, HasEnded, IsTurned, left}
 use Rattle.gl_explain.specs.Putting.{IsTakenOff, IsPutOn, there, full, on}
 use Rattle.gl_explain.specs.declared.turning.Turned.{Turned}
-use Rattle.gl_explain.specs.declared.turning.Turned.TheVariants.{On, Ended, Full}
+use Rattle.gl_explain.specs.declared.turning.Turned.TheVariants.{On}
 
 module _ (version : Version) (S : Cells) (w : Oracle) (root : Key) where
   abbrev Walking : ℕ → ℕ → List (Claim Key Outcome) → List Key → Type 0

@@ -1,11 +1,10 @@
 -- How far the walk from a key has come, by its notes as they were made and its stack from the bottom
 -- up.
-use Rattle.std.specs.Prelude.{◌≡◌, ℕ, ◌+◌, ◌*◌, ◌-◌, ◌<◌, ◌++◌, List, [], ◌∷◌, length, true, false}
+use Rattle.std.specs.Prelude.{◌≡◌, ℕ, ◌+◌, ◌*◌, ◌-◌, List, [], ◌∷◌, length, true, false}
 use Rattle.gl_query.specs.Machine.{Demanded}
 use Rattle.gl_calculus.specs.Limits.{max_demanded}
 use Rattle.gl_calculus.specs.Value.{Oracle}
 use Rattle.gl_calculus.specs.Formula.{Version, Cells}
-use Rattle.gl_calculus.specs.Key as K
 use Rattle.gl_calculus.specs.Key.{Key, Outcome, same_key}
 use Rattle.gl_calculus.specs.SameOutcome.{same_outcome}
 use Rattle.gl_calculus.specs.Evaluation.{program}

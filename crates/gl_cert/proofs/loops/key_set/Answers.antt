@@ -1,4 +1,4 @@
-use Rattle.std.proofs.Common.{◌≡◌, ◌<◌, ◌≤◌, true, cond, map, length, drop, ◌∷◌, ◌+◌, ap, sym, ◌∙◌, arith}
+use Rattle.std.proofs.Common.{◌<◌, ◌≤◌, true, cond, map, length, drop, ◌∷◌, ◌+◌, ap, sym, ◌∙◌, arith}
 use Rattle.std.proofs.lemmas.List.{at_drop_more, at_drop_all}
 use Rattle.gl_query.specs.Lists.{has_member}
 use Rattle.gl_calculus.specs.Key.{same_key}

@@ -1,5 +1,4 @@
-use Rattle.std.proofs.Common.{map, length, ◌≤◌, ◌+◌, arith}
-use Rattle.gl_calculus.specs.Limits.{max_demanded}
+use Rattle.std.proofs.Common.{map, arith}
 use Rattle.gl_cells.specs.Sheet.{sheet}
 use Rattle.gl_demand.specs.View.{key_tree, budget_tree}
 use Rattle.gl_cert.specs.Notes.{claims}

@@ -1,4 +1,4 @@
-use Rattle.std.proofs.Common.{◌≡◌, ℕ, ◌≤◌, ◌+◌, ◌<◌, None, map, [], ◌∷◌, ◌++◌, IsTrue, ap, sym, subst, ◌∙◌, arith}
+use Rattle.std.proofs.Common.{◌≡◌, ℕ, ◌≤◌, ◌+◌, ◌<◌, None, map, IsTrue, ap, sym, subst, ◌∙◌}
 use Rattle.std.proofs.lemmas.Result.{IfOk-weaker}
 use Rattle.gl_query.specs.Query.{Ready, Need, found}
 use Rattle.gl_calculus.specs.Evaluation.{program}
@@ -10,7 +10,6 @@ use Rattle.gl_ast.specs.View.{version_tree}
 use Rattle.gl_cells.specs.Sheet.{sheet}
 use Rattle.gl_demand.specs.Sound.{AreSoundKeys, IsSoundFound}
 use Rattle.gl_demand.specs.View.{key_tree, outcome_tree, found_tree}
-use Rattle.gl_demand.specs.Steps.{one_more}
 use Rattle.gl_cert.specs.Notes.{claims}
 use Rattle.gl_explain.specs.Walking.{IsWalking, HasEnded, IsTurned, left}
 use Rattle.gl_explain.specs.Putting.{IsTakenOff, IsPutOn}
