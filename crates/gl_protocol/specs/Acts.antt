@@ -7,9 +7,11 @@ use Rattle.gl_calculus.specs.Calculation.{SpentKind, IsAnswer}
 use Rattle.gl_calculus.specs.Calculation as A
 use Rattle.gl_language.specs.Text.{Bytes}
 use Rattle.gl_edits.specs.Replicas.{Edit, Replica, Judged, IsJudged}
+use Rattle.gl_forecast.specs.Forecast.{Forecast, IsForecast}
 use Rattle.gl_protocol.specs.Framing.{Item, Line, Import, Long, Truncated}
 use Rattle.gl_protocol.specs.Tables.{line, export_text}
-use Rattle.gl_protocol.specs.Commands.{Is, Not, Word, AddressWord, LineWord, TruncatedWord, SiteWord, Request, Nothing, Get, ListAll, Quit, Export, Merge, ReadsLine, ImportWords, words_of, IsAddress, NoAddress, with_contents, allowed, imported, without_mark, error_line, spent_line, ok_line, get_text, list_text, SettledReply, asks_calculation}
+use Rattle.gl_protocol.specs.Commands.{Is, Not, Word, AddressWord, LineWord, TruncatedWord, SiteWord, Request, Nothing, Get, ListAll, Quit, Export, Flow, Merge, ReadsLine, ImportWords, words_of, IsAddress, NoAddress, with_contents, allowed, imported, without_mark, error_line, spent_line, ok_line, get_text, list_text, SettledReply, asks_calculation}
+use Rattle.gl_protocol.specs.Explanations.{forecast_line}
 use Rattle.gl_protocol.specs.Script.{Script, edited, settings, is_change, change, register_of, merge}
 
 -- the csv records of a payload, which the crate `csv` says
@@ -25,6 +27,7 @@ module _ (records : Bytes → List (List Bytes)) (version : Version) (s : Script
     list : Does ListAll s (list_text version s.sheet)
     export : (r : Replica) → s.replica ≡ Some r → Does Export s (export_text r.registers)
     export_alone : s.replica ≡ None → Does Export s (error_line SiteWord)
+    flow : {f : Forecast} → IsForecast s.sheet f → Does Flow s (forecast_line f)
     quit : Does Quit s (line (codes "bye"))
     settled : {x : Request} {w : Oracle} {rounds : ℕ} {reply : Bytes} → IsAnswer version s.sheet (A.Answer.Settled w rounds) → SettledReply records version s.sheet w rounds x reply → Does x s reply
     spent : {x : Request} {k : SpentKind} → IsTrue (asks_calculation records version s.sheet x) → IsAnswer version s.sheet (A.Answer.Spent k) → Does x s (spent_line k)

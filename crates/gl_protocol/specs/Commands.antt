@@ -19,7 +19,9 @@ use Rattle.gl_language.specs.Grammar.{Parses, IsParseFault, ParseFault}
 use Rattle.gl_language.specs.Grammar as G
 use Rattle.gl_edits.specs.Limits.{max_site}
 use Rattle.gl_edits.specs.Replicas.{Edit, stamp, is_stamp}
+use Rattle.gl_explanation.specs.Certificate.{Certificate, Cert, Explains, verdict}
 use Rattle.gl_protocol.specs.Pieces.{cut_at, pieces, is_number}
+use Rattle.gl_protocol.specs.Explanations.{explanation_text}
 use Rattle.gl_calculus.specs.Calculation.{Answer, SpentKind, IsAnswer, Shown, IsShown}
 use Rattle.gl_calculus.specs.Calculation as A
 use Rattle.gl_calculus.specs.Oracle as O
@@ -90,10 +92,10 @@ pub data ReadsText : Option Bytes → Read (Option F.Content) → Type 0 where
 -- ---- requests
 
 pub data Request : Type 0 where
-  Nothing ListAll Calculate ShowOracle Quit Export Undo Redo : Request
+  Nothing ListAll Calculate ShowOracle Quit Export Undo Redo Flow : Request
   Set : Addr → F.Content → Request
   Clear View : Range → Request
-  Show Get Why : Addr → Request
+  Show Get Why Explain : Addr → Request
   Site : ℕ → Request
   Merge : Edit → Request
 
@@ -121,9 +123,9 @@ is_viewable r = nat_le ((extents r).rows * (extents r).cols) max_cells
 
 -- the words of a command, with its arguments as they stand
 pub data Words : Type 0 where
-  ListWords CalcWords OracleWords QuitWords ExportWords UndoWords RedoWords : Words
+  ListWords CalcWords OracleWords QuitWords ExportWords UndoWords RedoWords FlowWords : Words
   SetWords : (place text : Bytes) → Words
-  ClearWords ViewWords ShowWords GetWords WhyWords : (place : Bytes) → Words
+  ClearWords ViewWords ShowWords GetWords WhyWords ExplainWords : (place : Bytes) → Words
   ImportWords : (place count : Bytes) → Words
   SiteWords : (site : Bytes) → Words
   EditWords : (time site place : Bytes) → (text : Option Bytes) → Words
@@ -137,13 +139,13 @@ one_word w =
     if bytes_eq w (codes "list") then Some ListWords else if bytes_eq w (codes "calc") then Some CalcWords
     else if bytes_eq w (codes "oracle") then Some OracleWords else if bytes_eq w (codes "quit") then Some QuitWords
     else if bytes_eq w (codes "export") then Some ExportWords else if bytes_eq w (codes "undo") then Some UndoWords
-    else if bytes_eq w (codes "redo") then Some RedoWords else None
+    else if bytes_eq w (codes "redo") then Some RedoWords else if bytes_eq w (codes "flow") then Some FlowWords else None
 
 abbrev pub two_words : Bytes → Bytes → Option Words
 two_words w place =
     if bytes_eq w (codes "clear") then Some (ClearWords place) else if bytes_eq w (codes "view") then Some (ViewWords place)
     else if bytes_eq w (codes "show") then Some (ShowWords place) else if bytes_eq w (codes "get") then Some (GetWords place)
-    else if bytes_eq w (codes "why") then Some (WhyWords place)
+    else if bytes_eq w (codes "why") then Some (WhyWords place) else if bytes_eq w (codes "explain") then Some (ExplainWords place)
     else if bytes_eq w (codes "site") then some_words (is_number place && nat_le (digits_value place) max_site) (SiteWords place) else None
 
 abbrev pub words_of_pieces : List Bytes → Option Words
@@ -188,6 +190,7 @@ pub data ReadsWords : Words → Read Request → Type 0 where
   export : ReadsWords ExportWords (Is Export)
   undo : ReadsWords UndoWords (Is Undo)
   redo : ReadsWords RedoWords (Is Redo)
+  flow : ReadsWords FlowWords (Is Flow)
   site : {n : Bytes} → ReadsWords (SiteWords n) (Is (Site (digits_value n)))
   edit : {t n place : Bytes} {text : Option Bytes} {a : Addr} {c : Option F.Content} → IsAddress place a → IsTrue (is_stamp (digits_value t) (digits_value n)) → ReadsText text (Is c) →
       ReadsWords (EditWords t n place text) (Is (Merge (record { stamp = stamp (digits_value t) (digits_value n); place = a; content = c })))
@@ -208,6 +211,8 @@ pub data ReadsWords : Words → Read Request → Type 0 where
   get_place : {place : Bytes} → NoAddress place → ReadsWords (GetWords place) (Not AddressWord)
   why_of : {place : Bytes} {a : Addr} → IsAddress place a → ReadsWords (WhyWords place) (Is (Why a))
   why_place : {place : Bytes} → NoAddress place → ReadsWords (WhyWords place) (Not AddressWord)
+  explain : {place : Bytes} {a : Addr} → IsAddress place a → ReadsWords (ExplainWords place) (Is (Explain a))
+  explain_place : {place : Bytes} → NoAddress place → ReadsWords (ExplainWords place) (Not AddressWord)
   -- an import header whose count isn't too large is no line of its own
   payload : {place n : Bytes} → max_payload < digits_value n → ReadsWords (ImportWords place n) (Not PayloadWord)
 
@@ -355,6 +360,8 @@ module _ (records : Bytes → List (List Bytes)) (version : Version) (S : Cells)
     calc : SettledReply w rounds Calculate (line (codes "settled " ++ decimal rounds))
     oracle : SettledReply w rounds ShowOracle (oracle_text w)
     why_so : {a : Addr} → SettledReply w rounds (Why a) (line (why_text (A.why S w a)))
+    explain : {a : Addr} {c : Certificate} → Explains version S w a (Cert c) →
+        SettledReply w rounds (Explain a) (explanation_text (verdict version S w a c) c)
 
   abbrev pub asks_calculation : Request → Bool
   asks_calculation (Show a) = true
@@ -362,4 +369,5 @@ module _ (records : Bytes → List (List Bytes)) (version : Version) (S : Cells)
   asks_calculation Calculate = true
   asks_calculation ShowOracle = true
   asks_calculation (Why a) = true
+  asks_calculation (Explain a) = true
   asks_calculation x = false
