@@ -84,11 +84,12 @@ impl Cells {
         formulas_in(alloc, &self.map)
     }
 
-    /// How many contents there are.
+    /// How many contents there are. All are proper.
     pub fn contents(&self) -> u32
         ensures count { result ≡ length (sheet self.now) }
         ensures few { result ≤ max_contents }
         ensures ordered { IsSheet (sheet self.now) }
+        ensures proper { AreProper self.now }
     {
         self.map.len() as u32
     }

@@ -37,7 +37,7 @@ pub enum ErrKind {
 
 /// One element: of a cell, an array or an operand. A sound text has at most `MAX_TEXT` bytes.
 #[cycle(value)]
-#[derive(Drop, PartialEq, Eq, Hash)]
+#[derive(PartialEq, Eq, Hash)]
 pub enum Scalar {
     Blank,
     Int(i64),
@@ -49,7 +49,7 @@ pub enum Scalar {
 
 /// A rectangle of scalars, in row-major order. One of a single row and column is still an array.
 #[cycle(value)]
-#[derive(Drop, Hash, PartialEq, Eq)]
+#[derive(Hash, PartialEq, Eq)]
 pub struct Array {
     size: Size,
     items: Vec<Scalar>,
@@ -57,7 +57,7 @@ pub struct Array {
 
 /// What a formula comes to.
 #[cycle(value)]
-#[derive(Drop, PartialEq, Eq, Hash)]
+#[derive(PartialEq, Eq, Hash)]
 pub enum Value {
     One(Scalar),
     Array(Rc<Array>),
@@ -72,7 +72,6 @@ pub enum Value {
 /// Equality tests the fields in this order, the cheap ones first. The hash leaves out the frame,
 /// which would be walked once for each level above it.
 #[cycle(value)]
-#[derive(Drop)]
 #[derive_where(PartialEq, Eq, Hash)]
 pub struct SheetVal {
     pub rank: u8,
@@ -86,7 +85,7 @@ pub struct SheetVal {
 
 /// A frame, in which formulas are evaluated: the sheet itself, or a copy that is settled to an oracle.
 #[cycle(value)]
-#[derive(Drop, Eq, Hash, PartialEq)]
+#[derive(Eq, Hash, PartialEq)]
 pub enum Env {
     Top,
     In(Rc<SheetVal>, Rc<Oracle>),
@@ -108,4 +107,59 @@ pub enum Made {
     Outside,
     Deep,
     Heavy,
+}
+
+// One call wherever it is dropped, in place of one for each part.
+impl Drop for Scalar {
+    #[cycle(dropping)]
+    fn drop(self) {
+        match self {
+            Scalar::Blank => {}
+            Scalar::Int(_) => {}
+            Scalar::Bool(_) => {}
+            Scalar::Text(_) => {}
+            Scalar::Err(_) => {}
+            Scalar::Sheet(_) => {}
+        }
+    }
+}
+
+impl Drop for Array {
+    #[cycle(dropping)]
+    fn drop(self) {
+        let Array { size: _, items: _ } = self;
+    }
+}
+
+impl Drop for Value {
+    #[cycle(dropping)]
+    fn drop(self) {
+        match self {
+            Value::One(_) => {}
+            Value::Array(_) => {}
+        }
+    }
+}
+
+impl Drop for SheetVal {
+    #[cycle(dropping)]
+    fn drop(self) {
+        let SheetVal {
+            rank: _,
+            weight: _,
+            region: _,
+            overrides: _,
+            env: _,
+        } = self;
+    }
+}
+
+impl Drop for Env {
+    #[cycle(dropping)]
+    fn drop(self) {
+        match self {
+            Env::Top => {}
+            Env::In(_, _) => {}
+        }
+    }
 }
