@@ -35,7 +35,7 @@ use Rattle.gl_demand.specs.declared.choosing.Replacement.{Replacement}
 use Rattle.gl_demand.specs.declared.trail.Trail as Code
 use Rattle.gl_demand.specs.declared.trail.Halt.{Halt}
 use Rattle.gl_demand.specs.declared.trail.Halt.TheVariants as halt
-use Rattle.gl_demand.proofs.Walking.{walk-bind, walk-on, halts, later}
+use Rattle.gl_demand.proofs.Walking.{over, Same, still, same_part, same_then, walk-bind, walk-on, halts, later}
 use Rattle.gl_demand.proofs.References.{gives}
 use Rattle.gl_demand.proofs.Parts.{one_then, one_halts}
 
@@ -216,31 +216,32 @@ module _ (w : World) (v : Version) (e : Frame) (bs : E.Bindings) (f : F.Fun) whe
   abbrev pub on_values : V.Value → List Formula → Eval (List V.Value)
   on_values y xs = E.all_values (args v e bs xs) >>= λ vs. give (y ∷ vs)
 
-  joined : (out : List Value) (z : Value) (x : End (Result (List V.Value) Budget))
-      → then_walk (then_walk x (λ r u. walk w (on_result (λ vs. give (value_tree z ∷ vs)) r) u)) (λ r u. walk w (on_result (λ vs. give (A.apply f (map value_tree out ++ vs))) r) u)
-      ≡ then_walk x (λ r u. walk w (on_result (λ vs. give (A.apply f (map value_tree (out ++ z ∷ []) ++ vs))) r) u)
-  joined out z (Ready (Ok vs), t) = ap (λ l. (Ready (Ok (A.apply f l)), t)) (values_more out z vs)
-  joined out z (Ready (Err b), t) = refl
-  joined out z (Need k, t) = refl
+  joined : (s : World) (out : List Value) (z : Value) (x : End (Result (List V.Value) Budget))
+      → then_walk (then_walk x (λ r u. walk s (on_result (λ vs. give (value_tree z ∷ vs)) r) u)) (λ r u. walk s (on_result (λ vs. give (A.apply f (map value_tree out ++ vs))) r) u)
+      ≡ then_walk x (λ r u. walk s (on_result (λ vs. give (A.apply f (map value_tree (out ++ z ∷ []) ++ vs))) r) u)
+  joined s out z (Ready (Ok vs), t) = ap (λ l. (Ready (Ok (A.apply f l)), t)) (values_more out z vs)
+  joined s out z (Ready (Err b), t) = refl
+  joined s out z (Need k, t) = refl
 
   module _ (out : List Value) (x : Formula) (rest : List Formula) where
     abbrev pub on : List V.Value → Eval V.Value
     on vs = give (A.apply f (map value_tree out ++ vs))
 
-    next_value : (z : Value) (t u : Trail) → walk w (value v e bs x) t ≡ (Ready (Ok (value_tree z)), u) → walk w (behind_values out (x ∷ rest)) t ≡ walk w (behind_values (out ++ z ∷ []) rest) u
-    next_value z t u m =
-        walk-bind w (on_result on) (value v e bs x >>= λ y. on_values y rest) t
-        ∙ ap (λ k. then_walk k (λ r s. walk w (on_result on r) s)) (walk-on w (λ y. on_values y rest) (value v e bs x) t (value_tree z) u m)
-        ∙ ap (λ k. then_walk k (λ r s. walk w (on_result on r) s)) (walk-bind w (on_result (λ vs. give (value_tree z ∷ vs))) (E.all_values (args v e bs rest)) u)
-        ∙ joined out z (walk w (E.all_values (args v e bs rest)) u)
-        ∙ sym (walk-bind w (on_result (λ vs. give (A.apply f (map value_tree (out ++ z ∷ []) ++ vs)))) (E.all_values (args v e bs rest)) u)
+    next_value : (z : Value) (t u : Trail) → walk w (value v e bs x) t ≡ (Ready (Ok (value_tree z)), u) → Same w (behind_values out (x ∷ rest)) t (behind_values (out ++ z ∷ []) rest) u
+    next_value z t u m n o =
+        let s = over w n in
+        walk-bind s (on_result on) (value v e bs x >>= λ y. on_values y rest) t
+        ∙ ap (λ k. then_walk k (λ r q. walk s (on_result on r) q)) (walk-on s (λ y. on_values y rest) (value v e bs x) t (value_tree z) u (still w n o (value v e bs x) t (Ok (value_tree z)) u m))
+        ∙ ap (λ k. then_walk k (λ r q. walk s (on_result on r) q)) (walk-bind s (on_result (λ vs. give (value_tree z ∷ vs))) (E.all_values (args v e bs rest)) u)
+        ∙ joined s out z (walk s (E.all_values (args v e bs rest)) u)
+        ∙ sym (walk-bind s (on_result (λ vs. give (A.apply f (map value_tree (out ++ z ∷ []) ++ vs)))) (E.all_values (args v e bs rest)) u)
 
-    module _ (p : Eval V.Value) (start old new : Code.Trail) (xs : List Formula) (inv : walk w p (trail_tree start) ≡ walk w (behind_values out xs) (trail_tree old)) (split : xs ≡ x ∷ rest) where
-      opened : walk w p (trail_tree start) ≡ walk w (behind_values out (x ∷ rest)) (trail_tree old)
-      opened = inv ∙ ap (λ l. walk w (behind_values out l) (trail_tree old)) split
+    module _ (p : Eval V.Value) (start old new : Code.Trail) (xs : List Formula) (inv : Same w p (trail_tree start) (behind_values out xs) (trail_tree old)) (split : xs ≡ x ∷ rest) where
+      opened : Same w p (trail_tree start) (behind_values out (x ∷ rest)) (trail_tree old)
+      opened = same_then w p (behind_values out xs) (behind_values out (x ∷ rest)) (trail_tree start) (trail_tree old) (trail_tree old) inv (same_part w (behind_values out xs) (behind_values out (x ∷ rest)) (trail_tree old) (ap (λ l. behind_values out l) split))
 
-      pub value_next : (z : Value) → Walks w (value v e bs x) value_tree old (Ok z) new → walk w p (trail_tree start) ≡ walk w (behind_values (out ++ z ∷ []) rest) (trail_tree new)
-      value_next z m = opened ∙ next_value z (trail_tree old) (trail_tree new) m
+      pub value_next : (z : Value) → Walks w (value v e bs x) value_tree old (Ok z) new → Same w p (trail_tree start) (behind_values (out ++ z ∷ []) rest) (trail_tree new)
+      value_next z m = same_then w p (behind_values out (x ∷ rest)) (behind_values (out ++ z ∷ []) rest) (trail_tree start) (trail_tree old) (trail_tree new) opened (next_value z (trail_tree old) (trail_tree new) m)
 
       pub value_halts : (n : Halt) → Walks w (value v e bs x) value_tree old (Err n) new → Walks w p value_tree start (Err n) new
       value_halts n m =
@@ -250,8 +251,8 @@ module _ (w : World) (v : Version) (e : Frame) (bs : E.Bindings) (f : F.Fun) whe
 
   -- all are there
   pub values_end : (p : Eval V.Value) (start old : Code.Trail) (out : List Value) (xs : List Formula) (r : Result Value Halt)
-      → walk w p (trail_tree start) ≡ walk w (behind_values out xs) (trail_tree old) → xs ≡ [] → IfOk r (λ x. value_tree x ≡ A.apply f (map value_tree out)) → IfErr r (λ h. h ≡ halt.NoMemory) → Walks w p value_tree start r old
+      → Same w p (trail_tree start) (behind_values out xs) (trail_tree old) → xs ≡ [] → IfOk r (λ x. value_tree x ≡ A.apply f (map value_tree out)) → IfErr r (λ h. h ≡ halt.NoMemory) → Walks w p value_tree start r old
   values_end p start old out xs r inv none a b =
       later w p (give (A.apply f (map value_tree out))) value_tree start old old r
-      (inv ∙ ap (λ l. walk w (behind_values out l) (trail_tree old)) none ∙ ap (λ l. (Ready (Ok (A.apply f l)), trail_tree old)) (append-nil (map value_tree out)))
+      (λ n o. inv n o ∙ ap (λ l. walk (over w n) (behind_values out l) (trail_tree old)) none ∙ ap (λ l. (Ready (Ok (A.apply f l)), trail_tree old)) (append-nil (map value_tree out)))
       (gives w (A.apply f (map value_tree out)) value_tree old r a b)

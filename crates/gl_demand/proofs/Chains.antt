@@ -10,7 +10,7 @@ use Rattle.gl_calculus.specs.Formula as F
 use Rattle.gl_calculus.specs.Formula.{Version}
 use Rattle.gl_calculus.specs.Lift.{lift2}
 use Rattle.gl_calculus.specs.Operators.{operate}
-use Rattle.gl_calculus.specs.Key.{Eval, on_result, ◌>>=◌}
+use Rattle.gl_calculus.specs.Key.{Eval, ◌>>=◌}
 use Rattle.gl_calculus.specs.Evaluation as E
 use Rattle.gl_ast.specs.View.{formula_tree, op_tree, level_tree, operand_trees}
 use Rattle.gl_ast.specs.Forms.{formula_tree-Chain}
@@ -20,12 +20,11 @@ use Rattle.gl_ast.specs.declared.Formula.{Formula}
 use Rattle.gl_ast.specs.declared.Formula.TheVariants as form
 use Rattle.gl_value.specs.View.{value_tree}
 use Rattle.gl_value.specs.declared.Value.{Value}
-use Rattle.gl_demand.specs.Walk.{World, walk, then_walk}
+use Rattle.gl_demand.specs.Walk.{World, walk}
 use Rattle.gl_demand.specs.Walks.{Walks, trail_tree}
 use Rattle.gl_demand.specs.declared.trail.Trail as Code
 use Rattle.gl_demand.specs.declared.trail.Halt.{Halt}
-use Rattle.gl_demand.specs.declared.trail.Halt.TheVariants as halt
-use Rattle.gl_demand.proofs.Walking.{walk-bind, walk-on}
+use Rattle.gl_demand.proofs.Walking.{Same, now, same_part, same_then, same_on, halts, later}
 
 module _ (w : World) (v : Version) (e : Frame) (bs : E.Bindings) where
   abbrev value : F.Formula → Eval V.Value
@@ -41,29 +40,31 @@ module _ (w : World) (v : Version) (e : Frame) (bs : E.Bindings) where
       ∙ ap (λ x. value (F.Formula.Chain (level_tree l) (formula_tree x) (operand_trees os.items))) (sym j)
 
   pub chain_start : (f : Formula) (l : Level) (g : Box Formula Global) (os : Vec (Op × Formula) Global) (h : Formula) (u : Value) (old mid : Code.Trail) → f ≡ form.Chain l g os → h ≡ g.value
-      → Walks w (value (formula_tree h)) value_tree old (Ok u) mid → walk w (value (formula_tree f)) (trail_tree old) ≡ walk w (rest_value (value_tree u) (operand_trees os.items)) (trail_tree mid)
+      → Walks w (value (formula_tree h)) value_tree old (Ok u) mid → Same w (value (formula_tree f)) (trail_tree old) (rest_value (value_tree u) (operand_trees os.items)) (trail_tree mid)
   chain_start f l g os h u old mid i j m =
-      ap (λ p. walk w p (trail_tree old)) (chain_is f l g os h i j)
-      ∙ walk-on w (λ z. rest_value z (operand_trees os.items)) (value (formula_tree h)) (trail_tree old) (value_tree u) (trail_tree mid) m
+      same_then w (value (formula_tree f)) (value (formula_tree h) >>= λ z. rest_value z (operand_trees os.items)) (rest_value (value_tree u) (operand_trees os.items)) (trail_tree old) (trail_tree old) (trail_tree mid)
+      (same_part w (value (formula_tree f)) (value (formula_tree h) >>= λ z. rest_value z (operand_trees os.items)) (trail_tree old) (chain_is f l g os h i j))
+      (same_on w (λ z. rest_value z (operand_trees os.items)) (value (formula_tree h)) (trail_tree old) (value_tree u) (trail_tree mid) m)
 
-  module _ (p : Eval V.Value) (start old new : Code.Trail) (os rest : List (Op × Formula)) (o : Op) (h : Formula) (u : Value) (inv : walk w p (trail_tree start) ≡ walk w (rest_value (value_tree u) (operand_trees os)) (trail_tree old)) (split : os ≡ (o, h) ∷ rest) where
+  module _ (p : Eval V.Value) (start old new : Code.Trail) (os rest : List (Op × Formula)) (o : Op) (h : Formula) (u : Value) (inv : Same w p (trail_tree start) (rest_value (value_tree u) (operand_trees os)) (trail_tree old)) (split : os ≡ (o, h) ∷ rest) where
     abbrev on : V.Value → Eval V.Value
     on z = rest_value (lift2 (operate (op_tree o)) (value_tree u) z) (operand_trees rest)
 
-    opened : walk w p (trail_tree start) ≡ walk w (value (formula_tree h) >>= on) (trail_tree old)
-    opened = inv ∙ ap (λ l. walk w (rest_value (value_tree u) (operand_trees l)) (trail_tree old)) split
+    opened : Same w p (trail_tree start) (value (formula_tree h) >>= on) (trail_tree old)
+    opened = same_then w p (rest_value (value_tree u) (operand_trees os)) (value (formula_tree h) >>= on) (trail_tree start) (trail_tree old) (trail_tree old) inv
+        (same_part w (rest_value (value_tree u) (operand_trees os)) (value (formula_tree h) >>= on) (trail_tree old) (ap (λ l. rest_value (value_tree u) (operand_trees l)) split))
 
     pub chain_next : (y x : Value) → Walks w (value (formula_tree h)) value_tree old (Ok y) new → value_tree x ≡ lift2 (operate (op_tree o)) (value_tree u) (value_tree y)
-        → walk w p (trail_tree start) ≡ walk w (rest_value (value_tree x) (operand_trees rest)) (trail_tree new)
+        → Same w p (trail_tree start) (rest_value (value_tree x) (operand_trees rest)) (trail_tree new)
     chain_next y x m q =
-        opened ∙ walk-on w on (value (formula_tree h)) (trail_tree old) (value_tree y) (trail_tree new) m
-        ∙ ap (λ z. walk w (rest_value z (operand_trees rest)) (trail_tree new)) (sym q)
+        same_then w p (value (formula_tree h) >>= on) (rest_value (value_tree x) (operand_trees rest)) (trail_tree start) (trail_tree old) (trail_tree new) opened
+        (same_then w (value (formula_tree h) >>= on) (on (value_tree y)) (rest_value (value_tree x) (operand_trees rest)) (trail_tree old) (trail_tree new) (trail_tree new)
+        (same_on w on (value (formula_tree h)) (trail_tree old) (value_tree y) (trail_tree new) m)
+        (same_part w (on (value_tree y)) (rest_value (value_tree x) (operand_trees rest)) (trail_tree new) (ap (λ z. rest_value z (operand_trees rest)) (sym q))))
 
     pub chain_halts : (n : Halt) → Walks w (value (formula_tree h)) value_tree old (Err n) new → Walks w p value_tree start (Err n) new
-    chain_halts (halt.Need k) m = opened ∙ walk-bind w (on_result on) (value (formula_tree h)) (trail_tree old) ∙ ap (λ z. then_walk z (λ r t. walk w (on_result on r) t)) m
-    chain_halts (halt.Spent b) m = opened ∙ walk-bind w (on_result on) (value (formula_tree h)) (trail_tree old) ∙ ap (λ z. then_walk z (λ r t. walk w (on_result on r) t)) m
-    chain_halts halt.NoMemory m = tt
+    chain_halts n m = later w p (value (formula_tree h) >>= on) value_tree start old new (Err n) opened (halts w on (value (formula_tree h)) value_tree value_tree old new n m)
 
-  pub chain_end : (p : Eval V.Value) (start old : Code.Trail) (os : List (Op × Formula)) (u : Value) → walk w p (trail_tree start) ≡ walk w (rest_value (value_tree u) (operand_trees os)) (trail_tree old) → os ≡ []
+  pub chain_end : (p : Eval V.Value) (start old : Code.Trail) (os : List (Op × Formula)) (u : Value) → Same w p (trail_tree start) (rest_value (value_tree u) (operand_trees os)) (trail_tree old) → os ≡ []
       → walk w p (trail_tree start) ≡ (Ready (Ok (value_tree u)), trail_tree old)
-  chain_end p start old os u inv e = inv ∙ ap (λ l. walk w (rest_value (value_tree u) (operand_trees l)) (trail_tree old)) e
+  chain_end p start old os u inv e = now w p (rest_value (value_tree u) (operand_trees os)) (trail_tree start) (trail_tree old) inv ∙ ap (λ l. walk w (rest_value (value_tree u) (operand_trees l)) (trail_tree old)) e

@@ -6,17 +6,17 @@ use Rattle.gl_calculus.specs.Value.{Frame}
 use Rattle.gl_calculus.specs.Formula as F
 use Rattle.gl_calculus.specs.Formula.{Version}
 use Rattle.gl_calculus.specs.Sheet as S
-use Rattle.gl_calculus.specs.Key.{Eval, give, on_result, ◌>>=◌}
+use Rattle.gl_calculus.specs.Key.{Eval, give, ◌>>=◌}
 use Rattle.gl_calculus.specs.Evaluation as E
 use Rattle.gl_ast.specs.View.{formula_tree}
 use Rattle.gl_ast.specs.declared.Formula.{Formula}
 use Rattle.gl_value.specs.View.{value_tree}
 use Rattle.gl_value.specs.declared.Value.{Value}
-use Rattle.gl_demand.specs.Walk.{World, Trail, walk, then_walk}
+use Rattle.gl_demand.specs.Walk.{World, Trail, walk}
 use Rattle.gl_demand.specs.Walks.{Walks, trail_tree}
 use Rattle.gl_demand.specs.declared.trail.Trail as Code
 use Rattle.gl_demand.specs.declared.trail.Halt.{Halt}
-use Rattle.gl_demand.proofs.Walking.{walk-bind, walk-on, halts, goes_on, later}
+use Rattle.gl_demand.proofs.Walking.{over, Same, still, same_part, same_then, same_on, same_bind, halts, goes_on, later}
 use Rattle.gl_demand.proofs.Calling.{value, args, called, seen_in}
 
 -- a part of a list is no deeper
@@ -26,17 +26,14 @@ most_rest μ (suc i) [] = omega arith
 most_rest μ (suc i) (x ∷ xs) = let h : most μ (drop i xs) ≤ most μ xs = most_rest μ i xs in omega arith
 
 module _ (w : World) where
-  bind_same : {R T : Type 0} (g : R → Eval T) (q p : Eval R) (t u : Trail) → walk w q t ≡ walk w p u → walk w (q >>= g) t ≡ walk w (p >>= g) u
-  bind_same g q p t u h = walk-bind w (on_result g) q t ∙ ap (λ z. then_walk z (λ r s. walk w (on_result g r) s)) h ∙ sym (walk-bind w (on_result g) p u)
-
   -- an update with a value that is evaluated first
   abbrev pub update_on : Frame → E.Argument → E.Argument → V.Value → Eval V.Value
   update_on e a f u = f.eval >>= λ z. E.on_sheet (λ s. E.made (S.update e s (E.written_address a.form) z)) u
 
-  updates_same : (e : Frame) (ps : List E.Argument) (q p : Eval V.Value) (t u : Trail) → walk w q t ≡ walk w p u → walk w (E.updates e q ps) t ≡ walk w (E.updates e p ps) u
+  updates_same : (e : Frame) (ps : List E.Argument) (q p : Eval V.Value) (t u : Trail) → Same w q t p u → Same w (E.updates e q ps) t (E.updates e p ps) u
   updates_same e [] q p t u h = h
   updates_same e (a ∷ []) q p t u h = h
-  updates_same e (a ∷ f ∷ ps) q p t u h = updates_same e ps (q >>= update_on e a f) (p >>= update_on e a f) t u (bind_same (update_on e a f) q p t u h)
+  updates_same e (a ∷ f ∷ ps) q p t u h = updates_same e ps (q >>= update_on e a f) (p >>= update_on e a f) t u (same_bind w (update_on e a f) q p t u h)
 
   updates_halt : (e : Frame) (ps : List E.Argument) (q : Eval V.Value) (old new : Code.Trail) (n : Halt) → Walks {T = Value} w q value_tree old (Err n) new → Walks {T = Value} w (E.updates e q ps) value_tree old (Err n) new
   updates_halt e [] q old new n h = h
@@ -55,18 +52,19 @@ module _ (w : World) where
     group_is xs ps h = ap (called v e bs F.Fun.G) h
 
     pub group_start : (xs ps : List Formula) (u : Value) (t : Code.Trail) → xs ≡ r ∷ ps → Walks w start_sheet value_tree t (Ok u) t
-        → walk w (called v e bs F.Fun.G xs) (trail_tree t) ≡ walk w (with_updates (give (value_tree u)) ps) (trail_tree t)
+        → Same w (called v e bs F.Fun.G xs) (trail_tree t) (with_updates (give (value_tree u)) ps) (trail_tree t)
     group_start xs ps u t h m =
-        ap (λ p. walk w p (trail_tree t)) (group_is xs ps h)
-        ∙ bind_same (seen_in v e bs r) (E.updates e start_sheet (args v e bs ps)) (E.updates e (give (value_tree u)) (args v e bs ps)) (trail_tree t) (trail_tree t)
-        (updates_same e (args v e bs ps) start_sheet (give (value_tree u)) (trail_tree t) (trail_tree t) m)
+        same_then w (called v e bs F.Fun.G xs) (with_updates start_sheet ps) (with_updates (give (value_tree u)) ps) (trail_tree t) (trail_tree t) (trail_tree t)
+        (same_part w (called v e bs F.Fun.G xs) (with_updates start_sheet ps) (trail_tree t) (group_is xs ps h))
+        (same_bind w (seen_in v e bs r) (E.updates e start_sheet (args v e bs ps)) (E.updates e (give (value_tree u)) (args v e bs ps)) (trail_tree t) (trail_tree t)
+        (updates_same e (args v e bs ps) start_sheet (give (value_tree u)) (trail_tree t) (trail_tree t) (λ x n. still w x n start_sheet (trail_tree t) (Ok (value_tree u)) (trail_tree t) m)))
 
     pub group_halts : (xs ps : List Formula) (t : Code.Trail) (n : Halt) → xs ≡ r ∷ ps → Walks {T = Value} w start_sheet value_tree t (Err n) t → Walks {T = Value} w (called v e bs F.Fun.G xs) value_tree t (Err n) t
     group_halts xs ps t n h m =
         subst (λ p. Walks {T = Value} w p value_tree t (Err n) t) (sym (group_is xs ps h))
         (halts w (seen_in v e bs r) (E.updates e start_sheet (args v e bs ps)) value_tree value_tree t t n (updates_halt e (args v e bs ps) start_sheet t t n m))
 
-    module _ (p : Eval V.Value) (start old : Code.Trail) (u : Value) (xs : List Formula) (inv : walk w p (trail_tree start) ≡ walk w (with_updates (give (value_tree u)) xs) (trail_tree old)) where
+    module _ (p : Eval V.Value) (start old : Code.Trail) (u : Value) (xs : List Formula) (inv : Same w p (trail_tree start) (with_updates (give (value_tree u)) xs) (trail_tree old)) where
       module _ (a f : Formula) (more : List Formula) (split : xs ≡ a ∷ f ∷ more) where
         -- the update with a value
         abbrev pub put : V.Value → Eval V.Value
@@ -75,15 +73,17 @@ module _ (w : World) where
         abbrev pub updated : Eval V.Value
         updated = value v e bs f >>= put
 
-        opened : walk w p (trail_tree start) ≡ walk w (with_updates updated more) (trail_tree old)
-        opened = inv ∙ ap (λ l. walk w (with_updates (give (value_tree u)) l) (trail_tree old)) split
+        opened : Same w p (trail_tree start) (with_updates updated more) (trail_tree old)
+        opened = same_then w p (with_updates (give (value_tree u)) xs) (with_updates updated more) (trail_tree start) (trail_tree old) (trail_tree old) inv
+            (same_part w (with_updates (give (value_tree u)) xs) (with_updates updated more) (trail_tree old) (ap (λ l. with_updates (give (value_tree u)) l) split))
 
         pub update_next : (mid : Code.Trail) (z x : Value) → Walks w (value v e bs f) value_tree old (Ok z) mid → Walks w (put (value_tree z)) value_tree mid (Ok x) mid
-            → walk w p (trail_tree start) ≡ walk w (with_updates (give (value_tree x)) more) (trail_tree mid)
+            → Same w p (trail_tree start) (with_updates (give (value_tree x)) more) (trail_tree mid)
         update_next mid z x m n =
-            opened
-            ∙ bind_same (seen_in v e bs r) (E.updates e updated (args v e bs more)) (E.updates e (give (value_tree x)) (args v e bs more)) (trail_tree old) (trail_tree mid)
-            (updates_same e (args v e bs more) updated (give (value_tree x)) (trail_tree old) (trail_tree mid) (walk-on w put (value v e bs f) (trail_tree old) (value_tree z) (trail_tree mid) m ∙ n))
+            same_then w p (with_updates updated more) (with_updates (give (value_tree x)) more) (trail_tree start) (trail_tree old) (trail_tree mid) opened
+            (same_bind w (seen_in v e bs r) (E.updates e updated (args v e bs more)) (E.updates e (give (value_tree x)) (args v e bs more)) (trail_tree old) (trail_tree mid)
+            (updates_same e (args v e bs more) updated (give (value_tree x)) (trail_tree old) (trail_tree mid)
+            (λ y o. same_on w put (value v e bs f) (trail_tree old) (value_tree z) (trail_tree mid) m y o ∙ still w y o (put (value_tree z)) (trail_tree mid) (Ok (value_tree x)) (trail_tree mid) n)))
 
         stops : (new : Code.Trail) (n : Halt) → Walks {T = Value} w updated value_tree old (Err n) new → Walks {T = Value} w p value_tree start (Err n) new
         stops new n m =
@@ -103,4 +103,4 @@ module _ (w : World) where
 
       -- all updates are made
       pub group_end : (new : Code.Trail) (x : Result Value Halt) → length xs < 2 → Walks w (seen_in v e bs r (value_tree u)) value_tree old x new → Walks w p value_tree start x new
-      group_end new x h m = later w p (seen_in v e bs r (value_tree u)) value_tree start old new x (inv ∙ ap (λ q. walk w (q >>= seen_in v e bs r) (trail_tree old)) (none_left xs h)) m
+      group_end new x h m = later w p (seen_in v e bs r (value_tree u)) value_tree start old new x (λ y o. inv y o ∙ ap (λ q. walk (over w y) (q >>= seen_in v e bs r) (trail_tree old)) (none_left xs h)) m

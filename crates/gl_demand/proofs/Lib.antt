@@ -1,5 +1,6 @@
 pub mod Hashes
 pub mod Walking
+pub mod Needing
 pub mod Frames
 pub mod Showing
 pub mod Keys

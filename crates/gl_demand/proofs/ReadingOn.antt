@@ -4,6 +4,7 @@ use Rattle.std.proofs.lemmas.List.{append-nil, map-append}
 use Rattle.std.specs.declared.alloc.Global.{Global}
 use Rattle.std.specs.declared.vec.Vec.{Vec}
 use Rattle.gl_query.specs.Query.{Ready}
+use Rattle.gl_query.specs.Evaluation.{given}
 use Rattle.gl_calculus.specs.Grid.{Addr, Range, extents}
 use Rattle.gl_calculus.specs.Value as V
 use Rattle.gl_calculus.specs.Value.{Frame}
@@ -16,12 +17,18 @@ use Rattle.gl_value.specs.View.{scalar_tree, value_tree, item_trees}
 use Rattle.gl_value.specs.declared.Scalar.{Scalar}
 use Rattle.gl_value.specs.declared.Value.{Value}
 use Rattle.gl_demand.specs.Walk.{World, Trail, walk, then_walk, looking, behind}
-use Rattle.gl_demand.specs.Walks.{Walks, trail_tree}
+use Rattle.gl_ahead.specs.Ahead.{IsAhead}
+use Rattle.gl_ahead.specs.Demands.{is_value}
+use Rattle.gl_ahead.specs.Reading as A
+use Rattle.gl_ahead.specs.Reading.{keys_from}
+use Rattle.gl_ahead.proofs.Ranges.{range_demands}
+use Rattle.gl_demand.specs.Stopped.{IsHaltIn}
+use Rattle.gl_demand.specs.Walks.{EndsWalk, Walks, trail_tree}
 use Rattle.gl_demand.specs.Seen.{AreSeen, ReadsOne}
 use Rattle.gl_demand.specs.declared.trail.Trail as Code
 use Rattle.gl_demand.specs.declared.trail.Halt.{Halt}
 use Rattle.gl_demand.specs.declared.trail.Halt.TheVariants as halt
-use Rattle.gl_demand.proofs.Walking.{walk-bind, walk-on, goes_on, halts, later, behind_twice, behind_none, joined}
+use Rattle.gl_demand.proofs.Walking.{over, Same, now, walk-bind, walk-on, goes_on, later, ends_later, ends_bind, halts_in, behind_twice, behind_none, joined}
 use Rattle.gl_demand.proofs.Seeing.{none_seen}
 use Rattle.gl_demand.proofs.References.{gives}
 
@@ -68,8 +75,8 @@ module _ (w : World) (e : Frame) where
       }
 
       -- a halt ends the whole
-      pub read_halts : (h : Halt) → ReadsOne w (deref e far.seen x) mid (Err h) roots' new → Walks {T = Vec Scalar Global} w (deref_all e [] all) (λ v. map scalar_tree v.items) start (Err h) new
-      read_halts (halt.Need k) r = opened ∙ ap (behind (map scalar_tree before)) (walk-bind w (on_result (on far.seen x rest)) (deref e far.seen x) (trail_tree mid) ∙ ap (λ z. then_walk z (λ o v. walk w (on_result (on far.seen x rest) o) v)) r.walk)
+      pub read_halts : (h : Halt) → ReadsOne w (deref e far.seen x) mid (Err h) roots' new → EndsWalk {T = Vec Scalar Global} w (deref_all e [] all) (λ v. map scalar_tree v.items) start (Err h) new
+      read_halts (halt.Need k a) r = opened ∙ ap (behind (map scalar_tree before)) (walk-bind w (on_result (on far.seen x rest)) (deref e far.seen x) (trail_tree mid) ∙ ap (λ z. then_walk z (λ o v. walk w (on_result (on far.seen x rest) o) v)) r.walk.0)
       read_halts (halt.Spent b) r = opened ∙ ap (behind (map scalar_tree before)) (walk-bind w (on_result (on far.seen x rest)) (deref e far.seen x) (trail_tree mid) ∙ ap (λ z. then_walk z (λ o v. walk w (on_result (on far.seen x rest) o) v)) r.walk)
       read_halts halt.NoMemory r = tt
 
@@ -86,13 +93,21 @@ module _ (w : World) (e : Frame) where
     abbrev scalars_read : Eval (List V.Scalar)
     scalars_read = deref_all e [] (facts w.cells w.oracle r)
 
-    pub range_on : (items : Vec Scalar Global) (o : Result Value Halt) → trail_tree mid ≡ looking r (trail_tree old) → Walks w scalars_read (λ (v : Vec Scalar Global). map scalar_tree v.items) mid (Ok items) new
+    range_walk : trail_tree mid ≡ looking r (trail_tree old) → Same w (at_range e r) (trail_tree old) (scalars_read >>= made) (trail_tree mid)
+    range_walk m v n = ap (walk (over w v) (scalars_read >>= made)) (sym m)
+
+    pub range_on : (items : Vec Scalar Global) (o : Result Value Halt) → trail_tree mid ≡ looking r (trail_tree old) → EndsWalk w scalars_read (λ (v : Vec Scalar Global). map scalar_tree v.items) mid (Ok items) new
         → IfOk o (λ v. value_tree v ≡ V.Value.Array (extents r) (item_trees items.items)) → IfErr o (λ h. h ≡ halt.NoMemory) → Walks w (at_range e r) value_tree old o new
     range_on items o m k c d =
-        later w (at_range e r) (scalars_read >>= made) value_tree old mid new o (ap (walk w (scalars_read >>= made)) (sym m))
+        later w (at_range e r) (scalars_read >>= made) value_tree old mid new o (range_walk m)
         (goes_on w made scalars_read (λ (v : Vec Scalar Global). map scalar_tree v.items) value_tree mid new new items o k (gives w (V.Value.Array (extents r) (item_trees items.items)) value_tree new o c d))
 
-    pub range_halts : (h : Halt) → trail_tree mid ≡ looking r (trail_tree old) → Walks w scalars_read (λ (v : Vec Scalar Global). map scalar_tree v.items) mid (Err h) new → Walks w (at_range e r) value_tree old (Err h) new
-    range_halts h m k =
-        later w (at_range e r) (scalars_read >>= made) value_tree old mid new (Err h) (ap (walk w (scalars_read >>= made)) (sym m))
-        (halts w made scalars_read (λ (v : Vec Scalar Global). map scalar_tree v.items) value_tree mid new h k)
+    -- what a range demands is ahead of it
+    range_ahead : IsAhead is_value (given (facts w.cells w.oracle) (at_range e r)) w.known (keys_from w.cells w.oracle (A.Area e r) 0)
+    range_ahead v n i d = (range_demands w.cells w.oracle e r v).0 i d
+
+    pub range_halts : (h h' : Halt) → trail_tree mid ≡ looking r (trail_tree old) → EndsWalk w scalars_read (λ (v : Vec Scalar Global). map scalar_tree v.items) mid (Err h) new → IsHaltIn (A.Area e r) h h' → Walks w (at_range e r) value_tree old (Err h') new
+    range_halts h h' m k s =
+        halts_in w (at_range e r) value_tree value_tree (A.Area e r) old new h h' range_ahead
+        (ends_later w (at_range e r) (scalars_read >>= made) value_tree old mid new (Err h) (now w (at_range e r) (scalars_read >>= made) (trail_tree old) (trail_tree mid) (range_walk m))
+        (ends_bind w made scalars_read (λ (v : Vec Scalar Global). map scalar_tree v.items) value_tree mid new h k)) s

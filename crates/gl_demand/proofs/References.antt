@@ -20,13 +20,13 @@ use Rattle.gl_demand.specs.Seen.{AreSeen, ReadsOne, ReadsAlone, deref_in}
 use Rattle.gl_demand.specs.declared.trail.Trail.{Trail}
 use Rattle.gl_demand.specs.declared.trail.Halt.{Halt}
 use Rattle.gl_demand.specs.declared.trail.Halt.TheVariants as halt
-use Rattle.gl_demand.proofs.Walking.{goes_on, halts, later}
+use Rattle.gl_demand.proofs.Walking.{over, Same, goes_on, halts, later}
 
 module _ (w : World) where
   -- a value that is given
   pub gives : {B R : Type 0} (y : R) (f : B → R) (t : Trail) (r : Result B Halt) → IfOk r (λ x. f x ≡ y) → IfErr r (λ h. h ≡ halt.NoMemory) → Walks w (give y) f t r t
   gives y f t (Ok x) e n = ap (λ z. (Ready (Ok z), trail_tree t)) (sym e)
-  gives y f t (Err (halt.Need k)) e n = absurd (cc n)
+  gives y f t (Err (halt.Need k a)) e n = absurd (cc n)
   gives y f t (Err (halt.Spent b)) e n = absurd (cc n)
   gives y f t (Err halt.NoMemory) e n = tt
 
@@ -34,7 +34,7 @@ module _ (w : World) where
   pub looks : (p : Eval Fact) (x : Fact) (root : Addr) (old new : Trail) (r : Result (Unit {0}) Halt) → walk w p (trail_tree old) ≡ (Ready (Ok x), looking (single root) (trail_tree old))
       → OnOk r (trail_tree new ≡ looking (single root) (trail_tree old)) → IfErr r (λ h. h ≡ halt.NoMemory) → Walks w p (λ u. x) old r new
   looks p x root old new (Ok u) e m n = e ∙ ap (λ z. (Ready (Ok x), z)) (sym m)
-  looks p x root old new (Err (halt.Need k)) e m n = absurd (cc n)
+  looks p x root old new (Err (halt.Need k a)) e m n = absurd (cc n)
   looks p x root old new (Err (halt.Spent b)) e m n = absurd (cc n)
   looks p x root old new (Err halt.NoMemory) e m n = tt
 
@@ -129,8 +129,8 @@ module _ (w : World) where
     abbrev alone : Eval Reading
     alone = deref e [] (fact w.cells w.oracle a)
 
-    address_walk : trail_tree mid ≡ looking (single a) (trail_tree old) → walk w (at_address e a) (trail_tree old) ≡ walk w (alone >>= one) (trail_tree mid)
-    address_walk m = ap (λ x. walk w (deref e [] x >>= one) (looking (single a) (trail_tree old))) (fact_at_single w.cells w.oracle a) ∙ ap (walk w (alone >>= one)) (sym m)
+    address_walk : trail_tree mid ≡ looking (single a) (trail_tree old) → Same w (at_address e a) (trail_tree old) (alone >>= one) (trail_tree mid)
+    address_walk m v n = ap (λ x. walk (over w v) (deref e [] x >>= one) (looking (single a) (trail_tree old))) (fact_at_single w.cells w.oracle a) ∙ ap (walk (over w v) (alone >>= one)) (sym m)
 
     pub address_ok : (x : Scalar) (v : Value) → trail_tree mid ≡ looking (single a) (trail_tree old) → ReadsAlone w alone mid (Ok x) new → value_tree v ≡ One (scalar_tree x) → Walks w (at_address e a) value_tree old (Ok v) new
     address_ok x v m r h =

@@ -20,7 +20,7 @@ use Rattle.gl_demand.specs.Blocks.{has_content_in}
 use Rattle.gl_demand.specs.Settling.{region_facts, round_arrays, halt_of}
 use Rattle.gl_demand.specs.declared.trail.Trail as Code
 use Rattle.gl_demand.specs.declared.trail.Halt.{Halt}
-use Rattle.gl_demand.proofs.Walking.{walk-on, halts}
+use Rattle.gl_demand.proofs.Walking.{over, Same, same_part, same_on, walk-on, halts}
 use Rattle.gl_demand.proofs.Walking as walking
 use Rattle.gl_demand.proofs.Granting.{next_granted}
 
@@ -51,13 +51,13 @@ module _ (w : World) (s : SheetValue) where
   is_next : (zs : Sizes) → next_in s (region_facts w s) zs ≡ next zs
   is_next zs = next_granted w.cells w.oracle s zs
 
-  goes : (n : ℕ) (o : Oracle) (zs : Sizes) (t u : Trail) → walk w (round_arrays w s o) t ≡ (Ready (Ok zs), u) → next zs ≢ o → walk w (rounds_from (suc n) o) t ≡ walk w (rounds_from n (next zs)) u
-  goes n o zs t u h k =
+  goes : (n : ℕ) (o : Oracle) (zs : Sizes) (t u : Trail) → walk w (round_arrays w s o) t ≡ (Ready (Ok zs), u) → next zs ≢ o → Same w (rounds_from (suc n) o) t (rounds_from n (next zs)) u
+  goes n o zs t u h k v m =
       let p = next_in s (region_facts w s) zs in
       let no : same_oracle p o ≡ false = not_same_by p o (λ e. k (sym (is_next zs) ∙ e)) (split (same_oracle p o)) in
-      walk-on w (on n o) (round_arrays w s o) t zs u h
-      ∙ ap (λ b. walk w (settled_or (rounds s (region_facts w s) n) o p b) u) no
-      ∙ ap (λ q. walk w (rounds_from n q) u) (is_next zs)
+      same_on w (on n o) (round_arrays w s o) t zs u h v m
+      ∙ ap (λ b. walk (over w v) (settled_or (rounds s (region_facts w s) n) o p b) u) no
+      ∙ ap (λ q. walk (over w v) (rounds_from n q) u) (is_next zs)
 
   stays : (n : ℕ) (o : Oracle) (zs : Sizes) (t u : Trail) → walk w (round_arrays w s o) t ≡ (Ready (Ok zs), u) → next zs ≡ o → walk w (rounds_from (suc n) o) t ≡ (Ready (Ok o), u)
   stays n o zs t u h k =
@@ -72,10 +72,10 @@ module _ {S : Type 0} (gives : Oracle → Sizes → Type 0) (fails : Oracle → 
   record Reached (i : ℕ) (o : Oracle) (y : S) (d : Code.Trail) : Type 0 where
     same : y ≡ x
     few : i < budget
-    walked : walk w (rounds_from w s budget []) (trail_tree c) ≡ walk w (rounds_from w s (budget - i) o) (trail_tree d)
+    walked : Same w (rounds_from w s budget []) (trail_tree c) (rounds_from w s (budget - i) o) (trail_tree d)
 
   reached : (i : ℕ) (o : Oracle) (y : S) (d : Code.Trail) → Reaches gives calls (region s) (has_content_in w.cells s) budget x c i o y d → Reached i o y d
-  reached _ _ _ _ first = let e : budget ≡ budget - 0 = omega arith in record { same = refl; few = omega (arith, some); walked = ap (λ n. walk w (rounds_from w s n []) (trail_tree c)) e }
+  reached _ _ _ _ first = let e : budget ≡ budget - 0 = omega arith in record { same = refl; few = omega (arith, some); walked = same_part w (rounds_from w s budget []) (rounds_from w s (budget - 0) []) (trail_tree c) (ap (λ n. rounds_from w s n []) e) }
   reached _ _ _ _ (later {i = i} {w = o} {zs = zs} {t = y} {t' = y'} {d = d} {d' = d'} r g k n b) =
       let p = reached i o y d r in
       let m = means d o (Ok zs) y' d' (subst (λ u. calls u d o (Ok zs) y' d') p.same k) in
@@ -83,7 +83,7 @@ module _ {S : Type 0} (gives : Oracle → Sizes → Type 0) (fails : Oracle → 
       record {
         same = m.0;
         few = omega (arith, p.few, b);
-        walked = p.walked ∙ ap (λ n. walk w (rounds_from w s n o) (trail_tree d)) e ∙ goes w s (budget - suc i) o zs (trail_tree d) (trail_tree d') m.1 n;
+        walked = λ v q. p.walked v q ∙ ap (λ n. walk (over w v) (rounds_from w s n o) (trail_tree d)) e ∙ goes w s (budget - suc i) o zs (trail_tree d) (trail_tree d') m.1 n v q;
       }
 
   settles : (o : Oracle) (n : ℕ) (y : S) (d : Code.Trail) → Settles gives fails calls (region s) (has_content_in w.cells s) budget x c o n y d → walk w (rounds_from w s budget []) (trail_tree c) ≡ (Ready (Ok o), trail_tree d)
@@ -91,14 +91,14 @@ module _ {S : Type 0} (gives : Oracle → Sizes → Type 0) (fails : Oracle → 
       let p = reached h.round o h.call.object h.call.count h.call.reached in
       let m = means h.call.count o (Ok h.sizes) y d (subst (λ u. calls u h.call.count o (Ok h.sizes) y d) p.same h.call.called) in
       let e : budget - h.round ≡ suc (budget - suc h.round) = omega (arith, p.few) in
-      p.walked ∙ ap (λ n. walk w (rounds_from w s n o) (trail_tree h.call.count)) e ∙ stays w s (budget - suc h.round) o h.sizes (trail_tree h.call.count) (trail_tree d) m.1 h.stays
+      p.walked w.known (λ k o d. d) ∙ ap (λ n. walk w (rounds_from w s n o) (trail_tree h.call.count)) e ∙ stays w s (budget - suc h.round) o h.sizes (trail_tree h.call.count) (trail_tree d) m.1 h.stays
 
   runs_out : (a : Addr) (y : S) (d : Code.Trail) → RunsOut gives fails calls (region s) (has_content_in w.cells s) budget x c a y d → walk w (rounds_from w s budget []) (trail_tree c) ≡ (Ready (Err CopyRounds), trail_tree d)
   runs_out a y d h =
       let p = reached h.round h.oracle h.call.object h.call.count h.call.reached in
       let m = means h.call.count h.oracle (Ok h.sizes) y d (subst (λ u. calls u h.call.count h.oracle (Ok h.sizes) y d) p.same h.call.called) in
       let e : budget - h.round ≡ suc zero = omega (arith, h.spent) in
-      p.walked ∙ ap (λ n. walk w (rounds_from w s n h.oracle) (trail_tree h.call.count)) e ∙ goes w s zero h.oracle h.sizes (trail_tree h.call.count) (trail_tree d) m.1 (differs h.oracle (next w s h.sizes) a h.differs)
+      p.walked w.known (λ k o d. d) ∙ ap (λ n. walk w (rounds_from w s n h.oracle) (trail_tree h.call.count)) e ∙ goes w s zero h.oracle h.sizes (trail_tree h.call.count) (trail_tree d) m.1 (differs h.oracle (next w s h.sizes) a h.differs) w.known (λ k o d. d)
 
   breaks : (f : Halt) (y : S) (d : Code.Trail) → Breaks gives fails calls (region s) (has_content_in w.cells s) budget x c f y d → Walks {T = Oracle} w (rounds_from w s budget []) (λ o. o) c (Err f) d
   breaks f y d h =
@@ -106,7 +106,7 @@ module _ {S : Type 0} (gives : Oracle → Sizes → Type 0) (fails : Oracle → 
       let m = means h.call.count h.oracle (Err f) y d (subst (λ u. calls u h.call.count h.oracle (Err f) y d) p.same h.call.called) in
       let e : budget - h.round ≡ suc (budget - suc h.round) = omega (arith, p.few) in
       walking.later w (rounds_from w s budget []) (rounds_from w s (suc (budget - suc h.round)) h.oracle) (λ (o : Oracle). o) c h.call.count d (Err f)
-      (p.walked ∙ ap (λ n. walk w (rounds_from w s n h.oracle) (trail_tree h.call.count)) e)
+      (λ v q. p.walked v q ∙ ap (λ n. walk (over w v) (rounds_from w s n h.oracle) (trail_tree h.call.count)) e)
       (halts w (on w s (budget - suc h.round) h.oracle) (round_arrays w s h.oracle) (λ (zs : Sizes). zs) (λ (o : Oracle). o) h.call.count d f m.1)
 
   all_halt_at : (f : IterFault Halt) (y : S) (d : Code.Trail) → Answers gives fails calls (region s) (has_content_in w.cells s) budget x c (Err f) y d → Walks {T = Oracle} w (rounds_from w s budget []) (λ o. o) c (Err (halt_of f)) d

@@ -16,7 +16,7 @@ use Rattle.gl_demand.specs.Walk.{World, walk, looking}
 use Rattle.gl_demand.specs.Walks.{Walks, trail_tree}
 use Rattle.gl_demand.specs.declared.trail.Trail.{Trail}
 use Rattle.gl_demand.specs.declared.trail.Halt.{Halt}
-use Rattle.gl_demand.proofs.Walking.{goes_on, halts, later}
+use Rattle.gl_demand.proofs.Walking.{over, goes_on, halts, later}
 
 pub spilling_sound : (o : Option Value) → IfSome o (λ x. IsTrue (is_sound_value (value_tree x))) → IsTrue (is_sound_value (spilling (option_map value_tree o)))
 spilling_sound None h = refl
@@ -40,5 +40,5 @@ module _ (w : World) (e : Frame) (a : Addr) (old mid new : Trail) where
   pub spill_on : (h : Frame) (r : Result Value Halt) → h ≡ home e a → trail_tree mid ≡ looking (single a) (trail_tree old) → Walks w (whole h (fact w.cells w.oracle a) (own_content (content w.cells a) h a) (status_in (fact w.cells w.oracle a) h)) value_tree mid r new → Walks w (spill_of e a) value_tree old r new
   spill_on h r q m k =
       later w (spill_of e a) (at_home (home e a) (fact w.cells w.oracle a)) value_tree old mid new r
-      (ap (λ x. walk w (at_home (home e a) x) (looking (single a) (trail_tree old))) (fact_at_single w.cells w.oracle a) ∙ ap (walk w (at_home (home e a) (fact w.cells w.oracle a))) (sym m))
+      (λ v n. ap (λ x. walk (over w v) (at_home (home e a) x) (looking (single a) (trail_tree old))) (fact_at_single w.cells w.oracle a) ∙ ap (walk (over w v) (at_home (home e a) (fact w.cells w.oracle a))) (sym m))
       (subst (λ z. Walks w (at_home z (fact w.cells w.oracle a)) value_tree mid r new) q k)

@@ -2,23 +2,30 @@
 use Rattle.std.proofs.Common.{◌≡◌, Bool, true, false, cond, is_some, List, [], ◌∷◌, ◌++◌, map, filter, Option, Some, None, Result, Ok, Err, OnOk, IfErr, IfOk, refl, ap, sym, subst, ◌∙◌}
 use Rattle.std.proofs.lemmas.List.{append-nil}
 use Rattle.gl_query.specs.Query.{Ready, Need}
-use Rattle.gl_calculus.specs.Grid.{Addr, Size, AreInOrder, addresses}
+use Rattle.gl_query.specs.Evaluation.{given}
+use Rattle.gl_calculus.specs.Grid.{Addr, Size, AreInOrder, Range, addresses}
 use Rattle.gl_calculus.specs.Value.{Value, One, Array, Oracle, SheetValue, sheet_value, Frame, In, region}
 use Rattle.gl_calculus.specs.Oracle.{Sizes, AreSizes}
 use Rattle.gl_calculus.specs.Formula.{Content, content}
-use Rattle.gl_calculus.specs.Facts.{Fact, fact}
+use Rattle.gl_calculus.specs.Facts.{Fact, fact, facts}
 use Rattle.gl_calculus.specs.Key.{Budget, Eval, give, on_result, ◌>>=◌}
 use Rattle.gl_calculus.specs.Reference.{Held, own_content, own, value_of}
 use Rattle.gl_calculus.specs.Evaluation.{array_at, arrays}
 use Rattle.gl_demand.specs.Walk.{World, Trail, End, walk, then_walk, behind}
-use Rattle.gl_demand.specs.Walks.{Walks, trail_tree}
+use Rattle.gl_ahead.specs.Ahead.{IsAhead}
+use Rattle.gl_ahead.specs.Demands.{is_value}
+use Rattle.gl_ahead.specs.Reading as A
+use Rattle.gl_ahead.specs.Reading.{keys_from}
+use Rattle.gl_ahead.proofs.Ranges.{round_demands}
+use Rattle.gl_demand.specs.Stopped.{IsHaltIn}
+use Rattle.gl_demand.specs.Walks.{EndsWalk, Walks, trail_tree}
 use Rattle.gl_demand.specs.Blocks.{has_content_in}
 use Rattle.gl_demand.specs.Places.{filled_places}
 use Rattle.gl_demand.specs.Settling.{Visits, round_arrays, Gives, Fails}
 use Rattle.gl_demand.specs.declared.trail.Trail as Code
 use Rattle.gl_demand.specs.declared.trail.Halt.{Halt}
 use Rattle.gl_demand.specs.declared.trail.Halt.TheVariants as halt
-use Rattle.gl_demand.proofs.Walking.{walk-bind, walk-on, walk-found, halts, later, behind_twice, behind_none, joined}
+use Rattle.gl_demand.proofs.Walking.{walk-bind, walk-on, walk-found, ends, ends_later, ends_bind, halts_in, behind_twice, behind_none, joined}
 use Rattle.gl_demand.proofs.Ordered.{order_first, order_without}
 
 -- ---- one address after another
@@ -37,14 +44,14 @@ module _ (w : World) (e : Frame) where
 
   pub visited : (x : Fact) (zs zs' : Sizes) (old mid : Code.Trail) (v : Option Value) (r : Result (Unit {0}) Halt) → walk w (own e x) (trail_tree old) ≡ (Ready (Ok v), trail_tree mid) → OnOk r (zs' ≡ zs ++ array_at x.address v) → IfErr r (λ h. h ≡ halt.NoMemory) → Visits w e x zs old r zs' mid
   visited x zs zs' old mid v (Ok u) h g k = λ rest. visit_walk x rest zs (trail_tree old) (trail_tree mid) v h ∙ ap (λ l. behind l (walk w (arrays e rest) (trail_tree mid))) (sym g)
-  visited x zs zs' old mid v (Err f) h g k = λ rest. subst (λ l. Walks {T = Sizes} w (arrays e (x ∷ rest)) (λ ys. ys) old (Err l) mid) (sym k) tt
+  visited x zs zs' old mid v (Err f) h g k = λ rest. subst (λ l. EndsWalk {T = Sizes} w (arrays e (x ∷ rest)) (λ ys. ys) old (Err l) mid) (sym k) tt
 
   pub visit_halts : {A : Type 0} (x : Fact) (zs zs' : Sizes) (old new : Code.Trail) (f : A → Option Value) (h : Halt) → Walks w (own e x) f old (Err h) new → Visits w e x zs old (Err h) zs' new
-  visit_halts x zs zs' old new f h g = λ rest. halts w (on x.address rest) (own e x) f (λ (ys : Sizes). ys) old new h g
+  visit_halts x zs zs' old new f h g = λ rest. ends_bind w (on x.address rest) (own e x) f (λ (ys : Sizes). ys) old new h (ends w (own e x) f old new (Err h) g)
 
   -- a halt ends the whole
-  pub all_halt : (p : Eval Sizes) (x : Fact) (rest : List Fact) (zs : Sizes) (old mid new : Code.Trail) (h : Halt) → walk w p (trail_tree old) ≡ behind zs (walk w (arrays e (x ∷ rest)) (trail_tree mid)) → Walks {T = Sizes} w (arrays e (x ∷ rest)) (λ ys. ys) mid (Err h) new → Walks {T = Sizes} w p (λ ys. ys) old (Err h) new
-  all_halt p x rest zs old mid new (halt.Need k) q m = q ∙ ap (behind zs) m
+  pub all_halt : (p : Eval Sizes) (x : Fact) (rest : List Fact) (zs : Sizes) (old mid new : Code.Trail) (h : Halt) → walk w p (trail_tree old) ≡ behind zs (walk w (arrays e (x ∷ rest)) (trail_tree mid)) → EndsWalk {T = Sizes} w (arrays e (x ∷ rest)) (λ ys. ys) mid (Err h) new → EndsWalk {T = Sizes} w p (λ ys. ys) old (Err h) new
+  all_halt p x rest zs old mid new (halt.Need k a) q m = q ∙ ap (behind zs) m
   all_halt p x rest zs old mid new (halt.Spent b) q m = q ∙ ap (behind zs) m
   all_halt p x rest zs old mid new halt.NoMemory q m = tt
 
@@ -108,20 +115,29 @@ module _ (w : World) (s : SheetValue) (o : Oracle) where
   none_own a h = no_value (In s o) a (own_content (content w.cells a) (In s o) a) (ap is_some (any_oracle (content w.cells a) s o a) ∙ h)
 
   -- a round by the addresses with content
-  pub round_walk : (e : Frame) (bs : List Addr) (old new : Code.Trail) (r : Result Sizes Halt) → e ≡ In s o → bs ≡ filled_places w.cells s → Walks w (arrays e (map (fact w.cells w.oracle) bs)) (λ zs. zs) old r new → Walks w (round_arrays w s o) (λ zs. zs) old r new
+  pub round_walk : (e : Frame) (bs : List Addr) (old new : Code.Trail) (r : Result Sizes Halt) → e ≡ In s o → bs ≡ filled_places w.cells s → EndsWalk w (arrays e (map (fact w.cells w.oracle) bs)) (λ zs. zs) old r new → EndsWalk w (round_arrays w s o) (λ zs. zs) old r new
   round_walk e bs old new r f g h =
       let same : walk w (round_arrays w s o) (trail_tree old) ≡ walk w (arrays e (map (fact w.cells w.oracle) bs)) (trail_tree old) =
       filled_walk w (In s o) (has_content_in w.cells s) none_own (addresses (region s)) (trail_tree old)
       ∙ ap (λ l. walk w (arrays (In s o) (map (fact w.cells w.oracle) l)) (trail_tree old)) (sym g)
       ∙ ap (λ d. walk w (arrays d (map (fact w.cells w.oracle) bs)) (trail_tree old)) (sym f) in
-      later w (round_arrays w s o) (arrays e (map (fact w.cells w.oracle) bs)) (λ zs. zs) old old new r same h
+      ends_later w (round_arrays w s o) (arrays e (map (fact w.cells w.oracle) bs)) (λ zs. zs) old old new r same h
+
+  -- what a round demands is ahead of it
+  round_ahead : IsAhead is_value (given (facts w.cells w.oracle) (round_arrays w s o)) w.known (keys_from w.cells w.oracle (A.Round (In s o) (region s)) 0)
+  round_ahead v n i d = (round_demands w.cells w.oracle (In s o) (facts w.cells w.oracle (region s)) v).0 i d
+
+  pub round_halts : (e : Frame) (r : Range) (old new : Code.Trail) (h h' : Halt) → e ≡ In s o → r ≡ region s → EndsWalk {T = Sizes} w (round_arrays w s o) (λ zs. zs) old (Err h) new → IsHaltIn (A.Round e r) h h' → Walks {T = Sizes} w (round_arrays w s o) (λ zs. zs) old (Err h') new
+  round_halts e r old new h h' f g k i =
+      halts_in w (round_arrays w s o) (λ (zs : Sizes). zs) (λ (zs : Sizes). zs) (A.Round (In s o) (region s)) old new h h' round_ahead k
+      (subst (λ z. IsHaltIn (A.Round z (region s)) h h') f (subst (λ z. IsHaltIn (A.Round e z) h h') g i))
 
   pub round_gives : (old new : Code.Trail) (r : Result Sizes Halt) → Walks w (round_arrays w s o) (λ zs. zs) old r new → IfOk r (λ zs. Gives w s o zs)
   round_gives old new (Ok zs) h = sym (walk-found w (round_arrays w s o) (trail_tree old)) ∙ ap (λ z. z.0) h
   round_gives old new (Err h) g = tt
 
   fails_by : (old new : Code.Trail) (h : Halt) → Walks {T = Sizes} w (round_arrays w s o) (λ zs. zs) old (Err h) new → Fails w s o h
-  fails_by old new (halt.Need k) g = sym (walk-found w (round_arrays w s o) (trail_tree old)) ∙ ap (λ z. z.0) g
+  fails_by old new (halt.Need k a) g = sym (walk-found w (round_arrays w s o) (trail_tree old)) ∙ ap (λ z. z.0) g.0
   fails_by old new (halt.Spent b) g = sym (walk-found w (round_arrays w s o) (trail_tree old)) ∙ ap (λ z. z.0) g
   fails_by old new halt.NoMemory g = tt
 

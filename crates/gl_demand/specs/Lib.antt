@@ -6,6 +6,8 @@ pub mod Equal
 pub mod Laws
 pub mod Walk
 pub mod Walks
+pub mod Reading
+pub mod Lacking
 pub mod Held
 pub mod Seen
 pub mod Scope

@@ -9,7 +9,7 @@ use Rattle.gl_calculus.specs.Key.{Eval}
 use Rattle.gl_calculus.specs.Evaluation.{arrays, rounds, copy_budget}
 use Rattle.gl_demand.specs.View.{key_tree, budget_tree}
 use Rattle.gl_demand.specs.Walk.{World, walk, behind}
-use Rattle.gl_demand.specs.Walks.{Walks, trail_tree}
+use Rattle.gl_demand.specs.Walks.{EndsWalk, trail_tree}
 use Rattle.gl_demand.specs.declared.trail.Trail.{Trail}
 use Rattle.gl_demand.specs.declared.trail.Halt.{Halt}
 use Rattle.gl_demand.specs.declared.trail.Halt.TheVariants as halt
@@ -35,14 +35,14 @@ Gives w s o zs = found w.known (given (facts w.cells w.oracle) (round_arrays w s
 
 -- a round under the oracle halts like this
 abbrev pub Fails : World → SheetValue → Oracle → Halt → Type 0
-Fails w s o (halt.Need k) = found w.known (given (facts w.cells w.oracle) (round_arrays w s o)) ≡ Need (key_tree k)
+Fails w s o (halt.Need k a) = found w.known (given (facts w.cells w.oracle) (round_arrays w s o)) ≡ Need (key_tree k)
 Fails w s o (halt.Spent b) = found w.known (given (facts w.cells w.oracle) (round_arrays w s o)) ≡ Ready (Err (budget_tree b))
 Fails w s o halt.NoMemory = Unit {0}
 
 -- A visit of an address adds its array, if its own value is one: then a walk through it and any further addresses goes on with those, else it halts.
 abbrev pub Visits : World → Frame → Fact → Sizes → Trail → Result (Unit {0}) Halt → Sizes → Trail → Type 0
 Visits w e x zs old (Ok u) zs' new = (rest : List Fact) → behind zs (walk w (arrays e (x ∷ rest)) (trail_tree old)) ≡ behind zs' (walk w (arrays e rest) (trail_tree new))
-Visits w e x zs old (Err h) zs' new = (rest : List Fact) → Walks {T = Sizes} w (arrays e (x ∷ rest)) (λ ys. ys) old (Err h) new
+Visits w e x zs old (Err h) zs' new = (rest : List Fact) → EndsWalk {T = Sizes} w (arrays e (x ∷ rest)) (λ ys. ys) old (Err h) new
 
 -- why a walk halts whose rounds end with this fault
 abbrev pub halt_of : IterFault Halt → Halt

@@ -15,7 +15,7 @@ ghost use Rattle.gl_demand.specs.Walks.{Walks};
 use crate::context::Context;
 use crate::held::{Held, held_at};
 use crate::trail::{Halt, Trail};
-use crate::{Key, Known, Outcome};
+use crate::{Ahead, Key, Known, Outcome};
 use gl_plane::{Addr, NoMemory, Share};
 use gl_value::{Env, Value};
 
@@ -39,7 +39,7 @@ pub fn demand<'a, K: Known>(
     }
     match ctx.known.get(&key) {
         Some(o) => Ok(o),
-        None => Err(Halt::Need(key)),
+        None => Err(Halt::Need(key, Ahead::Nothing)),
     }
 }
 

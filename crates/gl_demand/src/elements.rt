@@ -80,7 +80,9 @@ pub fn spilling(v: Option<Value>) -> Value
 {
     match v {
         None => Value::One(Scalar::Err(ErrKind::Ref)),
-        Some(Value::One(_)) => Value::One(Scalar::Err(ErrKind::Ref)),
-        Some(Value::Array(a)) => Value::Array(a),
+        Some(value) => match &value {
+            Value::One(_) => Value::One(Scalar::Err(ErrKind::Ref)),
+            Value::Array(_) => value,
+        },
     }
 }

@@ -2,7 +2,6 @@
 ghost use Rattle.std.specs.Prelude.{◌≡◌, Some, IsTrue, IfOk};
 ghost use Rattle.gl_ast.specs.View.{version_tree};
 ghost use Rattle.gl_calculus.specs.Formula.{content};
-ghost use Rattle.gl_query.specs.Query.{Ready};
 ghost use Rattle.gl_calculus.specs.Key.{Cell, Settle, Settled};
 ghost use Rattle.gl_calculus.specs.Evaluation as E;
 ghost use Rattle.gl_calculus.specs.Reference.{own_content};
@@ -11,11 +10,11 @@ ghost use Rattle.gl_cells.specs.Sheet.{sheet};
 ghost use Rattle.gl_value.specs.View.{value_tree, frame_tree, sheet_tree};
 ghost use Rattle.gl_demand.specs.Held.{held_tree, IsSoundHeld};
 ghost use Rattle.gl_demand.specs.Sound.{IsSoundTable, IsSoundFound};
-ghost use Rattle.gl_demand.specs.View.{key_tree, found_tree};
+ghost use Rattle.gl_demand.specs.View.{key_tree, outcome_tree, found_tree};
 ghost use Rattle.gl_demand.specs.Walk.{world, walk};
-ghost use Rattle.gl_demand.specs.Walks.{Walks, trail_tree};
+ghost use Rattle.gl_demand.specs.Walks.{Walks, trail_tree, IsAheadOf};
 ghost use Rattle.gl_demand.specs.Cells.{looked_cell};
-ghost use Rattle.gl_demand.specs.Stopped.{IsStopped};
+ghost use Rattle.gl_demand.specs.Stopped.{IsReady, IsStopped};
 
 use crate::context::Context;
 use crate::elements::{share_scalar, share_value};
@@ -25,7 +24,7 @@ use crate::reading::look_at;
 use crate::scope::Scope;
 use crate::settle::settle;
 use crate::trail::{Halt, Trail};
-use crate::{Found, Key, Known, Outcome};
+use crate::{Ahead, Found, Key, Known, Outcome};
 use gl_ast::Version;
 use gl_cells::Cells;
 use gl_plane::{Addr, NoMemory, Oracle};
@@ -70,33 +69,54 @@ fn cell_at<K: Known>(ctx: &Context<K>, a: Addr, trail: &mut Trail) -> Result<Val
     }
 }
 
+/// What is found where an evaluation ends, and what it was reading there.
+#[derive(Drop)]
+pub struct Ended {
+    pub found: Found,
+    pub ahead: Ahead,
+}
+
+/// An evaluation that ends with an outcome.
+fn ready(outcome: Outcome) -> Ended
+    ensures { IsReady (outcome_tree outcome) result }
+{
+    Ended {
+        found: Found::Ready(outcome),
+        ahead: Ahead::Nothing,
+    }
+}
+
 /// What is found where an evaluation stops.
-fn stopped(halt: Halt) -> Result<Found, NoMemory>
+fn stopped(halt: Halt) -> Result<Ended, NoMemory>
     ensures { IsStopped halt result }
 {
     match halt {
-        Halt::Need(k) => Ok(Found::Need(k)),
-        Halt::Spent(b) => Ok(Found::Ready(Outcome::Abort(b))),
+        Halt::Need(key, ahead) => Ok(Ended {
+            found: Found::Need(key),
+            ahead,
+        }),
+        Halt::Spent(b) => Ok(ready(Outcome::Abort(b))),
         Halt::NoMemory => Err(NoMemory),
     }
 }
 
 /// How the evaluation of a cell ends.
-fn evaluate_cell<K: Known>(ctx: &Context<K>, a: Addr, trail: &mut Trail) -> Result<Found, NoMemory>
-    ensures walk { IfOk result (λ x. walk (world (sheet ctx.now.cells.now) ctx.now.w.now (K.outcomes ctx.now.known.now)) (E.evaluation (version_tree ctx.now.version) (Cell (frame_tree ctx.now.env.now) a)) (trail_tree trail.old) ≡ (found_tree x, trail_tree trail.new)) }
-    ensures sound { IfOk result (λ x. IsSoundFound (Cell (frame_tree ctx.now.env.now) a) (found_tree x)) }
+fn evaluate_cell<K: Known>(ctx: &Context<K>, a: Addr, trail: &mut Trail) -> Result<Ended, NoMemory>
+    ensures walk { IfOk result (λ x. walk (world (sheet ctx.now.cells.now) ctx.now.w.now (K.outcomes ctx.now.known.now)) (E.evaluation (version_tree ctx.now.version) (Cell (frame_tree ctx.now.env.now) a)) (trail_tree trail.old) ≡ (found_tree x.found, trail_tree trail.new)) }
+    ensures ahead { IfOk result (λ x. IsAheadOf (world (sheet ctx.now.cells.now) ctx.now.w.now (K.outcomes ctx.now.known.now)) (E.evaluation (version_tree ctx.now.version) (Cell (frame_tree ctx.now.env.now) a)) x.ahead) }
+    ensures sound { IfOk result (λ x. IsSoundFound (Cell (frame_tree ctx.now.env.now) a) (found_tree x.found)) }
 {
     match cell_at(ctx, a, trail) {
-        Ok(v) => Ok(Found::Ready(Outcome::Value(v))),
+        Ok(v) => Ok(ready(Outcome::Value(v))),
         Err(halt) => stopped(halt),
     }
 }
 
 /// What is found where a settling ends.
-fn settled(alloc: Global, oracle: Oracle) -> Result<Found, NoMemory>
-    ensures { IfOk result (λ x. found_tree x ≡ Ready (Settled oracle)) }
+fn settled(alloc: Global, oracle: Oracle) -> Result<Ended, NoMemory>
+    ensures { IfOk result (IsReady (Settled oracle)) }
 {
-    Ok(Found::Ready(Outcome::Settled(Rc::new(alloc, oracle)?)))
+    Ok(ready(Outcome::Settled(Rc::new(alloc, oracle)?)))
 }
 
 /// How the settling of a sheet value ends.
@@ -104,10 +124,11 @@ fn evaluate_copy<K: Known>(
     ctx: &Context<K>,
     s: &Rc<SheetVal>,
     trail: &mut Trail,
-) -> Result<Found, NoMemory>
+) -> Result<Ended, NoMemory>
     requires { IsTrue (is_sound_sheet (sheet_tree s.now.value)) }
-    ensures walk { IfOk result (λ x. walk (world (sheet ctx.now.cells.now) ctx.now.w.now (K.outcomes ctx.now.known.now)) (E.evaluation (version_tree ctx.now.version) (Settle (sheet_tree s.now.value))) (trail_tree trail.old) ≡ (found_tree x, trail_tree trail.new)) }
-    ensures sound { IfOk result (λ x. IsSoundFound (Settle (sheet_tree s.now.value)) (found_tree x)) }
+    ensures walk { IfOk result (λ x. walk (world (sheet ctx.now.cells.now) ctx.now.w.now (K.outcomes ctx.now.known.now)) (E.evaluation (version_tree ctx.now.version) (Settle (sheet_tree s.now.value))) (trail_tree trail.old) ≡ (found_tree x.found, trail_tree trail.new)) }
+    ensures ahead { IfOk result (λ x. IsAheadOf (world (sheet ctx.now.cells.now) ctx.now.w.now (K.outcomes ctx.now.known.now)) (E.evaluation (version_tree ctx.now.version) (Settle (sheet_tree s.now.value))) x.ahead) }
+    ensures sound { IfOk result (λ x. IsSoundFound (Settle (sheet_tree s.now.value)) (found_tree x.found)) }
 {
     match settle(ctx, s, trail) {
         Ok(oracle) => settled(ctx.alloc, oracle),
@@ -124,11 +145,12 @@ pub fn evaluate<K: Known>(
     known: &K,
     version: Version,
     trail: &mut Trail,
-) -> Result<Found, NoMemory>
+) -> Result<Ended, NoMemory>
     requires key { IsTrue (is_sound_key (key_tree key.now)) }
     requires known { IsSoundTable (K.outcomes known.now) }
-    ensures walk { IfOk result (λ x. walk (world (sheet cells.now) w.now (K.outcomes known.now)) (E.evaluation (version_tree version) (key_tree key.now)) (trail_tree trail.old) ≡ (found_tree x, trail_tree trail.new)) }
-    ensures sound { IfOk result (λ x. IsSoundFound (key_tree key.now) (found_tree x)) }
+    ensures walk { IfOk result (λ x. walk (world (sheet cells.now) w.now (K.outcomes known.now)) (E.evaluation (version_tree version) (key_tree key.now)) (trail_tree trail.old) ≡ (found_tree x.found, trail_tree trail.new)) }
+    ensures ahead { IfOk result (λ x. IsAheadOf (world (sheet cells.now) w.now (K.outcomes known.now)) (E.evaluation (version_tree version) (key_tree key.now)) x.ahead) }
+    ensures sound { IfOk result (λ x. IsSoundFound (key_tree key.now) (found_tree x.found)) }
 {
     match key {
         Key::Cell(env, a) => {

@@ -8,10 +8,20 @@ use gl_value::{Env, SheetVal};
 use std::rc::Rc;
 
 /// One evaluation: of a formula cell in a frame, or the settling of a sheet value.
-#[derive(Drop, PartialEq, Eq, Hash)]
+#[derive(PartialEq, Eq, Hash)]
 pub enum Key {
     Cell(Env, Addr),
     Settle(Rc<SheetVal>),
+}
+
+// One call wherever it is dropped, in place of one for each part.
+impl Drop for Key {
+    fn drop(self) {
+        match self {
+            Key::Cell(_, _) => {}
+            Key::Settle(_) => {}
+        }
+    }
 }
 
 impl Key {

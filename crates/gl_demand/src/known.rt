@@ -2,7 +2,7 @@
 ghost use Rattle.std.specs.Prelude.{◌≡◌, Option};
 ghost use Rattle.gl_calculus.specs.Key as K;
 
-use crate::{Key, Outcome};
+use crate::{Ahead, Key, Outcome};
 use gl_plane::Range;
 
 /// The outcomes that are known so far, by key.
@@ -27,10 +27,13 @@ pub enum Found {
     Need(Key),
 }
 
-/// One evaluation: what it finds, the distinct keys that it demands in the order of first demand, and the ranges that it looks at, both up to the first key without known outcome.
+/// One evaluation: what it finds, the distinct keys that it demands in the order of first demand,
+/// and the ranges that it looks at, both up to the first key without known outcome; and what it was
+/// reading there.
 #[derive(Drop)]
 pub struct Turn {
     pub found: Found,
     pub reads: Vec<Key>,
     pub looked: Vec<Range>,
+    pub ahead: Ahead,
 }

@@ -1,6 +1,7 @@
 //! One evaluation of one key against the results that are known so far.
 #![tactic(auto)]
 
+mod ahead;
 mod applying;
 mod blocks;
 mod calls;
@@ -13,6 +14,7 @@ mod formulas;
 mod held;
 mod key;
 mod known;
+mod lacking;
 mod laws;
 mod making;
 mod noting;
@@ -32,12 +34,17 @@ mod steps;
 mod trail;
 mod viewing;
 
+pub use ahead::{Ahead, Reference};
 pub use blocks::{CopyBlocks, TopBlocks};
 pub use key::Key;
 pub use known::{Found, Known, Turn};
+pub use lacking::{Lacked, next_lacked};
 pub use laws::{keys_compare_by_tree, outcomes_compare_by_tree};
 pub use outcome::{Budget, Outcome};
 pub use properness::proper;
 pub use shows::{shown, spilled};
 pub use stepping::step;
 pub use steps::{Silent, Steps, Watch};
+
+/// The most keys that one calculation, or one walk that explains an address, goes through.
+pub const MAX_DEMANDED: usize = 500_000;

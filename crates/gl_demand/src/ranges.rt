@@ -8,15 +8,17 @@ ghost use Rattle.gl_calculus.specs.Sound.{is_sound_frame, are_sound, is_size, is
 ghost use Rattle.gl_cells.specs.Sheet.{sheet};
 ghost use Rattle.gl_value.specs.View.{scalar_tree, value_tree, frame_tree, item_trees};
 ghost use Rattle.gl_demand.specs.Walk.{world};
-ghost use Rattle.gl_demand.specs.Walks.{Walks};
+ghost use Rattle.gl_demand.specs.Walks.{EndsWalk, Walks};
+ghost use Rattle.gl_demand.specs.Stopped.{IsHaltIn};
+ghost use Rattle.gl_ahead.specs.Reading.{Area};
 ghost use Rattle.gl_demand.specs.declared.trail.Halt.{Halt};
 
-use crate::Known;
 use crate::context::Context;
 use crate::places::{count, place};
 use crate::reading::deref;
 use crate::trail::{Halt, Trail};
-use gl_plane::{NoMemory, Range, Size};
+use crate::{Ahead, Known, Reference};
+use gl_plane::{NoMemory, Range, Share, Size};
 use gl_value::{Array, Env, Scalar, Value};
 use indexmap::IndexSet;
 use std::alloc::Global;
@@ -30,7 +32,7 @@ fn read_range<K: Known>(
     trail: &mut Trail,
 ) -> Result<Vec<Scalar>, Halt>
     requires frame { IsTrue (is_sound_frame (frame_tree env.now)) }
-    ensures walk { Walks (world (sheet ctx.now.cells.now) ctx.now.w.now (K.outcomes ctx.now.known.now)) (R.deref_all (frame_tree env.now) [] (facts (sheet ctx.now.cells.now) ctx.now.w.now r.now)) (λ v. map scalar_tree v.items) trail.old result trail.new }
+    ensures walk { EndsWalk (world (sheet ctx.now.cells.now) ctx.now.w.now (K.outcomes ctx.now.known.now)) (R.deref_all (frame_tree env.now) [] (facts (sheet ctx.now.cells.now) ctx.now.w.now r.now)) (λ v. map scalar_tree v.items) trail.old result trail.new }
     ensures sound { IfOk result (λ v. IsTrue (are_sound (item_trees v.items))) }
     ensures count { IfOk result (λ v. vec_len v ≡ length (addresses r.now)) }
 {
@@ -73,6 +75,22 @@ fn array_of(alloc: Global, size: Size, items: Vec<Scalar>) -> Result<Value, Halt
     }
 }
 
+/// Why the reading of a range halts, where its addresses are what is being read.
+#[tactic(auto, using(gl_value::specs::Forms::trees))]
+fn in_area(env: &Env, r: &Range, halt: Halt) -> Halt
+    requires { IsTrue (is_sound_frame (frame_tree env.now)) }
+    ensures { IsHaltIn (Area (frame_tree env.now) r.now) halt result }
+{
+    match halt {
+        Halt::Need(key, _) => match env.share() {
+            Ok(env) => Halt::Need(key, Ahead::Area(Reference { env, range: *r })),
+            Err(NoMemory) => Halt::NoMemory,
+        },
+        Halt::Spent(b) => Halt::Spent(b),
+        Halt::NoMemory => Halt::NoMemory,
+    }
+}
+
 /// A range as a value. One of more than 10,000 addresses, which no well formed formula has, is
 /// refused.
 pub fn at_range<K: Known>(
@@ -89,7 +107,7 @@ pub fn at_range<K: Known>(
         Some(size) => match trail.look(*r) {
             Ok(()) => match read_range(ctx, env, r, trail) {
                 Ok(items) => array_of(ctx.alloc, size, items),
-                Err(halt) => Err(halt),
+                Err(halt) => Err(in_area(env, r, halt)),
             },
             Err(NoMemory) => Err(Halt::NoMemory),
         },

@@ -6,8 +6,14 @@ use gl_value::Value;
 use std::rc::RcStr;
 
 /// The variables that are bound around a formula, innermost first, with their values.
-#[derive(Drop)]
 pub struct Scope {
     pub bindings: Vec<(RcStr, Value)>,
     ghost sound: { IsTrue (are_sound_bindings bindings.items) },
+}
+
+// One call wherever it is dropped, in place of one for each part.
+impl Drop for Scope {
+    fn drop(self) {
+        let Scope { bindings: _ } = self;
+    }
 }

@@ -12,7 +12,9 @@ ghost use Rattle.gl_value.specs.View.{value_tree, sheet_tree, frame_tree};
 ghost use Rattle.gl_demand.specs.Held.{held_tree};
 ghost use Rattle.gl_demand.specs.Places.{filled_places};
 ghost use Rattle.gl_demand.specs.Walk.{world};
-ghost use Rattle.gl_demand.specs.Walks.{Walks};
+ghost use Rattle.gl_demand.specs.Walks.{EndsWalk, Walks};
+ghost use Rattle.gl_demand.specs.Stopped.{IsHaltIn};
+ghost use Rattle.gl_ahead.specs.Reading as Reading;
 ghost use Rattle.gl_demand.specs.Settling.{Visits, all_rounds, halt_of};
 ghost use Rattle.gl_demand.specs.declared.trail.Halt.{Halt};
 
@@ -22,9 +24,9 @@ use crate::demand::own;
 use crate::held::Held;
 use crate::places::{held_in, places};
 use crate::trail::{Halt, Trail};
-use crate::{Budget, Known};
+use crate::{Ahead, Budget, Known, Reference};
 use gl_cells::Cells;
-use gl_plane::{Addr, NoMemory, Oracle, Sizes};
+use gl_plane::{Addr, NoMemory, Oracle, Range, Sizes};
 use gl_rounds::{IterFault, Round, iterate};
 use gl_value::{Env, SheetVal, Value};
 use std::alloc::Global;
@@ -162,7 +164,10 @@ impl<K: Known> Round for CopyRound<'_, '_, K> {
 
     fn sizes(&mut self, w: &Oracle, trail: &mut Trail) -> Result<Sizes, Halt> {
         match frame(self.ctx.alloc, self.copy, w) {
-            Ok(env) => arrays_at(self.ctx, &env, self.places, trail),
+            Ok(env) => match arrays_at(self.ctx, &env, self.places, trail) {
+                Ok(sizes) => Ok(sizes),
+                Err(halt) => Err(in_round(env, self.copy.region, halt)),
+            },
             Err(NoMemory) => Err(Halt::NoMemory),
         }
     }
@@ -178,6 +183,19 @@ fn frame(alloc: Global, s: &Rc<SheetVal>, w: &Oracle) -> Result<Env, NoMemory>
     Ok(Env::In(s.clone()?, Rc::new(alloc, w.copy(alloc)?)?))
 }
 
+/// Why a round halts, where the formulas of its region are what is being read.
+#[tactic(auto, using(gl_value::specs::Forms::trees))]
+fn in_round(env: Env, region: Range, halt: Halt) -> Halt
+    requires { IsTrue (is_sound_frame (frame_tree env)) }
+    ensures { IsHaltIn (Reading.Round (frame_tree env) region) halt result }
+{
+    match halt {
+        Halt::Need(key, _) => Halt::Need(key, Ahead::Round(Reference { env, range: region })),
+        Halt::Spent(b) => Halt::Spent(b),
+        Halt::NoMemory => Halt::NoMemory,
+    }
+}
+
 /// The sizes of the arrays among the own values of some addresses, which are in row-major order.
 fn arrays_at<K: Known>(
     ctx: &Context<K>,
@@ -187,7 +205,7 @@ fn arrays_at<K: Known>(
 ) -> Result<Sizes, Halt>
     requires frame { IsTrue (is_sound_frame (frame_tree env.now)) }
     requires ordered { AreInOrder places.now }
-    ensures { Walks (world (sheet ctx.now.cells.now) ctx.now.w.now (K.outcomes ctx.now.known.now)) (arrays (frame_tree env.now) (map (fact (sheet ctx.now.cells.now) ctx.now.w.now) places.now)) (λ zs. zs) trail.old result trail.new }
+    ensures { EndsWalk (world (sheet ctx.now.cells.now) ctx.now.w.now (K.outcomes ctx.now.known.now)) (arrays (frame_tree env.now) (map (fact (sheet ctx.now.cells.now) ctx.now.w.now) places.now)) (λ zs. zs) trail.old result trail.new }
 {
     let mut sizes = Sizes::new(ctx.alloc);
     for a in places {
@@ -225,7 +243,7 @@ fn add_array(sizes: &mut Sizes, a: Addr, v: Option<Value>) -> Result<(), Halt>
     ensures ok { OnOk result (sizes.new ≡ sizes.old ++ array_at a (option_map value_tree v)) }
     ensures err { IfErr result (λ h. h ≡ Halt.NoMemory) }
 {
-    match v {
+    match &v {
         Some(Value::Array(array)) => match sizes.push(a, array.size()) {
             Ok(()) => Ok(()),
             Err(NoMemory) => Err(Halt::NoMemory),

@@ -5,15 +5,19 @@ ghost use Rattle.gl_query.specs.Query.{found, asked, looked};
 ghost use Rattle.gl_calculus.specs.Key.{same_key};
 ghost use Rattle.gl_calculus.specs.Evaluation.{program};
 ghost use Rattle.gl_calculus.specs.Sound.{is_sound_key, IsProperKey};
+ghost use Rattle.gl_ahead.specs.Ahead.{IsAhead};
+ghost use Rattle.gl_ahead.specs.Demands.{is_value};
+ghost use Rattle.gl_ahead.specs.Reading.{keys_from};
 ghost use Rattle.gl_ast.specs.View.{version_tree};
 ghost use Rattle.gl_cells.specs.Sheet.{sheet};
 ghost use Rattle.gl_demand.specs.View.{key_tree, found_tree};
+ghost use Rattle.gl_demand.specs.Reading.{ahead_tree};
 ghost use Rattle.gl_demand.specs.Sound.{IsSoundTable, IsSoundFound, AreSoundKeys};
 ghost use Rattle.gl_demand.specs.Steps.{one_more};
 
-use crate::evaluating::evaluate;
+use crate::evaluating::{Ended, evaluate};
 use crate::trail::Trail;
-use crate::{Found, Key, Known, Steps, Turn, Watch};
+use crate::{Key, Known, Steps, Turn, Watch};
 use gl_ast::Version;
 use gl_cells::Cells;
 use gl_plane::{NoMemory, Oracle};
@@ -25,8 +29,8 @@ use std::alloc::Global;
 ///
 /// It finds the key's outcome, or the first key that it demands without known outcome. The reads
 /// are the distinct keys that it demands, in the order of first demand, with that key last; the
-/// looked ranges are all that it looks at, in order. Each call counts as one step, also where it
-/// answers `NoMemory`.
+/// looked ranges are all that it looks at, in order. What is ahead tells which keys it needs next,
+/// over more outcomes too. Each call counts as one step, also where it answers `NoMemory`.
 pub fn step<K: Known, L: Watch>(
     alloc: Global,
     cells: &Cells,
@@ -45,6 +49,8 @@ pub fn step<K: Known, L: Watch>(
         ≡ distinct same_key (asked (K.outcomes known.now) (program (version_tree version) (sheet cells.now) w.now (key_tree key.now)))) }
     ensures looked { IfOk result (λ t. t.looked.items
         ≡ looked (K.outcomes known.now) (program (version_tree version) (sheet cells.now) w.now (key_tree key.now))) }
+    ensures ahead { IfOk result (λ t. IsAhead is_value (program (version_tree version) (sheet cells.now) w.now (key_tree key.now)) (K.outcomes known.now)
+        (keys_from (sheet cells.now) w.now (ahead_tree t.ahead) 0)) }
     ensures sound_found { IfOk result (λ t. IsSoundFound (key_tree key.now) (found_tree t.found)) }
     ensures sound_reads { IfOk result (λ t. AreSoundKeys (map key_tree t.reads.items)) }
     ensures counted { steps.new ≡ one_more steps.old }
@@ -52,23 +58,26 @@ pub fn step<K: Known, L: Watch>(
     steps.count(key);
     let mut trail = Trail::new(alloc);
     match evaluate(alloc, cells, w, key, known, version, &mut trail) {
-        Ok(found) => turn(alloc, found, trail),
+        Ok(ended) => turn(alloc, ended, trail),
         Err(NoMemory) => Err(NoMemory),
     }
 }
 
 /// What was found, with the trail.
-fn turn(alloc: Global, found: Found, trail: Trail) -> Result<Turn, NoMemory>
-    ensures found { IfOk result (λ t. found_tree t.found ≡ found_tree found) }
+fn turn(alloc: Global, ended: Ended, trail: Trail) -> Result<Turn, NoMemory>
+    ensures found { IfOk result (λ t. found_tree t.found ≡ found_tree ended.found) }
+    ensures ahead { IfOk result (λ t. ahead_tree t.ahead ≡ ahead_tree ended.ahead) }
     ensures reads { IfOk result (λ t. map key_tree t.reads.items ≡ map key_tree trail.reads.keys) }
     ensures looked { IfOk result (λ t. t.looked.items ≡ trail.looked.items) }
 {
     let Trail { reads, looked } = trail;
+    let Ended { found, ahead } = ended;
     match in_order(alloc, reads) {
         Ok(reads) => Ok(Turn {
             found,
             reads,
             looked,
+            ahead,
         }),
         Err(NoMemory) => Err(NoMemory),
     }

@@ -3,7 +3,7 @@ ghost use Rattle.std.specs.Prelude.{map};
 ghost use Rattle.gl_demand.specs.View.{key_tree};
 ghost use Rattle.gl_demand.specs.Sound.{AreSoundKeys};
 
-use crate::{Budget, Key};
+use crate::{Ahead, Budget, Key};
 use gl_plane::{NoMemory, Range};
 use indexmap::IndexSet;
 
@@ -16,10 +16,11 @@ pub struct Trail {
     ghost sound: { AreSoundKeys (map key_tree reads.keys) },
 }
 
-/// Why an evaluation stops: at a key without known outcome, at a spent budget, or without memory.
+/// Why an evaluation stops: at a key without known outcome, with what was being read, at a spent
+/// budget, or without memory.
 #[derive(Drop)]
 pub enum Halt {
-    Need(Key),
+    Need(Key, Ahead),
     Spent(Budget),
     NoMemory,
 }

@@ -23,10 +23,11 @@ use Rattle.gl_value.specs.declared.Value.{One}
 use Rattle.gl_demand.specs.Choices.{by_choice, by_replacement}
 use Rattle.gl_demand.specs.Scope.{bindings_of}
 use Rattle.gl_funs.specs.Elements.{AreSound}
-use Rattle.gl_demand.specs.Walk.{world, walk}
+use Rattle.gl_demand.specs.Walk.{world}
 use Rattle.gl_demand.specs.Walks.{Walks, trail_tree}
 use Rattle.gl_demand.specs.declared.choosing.Choice.TheVariants as choice
 use Rattle.gl_demand.specs.declared.choosing.Replacement.TheVariants as replacement
+use Rattle.gl_demand.proofs.Walking.{Same, same_part}
 use Rattle.gl_demand.proofs.References.{gives}
 use Rattle.gl_demand.proofs.Parts.{one_then, one_given, one_halts, two_given, two_halts, two_then}
 use Rattle.gl_demand.proofs.Trees.{text_is, at_is, spill_is, area_is, neg_is, compare_is}
@@ -96,7 +97,7 @@ formulas::eval-loop-op-init g t c =
     let w = world (sheet c.args.ctx.now.cells.now) c.args.ctx.now.w.now (g.K.Known.outcomes c.args.ctx.now.known.now) in
     record {
       sound = c.in-Ok-eval-3.ensures.sound;
-      walk = subst (λ l. walk w (E.eval (version_tree c.args.ctx.now.version) (frame_tree c.args.ctx.now.env.now) (bindings_of c.args.scope.now.bindings.items) (formula_tree c.args.f.now)) (trail_tree c.args.trail.now) ≡ walk w (E.eval_rest (version_tree c.args.ctx.now.version) (frame_tree c.args.ctx.now.env.now) (bindings_of c.args.scope.now.bindings.items) (value_tree c.in-Ok-eval-3.first) (operand_trees l)) (trail_tree c.eval-in-Chain.new.trail)) (sym c.deref-op-items.ensures.value) (chain_start w (version_tree c.args.ctx.now.version) (frame_tree c.args.ctx.now.env.now) (bindings_of c.args.scope.now.bindings.items) c.args.f.now c.in-Chain.field-0 c.in-Chain.g c.in-Chain.rest c.deref-in-Chain.result.now c.in-Ok-eval-3.first c.args.trail.now c.eval-in-Chain.new.trail c.in-Chain.is c.deref-in-Chain.ensures c.in-Ok-eval-3.ensures.walk);
+      walk = subst (λ l. Same w (E.eval (version_tree c.args.ctx.now.version) (frame_tree c.args.ctx.now.env.now) (bindings_of c.args.scope.now.bindings.items) (formula_tree c.args.f.now)) (trail_tree c.args.trail.now) (E.eval_rest (version_tree c.args.ctx.now.version) (frame_tree c.args.ctx.now.env.now) (bindings_of c.args.scope.now.bindings.items) (value_tree c.in-Ok-eval-3.first) (operand_trees l)) (trail_tree c.eval-in-Chain.new.trail)) (sym c.deref-op-items.ensures.value) (chain_start w (version_tree c.args.ctx.now.version) (frame_tree c.args.ctx.now.env.now) (bindings_of c.args.scope.now.bindings.items) c.args.f.now c.in-Chain.field-0 c.in-Chain.g c.in-Chain.rest c.deref-in-Chain.result.now c.in-Ok-eval-3.first c.args.trail.now c.eval-in-Chain.new.trail c.in-Chain.is c.deref-in-Chain.ensures c.in-Ok-eval-3.ensures.walk);
     }
 
 pub formulas::eval-loop-op-preserved : goal.formulas::eval-loop-op-preserved
@@ -467,7 +468,7 @@ calls::applied-loop-x-init g t c =
     let empty : c.new-values.result.items ≡ [] = c.new-values.ensures.items in
     record {
       sound = subst AreSound (sym empty) none_sound;
-      walk = ap (λ l. walk w (behind_values w v e bs (fun_tree c.args.fun) l c.args.xs.now) (trail_tree c.args.trail.now)) (sym empty);
+      walk = same_part w (plain v e bs (fun_tree c.args.fun) c.args.xs.now) (behind_values w v e bs (fun_tree c.args.fun) c.new-values.result.items c.args.xs.now) (trail_tree c.args.trail.now) (ap (λ l. behind_values w v e bs (fun_tree c.args.fun) l c.args.xs.now) (sym empty));
     }
 
 pub calls::applied-loop-x-preserved : goal.calls::applied-loop-x-preserved
@@ -479,8 +480,8 @@ calls::applied-loop-x-preserved g t c =
     let split = drop_more c.args.xs.now c.loop-x.x-index c.x-item.result c.loop-x-test.true ∙ ap (λ z. z ∷ drop (c.loop-x.x-index + 1) c.args.xs.now) (sym c.x-item.is) in
     record {
       sound = subst AreSound (sym c.in-Ok-push.ensures.items) (All-append (λ z. IsTrue (is_sound_value (value_tree z))) c.loop-x.values.items (c.in-Ok.v ∷ []) c.loop-x.invariant.sound (one_sound c.in-Ok.v c.in-Ok.ensures.sound));
-      walk = value_next w v e bs (fun_tree c.args.fun) c.loop-x.values.items c.x-item.result (drop (c.loop-x.x-index + 1) c.args.xs.now) (plain v e bs (fun_tree c.args.fun) c.args.xs.now) c.args.trail.now c.loop-x.trail c.eval.new.trail (drop c.loop-x.x-index c.args.xs.now) c.loop-x.invariant.walk split c.in-Ok.v c.in-Ok.ensures.walk
-          ∙ ap (λ l. walk w (behind_values w v e bs (fun_tree c.args.fun) l (drop (c.loop-x.x-index + 1) c.args.xs.now)) (trail_tree c.eval.new.trail)) (sym c.in-Ok-push.ensures.items);
+      walk = subst (λ l. Same w (plain v e bs (fun_tree c.args.fun) c.args.xs.now) (trail_tree c.args.trail.now) (behind_values w v e bs (fun_tree c.args.fun) l (drop (c.loop-x.x-index + 1) c.args.xs.now)) (trail_tree c.eval.new.trail)) (sym c.in-Ok-push.ensures.items)
+          (value_next w v e bs (fun_tree c.args.fun) c.loop-x.values.items c.x-item.result (drop (c.loop-x.x-index + 1) c.args.xs.now) (plain v e bs (fun_tree c.args.fun) c.args.xs.now) c.args.trail.now c.loop-x.trail c.eval.new.trail (drop c.loop-x.x-index c.args.xs.now) c.loop-x.invariant.walk split c.in-Ok.v c.in-Ok.ensures.walk);
     }
 
 pub calls::applied-returns-in-Err-clause-walk : goal.calls::applied-returns-in-Err-clause-walk
@@ -515,9 +516,9 @@ calls::call_group-loop-rest-init g t c =
     let rest = sym (take_rest c.args.xs.now 1) in
     record {
       sound = c.in-Ok.ensures.sound;
-      walk = group.group_start w v e bs c.place-item.result c.args.xs.now (drop 1 c.args.xs.now) c.in-Ok.first c.args.trail.now
-          (first_item c.args.xs.now c.place-item.result c.in-len1-up.len_at_least c.place-item.is) (c.in-Ok.ensures.walk w c.args.trail.now)
-          ∙ ap (λ l. walk w (group.with_updates w v e bs c.place-item.result (give (value_tree c.in-Ok.first)) l) (trail_tree c.args.trail.now)) rest;
+      walk = subst (λ l. Same w (called v e bs F.Fun.G c.args.xs.now) (trail_tree c.args.trail.now) (group.with_updates w v e bs c.place-item.result (give (value_tree c.in-Ok.first)) l) (trail_tree c.args.trail.now)) rest
+          (group.group_start w v e bs c.place-item.result c.args.xs.now (drop 1 c.args.xs.now) c.in-Ok.first c.args.trail.now
+          (first_item c.args.xs.now c.place-item.result c.in-len1-up.len_at_least c.place-item.is) (c.in-Ok.ensures.walk w c.args.trail.now));
       deep = subst (λ l. most the_size l ≤ most the_size c.args.xs.now) rest (group.most_rest the_size 1 c.args.xs.now);
     }
 
@@ -530,11 +531,11 @@ calls::call_group-loop-rest-preserved g t c =
     let rest = sym (take_rest c.loop-rest.rest.now 2) in
     record {
       sound = c.in-Ok-updated.ensures.sound;
-      walk = group.update_next w v e bs c.place-item.result (called v e bs F.Fun.G c.args.xs.now) c.args.trail.now c.loop-rest.trail c.loop-rest.u c.loop-rest.rest.now c.loop-rest.invariant.walk
+      walk = subst (λ l. Same w (called v e bs F.Fun.G c.args.xs.now) (trail_tree c.args.trail.now) (group.with_updates w v e bs c.place-item.result (give (value_tree c.in-Ok-updated.x)) l) (trail_tree c.eval.new.trail)) rest
+          (group.update_next w v e bs c.place-item.result (called v e bs F.Fun.G c.args.xs.now) c.args.trail.now c.loop-rest.trail c.loop-rest.u c.loop-rest.rest.now c.loop-rest.invariant.walk
           c.address-item.result c.f-item.result (drop 2 c.loop-rest.rest.now) (first_items c.loop-rest.rest.now c.address-item.result c.f-item.result c.in-len2-up.len_at_least c.address-item.is c.f-item.is)
           c.eval.new.trail c.in-Ok-eval.v c.in-Ok-updated.x c.in-Ok-eval.ensures.walk
-          (subst (λ a. Walks w (E.on_sheet (λ s. E.made (S.update e s a (value_tree c.in-Ok-eval.v))) (value_tree c.loop-rest.u)) value_tree c.eval.new.trail (Ok c.in-Ok-updated.x) c.eval.new.trail) c.written_address.ensures (c.in-Ok-updated.ensures.walk w c.eval.new.trail))
-          ∙ ap (λ l. walk w (group.with_updates w v e bs c.place-item.result (give (value_tree c.in-Ok-updated.x)) l) (trail_tree c.eval.new.trail)) rest;
+          (subst (λ a. Walks w (E.on_sheet (λ s. E.made (S.update e s a (value_tree c.in-Ok-eval.v))) (value_tree c.loop-rest.u)) value_tree c.eval.new.trail (Ok c.in-Ok-updated.x) c.eval.new.trail) c.written_address.ensures (c.in-Ok-updated.ensures.walk w c.eval.new.trail)));
       deep = subst (λ l. most the_size l ≤ most the_size c.args.xs.now) rest (le_trans (group.most_rest the_size 2 c.loop-rest.rest.now) c.loop-rest.invariant.deep);
     }
 

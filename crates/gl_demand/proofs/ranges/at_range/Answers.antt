@@ -19,4 +19,4 @@ returns-in-Ok-read_range-clause-walk g c =
 pub returns-in-Err-read_range-clause-walk : goal.returns-in-Err-read_range-clause-walk
 returns-in-Err-read_range-clause-walk g c =
     let w = world (sheet c.args.ctx.now.cells.now) c.args.ctx.now.w.now (g.K.Known.outcomes c.args.ctx.now.known.now) in
-    range_halts w (frame_tree c.args.env.now) c.args.r.now c.args.trail.now c.look.new.self c.read_range.new.trail c.in-Err-read_range.halt c.in-Ok.ensures c.in-Err-read_range.ensures.walk
+    range_halts w (frame_tree c.args.env.now) c.args.r.now c.args.trail.now c.look.new.self c.read_range.new.trail c.in-Err-read_range.halt c.in_area.result c.in-Ok.ensures c.in-Err-read_range.ensures.walk c.in_area.ensures
