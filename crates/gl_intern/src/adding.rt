@@ -1,5 +1,6 @@
 //! The short forms of values, with each part put into its table where it is new.
 ghost use Rattle.std.specs.Prelude.{◌≡◌, IfOk};
+ghost use Rattle.gl_calculus.specs.Value as V;
 ghost use Rattle.gl_value.specs.View.{scalar_tree, value_tree, array_tree, sheet_tree, frame_tree, override_trees};
 ghost use Rattle.gl_intern.specs.Tables.{tables, Grows};
 ghost use Rattle.gl_intern.specs.Places.{plain_in, scalar_in, array_in, value_in, override_link, override_behind, overrides_in, sheet_in, sheet_place, place_of_sheet, place_of_frame, frame_in};
@@ -162,6 +163,52 @@ impl Parts {
     {
         let oracle = place_oracle(&mut self.oracles, oracle)?;
         place(&mut self.frames, ShortFrame { oracle, sheet })
+    }
+
+    /// A sheet value whose parent frame has this place.
+    fn add_within(&mut self, parent: Option<usize>, s: &SheetVal) -> Result<ShortSheet, NoMemory>
+        requires { frame_in (tables self.old) (frame_tree s.now.env) ≡ Some parent }
+        ensures grows { Grows (tables self.old) (tables self.new) }
+        ensures ok { IfOk result (λ k. sheet_in (tables self.new) (sheet_tree s.now) ≡ Some k) }
+    {
+        let last = self.add_overrides(&s.overrides)?;
+        Ok(ShortSheet {
+            parent,
+            last,
+            weight: s.weight,
+            rank: s.rank,
+            region: s.region,
+        })
+    }
+
+    /// The place of a sheet value whose parent frame has this place.
+    pub fn add_sheet_within(
+        &mut self,
+        parent: Option<usize>,
+        s: &SheetVal,
+    ) -> Result<usize, NoMemory>
+        requires { frame_in (tables self.old) (frame_tree s.now.env) ≡ Some parent }
+        ensures grows { Grows (tables self.old) (tables self.new) }
+        ensures ok { IfOk result (λ n. sheet_place (tables self.new) (sheet_tree s.now) ≡ Some n) }
+    {
+        let short = self.add_within(parent, s)?;
+        self.place_sheet(short)
+    }
+
+    /// The place of a frame of a sheet value whose parent frame has this place.
+    pub fn add_frame_within(
+        &mut self,
+        parent: Option<usize>,
+        s: &SheetVal,
+        oracle: &Rc<Oracle>,
+    ) -> Result<Option<usize>, NoMemory>
+        requires { frame_in (tables self.old) (frame_tree s.now.env) ≡ Some parent }
+        ensures grows { Grows (tables self.old) (tables self.new) }
+        ensures ok { IfOk result (λ n. frame_in (tables self.new) (V.Frame.In (sheet_tree s.now) oracle.now.value) ≡ Some n) }
+    {
+        let short = self.add_within(parent, s)?;
+        let i = self.add_copy(short, oracle)?;
+        Ok(Some(i))
     }
 
     /// The place of a frame, and no place for the top.

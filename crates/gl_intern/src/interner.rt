@@ -6,7 +6,7 @@ ghost use Rattle.gl_calculus.specs.Same.{same_sheet, same_frame};
 ghost use Rattle.gl_value.specs.View.{sheet_tree, frame_tree};
 ghost use Rattle.gl_intern.specs.Numbered.{insert_key};
 
-use crate::numbering::{number_frame, number_sheet};
+use crate::numbering::{guessed_place, number_frame, number_sheet};
 use crate::parts::Parts;
 use gl_plane::NoMemory;
 use gl_value::{Env, SheetVal};
@@ -89,6 +89,44 @@ impl Interner {
         ensures err { OnErr result (self.new ≡ self.old) }
     {
         let place = self.parts.add_frame(e)?;
+        number_frame(&mut self.frames, place, e)
+    }
+
+    /// The number of a sheet value as by `sheet`, and where the guess is the number of its parent
+    /// frame this takes one step.
+    pub fn sheet_within(&mut self, s: &Rc<SheetVal>, guess: Option<u32>) -> Result<usize, NoMemory>
+        ensures list { OnOk result
+            (self.new.sheets ≡ insert_key same_sheet self.old.sheets (sheet_tree s.now.value)) }
+        ensures frames { self.new.frames ≡ self.old.frames }
+        ensures number { IfOk result
+            (λ n. slice_get self.new.sheets n ≡ Some (sheet_tree s.now.value)) }
+        ensures apart { AreDistinct self.new.sheets }
+        ensures err { OnErr result (self.new ≡ self.old) }
+    {
+        let Some(parent) = guessed_place(&self.frames, s, guess) else {
+            return self.sheet(s);
+        };
+        let place = self.parts.add_sheet_within(parent, s)?;
+        number_sheet(&mut self.sheets, place, s)
+    }
+
+    /// The number of a frame as by `frame`, and where the guess is the number of the parent frame of
+    /// its sheet value this takes one step.
+    pub fn frame_within(&mut self, e: &Env, guess: Option<u32>) -> Result<usize, NoMemory>
+        ensures list { OnOk result
+            (self.new.frames ≡ insert_key same_frame self.old.frames (frame_tree e.now)) }
+        ensures sheets { self.new.sheets ≡ self.old.sheets }
+        ensures number { IfOk result (λ n. slice_get self.new.frames n ≡ Some (frame_tree e.now)) }
+        ensures apart { AreDistinct self.new.frames }
+        ensures err { OnErr result (self.new ≡ self.old) }
+    {
+        let Env::In(s, oracle) = e else {
+            return self.frame(e);
+        };
+        let Some(parent) = guessed_place(&self.frames, s, guess) else {
+            return self.frame(e);
+        };
+        let place = self.parts.add_frame_within(parent, s, oracle)?;
         number_frame(&mut self.frames, place, e)
     }
 

@@ -1,5 +1,6 @@
 //! Numbers in the order in which places first came.
-ghost use Rattle.std.specs.Prelude.{◌≡◌, None, nat_eq, position, IfOk, OnOk, OnErr};
+ghost use Rattle.std.specs.Prelude.{◌≡◌, None, nat_eq, position, IfOk, IfSome, OnOk, OnErr};
+ghost use Rattle.gl_query.specs.Lists.{Member};
 ghost use Rattle.std.specs.Option.{option_eq};
 ghost use Rattle.gl_value.specs.View.{sheet_tree, frame_tree};
 ghost use Rattle.gl_intern.specs.Numbered.{firsts, sheet_pairs, frame_pairs, put_pair};
@@ -60,6 +61,20 @@ pub fn number_frame(
     match frames.get_index_of(&place) {
         Some(n) => Ok(n),
         None => push_frame(frames, place, e.share()?),
+    }
+}
+
+/// The place of the parent frame of a sheet value, where the guessed number is that frame's.
+pub fn guessed_place(
+    frames: &IndexMap<Option<usize>, Env>,
+    s: &SheetVal,
+    guess: Option<u32>,
+) -> Option<Option<usize>>
+    ensures { IfSome result (λ p. Member (p, frame_tree s.now.env) (frame_pairs frames.now.entries)) }
+{
+    match frames.get_index(guess? as usize) {
+        Some((place, e)) if *e == s.env => Some(*place),
+        _ => None,
     }
 }
 
