@@ -15,6 +15,7 @@ use Rattle.gl_demand.specs.View.{outcome_tree}
 use Rattle.gl_demand.specs.Sound.{IsSoundTable}
 use Rattle.gl_demand.specs.declared.outcome.Outcome.{Outcome}
 use Rattle.gl_core.specs.Statuses.{row_of, wake_each, count_idle}
+use Rattle.gl_core.specs.Marks.{mark_tree, mark_trees}
 use Rattle.gl_core.specs.State.{entries, state_by, status_tree, waits_for, IsSoundNote}
 use Rattle.gl_core.specs.Numbers.{Each, key_at, keys_at, named, row_notes, outcome_at}
 use Rattle.gl_core.specs.Ledger.{written, IsLedger}
@@ -326,6 +327,10 @@ module _ (l : Ledger) (e : Entries) (c : IsCore l e) where
 
   pub state_length : length (table_of l e) ≡ length e.known.items
   state_length = length-entries (outcome_at l.rows.items) (known_keys l e) (known_keys l e) e.statuses.items.items (known_statuses l e (readable l e c)) ∙ known_length l e (readable l e c)
+
+  -- what a key was reading stands beside each
+  pub marks_length : length (mark_trees e.marks.items) ≡ length (table_of l e)
+  marks_length = length-map mark_tree e.marks.items ∙ c.table.marks ∙ sym state_length
 
   pub place_sound : (p j : ℕ) (k : K.Key) → slice_get e.statuses.items.items p ≡ Some (Resolved j) → slice_get (known_keys l e) p ≡ Some k → (y : Row Outcome Range) × (slice_get l.rows.items j ≡ Some y) × IsTrue (is_sound_outcome (outcome_tree y.outcome)) × IsTrue (is_outcome_of k (outcome_tree y.outcome))
   place_sound p j k d f =

@@ -1,18 +1,16 @@
 -- A run of picks: what each of them keeps, and what the end says.
 use Rattle.std.proofs.Common.{◌≡◌, ℕ, zero, suc, ◌+◌, ◌-◌, ◌<◌, ◌≤◌, ◌^◌, List, [], ◌∷◌, ◌++◌, ◌⊎◌, ◌||◌, Bool, true, false, cond, if◌then◌else◌, Option, Some, None, length, nat_lt, refl, sym, ap, ◌∙◌, subst, arith, inl, inr}
 use Rattle.std.specs.List.{list_any}
-use borrow.Author.Tests.{ltb-false}
 use Rattle.gl_query.specs.Lists.{Member, AreDistinct, MoreThan}
 use Rattle.gl_query.specs.Query.{Query, Found, Ready, Need, found}
 use Rattle.gl_query.specs.Laws.{IsQuiet}
 use Rattle.gl_query.specs.Machine.{Status, Idle, Waiting, Resolved, Demanded, at, table, change, need_answer, woken, wait, add_idle, need, turn, idle_keys, keys, nth, picked, pick, Picked, turn_answer, answer, left}
-use Rattle.gl_query.specs.Costs.{answer_at, step_at, total, settled, Counted, counted_keys, unnoted, AreReads, sum_reads, allowed}
+use Rattle.gl_query.specs.Costs.{answer_at, total, settled, Counted, counted_keys, unnoted, AreReads, sum_reads, allowed}
 use Rattle.gl_query.proofs.Lookups.{mapped, at-change, nth_member, at-idle}
 use Rattle.gl_query.proofs.Steps.{true_table}
 use Rattle.gl_query.proofs.Quiet.{quiet}
 use Rattle.gl_query.proofs.Counts.{full_demands, pick_less}
-use Rattle.gl_query.proofs.Credit.{picked_credit, credit_allowed, full_allowed}
-use Rattle.gl_query.proofs.Least.{picked_settled}
+use Rattle.gl_query.proofs.Credit.{credit_allowed, full_allowed}
 use Rattle.gl_query.proofs.Bound.{allowed_within}
 use Rattle.gl_query.proofs.Tables.{quiet_counted}
 use Rattle.gl_query.proofs.Proved.{no_idle}
@@ -25,12 +23,14 @@ use Rattle.gl_calculus.specs.Key.{same_key}
 use Rattle.gl_calculus.specs.Evaluation.{program}
 use Rattle.gl_calculus.specs.Memory.{Notes}
 use Rattle.gl_calculus.proofs.Tests.{key_equality}
+use Rattle.gl_ahead.specs.Spent as Spent
+use Rattle.gl_ahead.proofs.Spending.{bounds_stay}
 use Rattle.gl_demand.specs.Steps.{one_more}
 use Rattle.gl_core.specs.Held.{Held}
 use Rattle.gl_core.specs.State.{State, state_of, seeds_of, notes_in, is_noted, newly_noted, noted_after, IsFor}
 use Rattle.gl_query.specs.InOrder.{AreOrdered, note_keys}
 use Rattle.gl_demand.specs.Steps.{AllowsDemanded}
-use Rattle.gl_core.specs.Answers.{counted, AllowsKnown}
+use Rattle.gl_core.specs.Answers.{counted, AtMostCounted, AllowsKnown}
 use Rattle.gl_core.proofs.Seeing.{none_of}
 
 -- a run of picks from one core to another, with the count of steps
@@ -146,20 +146,13 @@ counts_up n = by (nat_lt n 18446744073709551615)
     by true = omega arith
     by false = omega arith
 
-counts_one : (n : ℕ) → one_more n < 2 ^ 64 - 1 → (one_more n ≡ n + 1) × (n < 2 ^ 64 - 1)
-counts_one n h = by (nat_lt n 18446744073709551615) refl h
-  where
-    by : (b : Bool) → nat_lt n 18446744073709551615 ≡ b → (if b then n + 1 else n) < 2 ^ 64 - 1 → ((if b then n + 1 else n) ≡ n + 1) × (n < 2 ^ 64 - 1)
-    by true e h = (refl, omega arith)
-    by false e h = let a = ltb-false _ _ e in absurd (omega arith)
-
 counted_most : (b : Bool) (n : ℕ) → cond b n (one_more n) ≤ n + cond b 0 1
 counted_most true n = omega arith
 counted_most false n = counts_up n
 
-counted_least : (b : Bool) (n : ℕ) → cond b n (one_more n) < 2 ^ 64 - 1 → (cond b n (one_more n) ≡ n + cond b 0 1) × (n < 2 ^ 64 - 1)
-counted_least true n h = (omega arith, h)
-counted_least false n h = counts_one n h
+at_most_counted : (b : Bool) (n m : ℕ) → (m ≡ n) ⊎ (m ≡ cond b n (one_more n)) → m ≤ n + cond b 0 1
+at_most_counted b n m (inl e) = omega (arith, e)
+at_most_counted b n m (inr e) = let u = counted_most b n in omega (arith, e, u)
 
 same_bools : (a b : Bool) → (a ≡ true → b ≡ true) → (b ≡ true → a ≡ true) → a ≡ b
 same_bools true b f g = sym (f refl)
@@ -191,9 +184,20 @@ module _ (version : Version) (S : Cells) (w : Oracle) (first c : Held) (n m : �
   steps_now : (k : K.Key) → nth (idle_keys (state_of c)) i ≡ Some k → counted (is_noted (notes_in c)) (nth (idle_keys (state_of c)) i) m ≡ cond (is_noted (notes_in first) k) m (one_more m)
   steps_now k e = ap (λ v. counted (is_noted (notes_in c)) v m) e ∙ ap (λ b. cond b m (one_more m)) (same_noted k (idle_there k e))
 
+  -- a count by the notes that there are is one by the first notes
+  steps_first : counted (is_noted (notes_in c)) (nth (idle_keys (state_of c)) i) m ≡ Spent.counted (is_noted (notes_in first)) (nth (idle_keys (state_of c)) i) m
+  steps_first = let (k, ek) = the_key in steps_now k ek ∙ sym (ap (λ v. Spent.counted (is_noted (notes_in first)) v m) ek)
+
+  bounds : (m' : ℕ) → (answer_at same_key max_demanded (program version S w) (state_of c) (nth (idle_keys (state_of c)) i) ≡ Picked.Full → ⊥) → AtMostCounted (is_noted (notes_in c)) (nth (idle_keys (state_of c)) i) m m' →
+      (answer_at same_key max_demanded (program version S w) (state_of c) (nth (idle_keys (state_of c)) i) ≡ Picked.Resolved → m' ≡ counted (is_noted (notes_in c)) (nth (idle_keys (state_of c)) i) m) →
+      (m' ≤ n + total same_key (program version S w) (is_noted (notes_in first)) (pick same_key max_demanded (program version S w) (state_of c) i)) × (m' < 2 ^ 64 - 1 → n + settled (is_noted (notes_in first)) (pick same_key max_demanded (program version S w) (state_of c) i) ≤ m' + settled (is_noted (notes_in first)) (state_of first))
+  bounds m' room count exact =
+      bounds_stay K.Key K.Outcome Range same_key max_demanded (program version S w) (seeds_of c) (is_noted (notes_in first)) (state_of c) i n (settled (is_noted (notes_in first)) (state_of first)) m m' key_equality h.for_it.sound room h.most h.least
+      (subst (λ x. (m' ≡ m) ⊎ (m' ≡ x)) steps_first count) (λ a. exact a ∙ steps_first)
+
   pub run_goes : (c' : Held) (m' : ℕ) (a : Picked) → state_of c' ≡ pick same_key max_demanded (program version S w) (state_of c) i → a ≡ answer_at same_key max_demanded (program version S w) (state_of c) (nth (idle_keys (state_of c)) i) → (a ≡ Picked.Full → ⊥) →
-      note_keys (notes_in c') ≡ noted_after (notes_in c) (nth (idle_keys (state_of c)) i) a → IsFor version S w c' → seeds_of c' ≡ seeds_of c → (AreOrdered [] (notes_in c) → AreOrdered [] (notes_in c')) → m' ≡ counted (is_noted (notes_in c)) (nth (idle_keys (state_of c)) i) m → IsRun version S w first c' n m'
-  run_goes c' m' a state answered not_full notes for' seeds' ordered count =
+      note_keys (notes_in c') ≡ noted_after (notes_in c) (nth (idle_keys (state_of c)) i) a → IsFor version S w c' → seeds_of c' ≡ seeds_of c → (AreOrdered [] (notes_in c) → AreOrdered [] (notes_in c')) → AtMostCounted (is_noted (notes_in c)) (nth (idle_keys (state_of c)) i) m m' → (a ≡ Picked.Resolved → m' ≡ counted (is_noted (notes_in c)) (nth (idle_keys (state_of c)) i) m) → IsRun version S w first c' n m'
+  run_goes c' m' a state answered not_full notes for' seeds' ordered count exact =
       let (k, ek) = the_key in
       let st = state_of c in
       let p = program version S w in
@@ -203,14 +207,7 @@ module _ (version : Version) (S : Cells) (w : Oracle) (first c : Held) (n m : �
       let turned : state_of c' ≡ turn same_key max_demanded st k e = state ∙ ap (picked same_key max_demanded p st) ek in
       let answer_is : a ≡ turn_answer same_key max_demanded st e = answered ∙ ap (answer_at same_key max_demanded p st) ek in
       let notes' : note_keys (notes_in c') ≡ noted_after (notes_in c) (Some k) a = notes ∙ ap (λ v. noted_after (notes_in c) v a) ek in
-      let steps' : m' ≡ cond (noted k) m (one_more m) = count ∙ steps_now k ek in
-      let credit = picked_credit same_key key_equality max_demanded p (seeds_of c) noted st i h.for_it.sound (nth (idle_keys st) i) refl (λ f. not_full (answered ∙ f)) in
-      let credit' : total same_key p noted st + cond (noted k) 0 1 ≤ total same_key p noted (state_of c') =
-      subst (λ t. total same_key p noted st + cond (noted k) 0 1 ≤ total same_key p noted t) (sym state) (subst (λ v. total same_key p noted st + step_at noted v ≤ total same_key p noted (pick same_key max_demanded p st i)) ek credit) in
-      let less = picked_settled same_key key_equality max_demanded p (seeds_of c) noted st h.for_it.sound.apart (nth (idle_keys st) i) in
-      let less' : settled noted (state_of c') ≤ settled noted st + cond (noted k) 0 1 =
-      subst (λ t. settled noted t ≤ settled noted st + cond (noted k) 0 1) (sym state) (subst (λ v. settled noted (pick same_key max_demanded p st i) ≤ settled noted st + step_at noted v) ek less) in
-      let up = counted_most (noted k) m in
+      let (high, low) = bounds m' (λ f. not_full (answered ∙ f)) count (λ f. exact (answered ∙ f)) in
       record {
         for_it = for';
         seeds = seeds' ∙ h.seeds;
@@ -222,11 +219,8 @@ module _ (version : Version) (S : Cells) (w : Oracle) (first c : Held) (n m : �
               | inr (o, y) ↦ inr (o, ap (λ t. at same_key t j) turned ∙ turn_stays st k idle max_demanded e j o y)
             ])
             (λ s t. let (o, r) = turn_resolves st k idle max_demanded e (sym answer_is ∙ t) in inr (o, ap (at same_key (state_of c')) s ∙ ap (λ x. at same_key x k) turned ∙ r));
-        most = omega (arith, h.most, credit', up, steps');
-        least = λ b.
-            let (u, v) = counted_least (noted k) m (subst (λ x. x < 2 ^ 64 - 1) steps' b) in
-            let y = h.least v in
-            omega (arith, u, y, less', steps');
+        most = subst (λ t. m' ≤ n + total same_key p noted t) (sym state) high;
+        least = λ b. subst (λ t. n + settled noted t ≤ m' + settled noted (state_of first)) (sym state) (low b);
       }
 
   -- a pick that isn't Full leaves less to do
@@ -290,7 +284,7 @@ module _ (version : Version) (S : Cells) (w : Oracle) (first c : Held) (n m : �
   sums_allow : (cs : List (Counted K.Key)) → counted_keys cs ≡ unnoted (is_noted (notes_in first)) (state_of c) → AreReads same_key (program version S w) cs → allowed same_key (program version S w) (is_noted (notes_in first)) (table same_key (state_of c)) (state_of c) ≤ sum_reads cs
   sums_allow cs e r = allowed_within same_key key_equality (program version S w) (is_noted (notes_in first)) (table same_key (state_of c)) (true_table same_key key_equality (program version S w) (seeds_of c) (state_of c) h.for_it.sound) (state_of c) cs e r
 
-  pub full_allows : (i : ℕ) → i < length (idle_keys (state_of c)) → Picked.Full ≡ answer_at same_key max_demanded (program version S w) (state_of c) (nth (idle_keys (state_of c)) i) → (m' : ℕ) → m' ≡ counted (is_noted (notes_in c)) (nth (idle_keys (state_of c)) i) m →
+  pub full_allows : (i : ℕ) → i < length (idle_keys (state_of c)) → Picked.Full ≡ answer_at same_key max_demanded (program version S w) (state_of c) (nth (idle_keys (state_of c)) i) → (m' : ℕ) → AtMostCounted (is_noted (notes_in c)) (nth (idle_keys (state_of c)) i) m m' →
       AllowsDemanded (Demanded (program version S w) (seeds_of first)) (program version S w) (is_noted (notes_in first)) n m'
   full_allows i l full m' count =
       let st = state_of c in
@@ -298,8 +292,7 @@ module _ (version : Version) (S : Cells) (w : Oracle) (first c : Held) (n m : �
       let noted = is_noted (notes_in first) in
       let (k, ek) = the_key version S w first c n m h i l in
       let idle = idle_there version S w first c n m h i l k ek in
-      let up = counted_most (noted k) m in
-      let steps' : m' ≡ cond (noted k) m (one_more m) = count ∙ steps_now version S w first c n m h i l k ek in
+      let up = at_most_counted (noted k) m m' (subst (λ x. (m' ≡ m) ⊎ (m' ≡ x)) (steps_now version S w first c n m h i l k ek) count) in
       record {
         keys = unnoted noted st;
         distinct = unnoted_apart noted st h.for_it.sound.apart;
@@ -308,7 +301,7 @@ module _ (version : Version) (S : Cells) (w : Oracle) (first c : Held) (n m : �
         most = λ cs e r.
             let a = sums_allow cs e r in
             let b = full_allowed same_key key_equality max_demanded p (seeds_of c) noted (table same_key st) k st idle in
-            omega (arith, a, b, up, steps', h.most);
+            omega (arith, a, b, up, h.most);
       }
 
   module _ (quiet_now : length (idle_keys (state_of c)) ≡ 0) where

@@ -27,6 +27,7 @@ pub mod Grown
 pub mod Found
 pub mod Settling
 pub mod Shorts
+pub mod Words
 pub mod Resumed
 pub mod Marks
 pub mod Resolved
@@ -34,3 +35,5 @@ pub mod Converted
 pub mod Seeded
 pub mod Rooms
 pub mod Starts
+pub mod Reading
+pub mod Marking

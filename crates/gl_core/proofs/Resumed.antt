@@ -3,7 +3,7 @@ use Rattle.std.proofs.Common.{◌≡◌, ◌⊎◌, ℕ, ◌<◌, Bool, true, Li
 use Rattle.gl_query.specs.Lists.{Member, AreDistinct, MoreThan}
 use Rattle.gl_query.specs.Remembered.{Note, AreTrue, IsReached, Here, Through}
 use Rattle.gl_query.specs.Machine as Machine
-use Rattle.gl_query.specs.Machine.{at, keys, Demanded, Seed, IsKnown, IsSound}
+use Rattle.gl_query.specs.Machine.{at, table, keys, Demanded, Seed, IsKnown, IsSound}
 use Rattle.gl_query.proofs.Started.{sound}
 use Rattle.gl_query.proofs.Reached.{reached}
 use Rattle.gl_calculus.specs.Limits.{max_demanded}
@@ -19,6 +19,7 @@ use Rattle.gl_calculus.proofs.Tests.{key_equality}
 use Rattle.gl_support.specs.Rows.{notes_of}
 use Rattle.gl_support.specs.declared.row.Row.{Row}
 use Rattle.gl_demand.specs.declared.outcome.Outcome.{Outcome}
+use Rattle.gl_core.specs.Marks.{mark_trees, TellNothing}
 use Rattle.gl_core.specs.State.{entries, status_tree, first_keys, is_noted, IsFor}
 use Rattle.gl_core.specs.Numbers.{key_at, keys_at, named, row_notes, numbers_of, outcome_at}
 use Rattle.gl_core.specs.Ledger.{written}
@@ -31,8 +32,9 @@ use Rattle.gl_core.specs.declared.status.Status.TheVariants.{Idle, Waiting, Reso
 use Rattle.gl_core.proofs.Wakes.{get_there, get_within}
 use Rattle.gl_core.proofs.Places.{member_at, place_of, at_place, keys_entries}
 use Rattle.gl_core.proofs.Numbered.{get_map, length-map, key_in, keys_apart, outcome_is}
-use Rattle.gl_core.proofs.Cores.{readable, known_apart, known_length, known_statuses, known_at, state_length}
+use Rattle.gl_core.proofs.Cores.{readable, known_apart, known_length, known_statuses, known_at, state_length, marks_length}
 use Rattle.gl_core.proofs.Picks.{held}
+use Rattle.gl_core.proofs.Reading.{nothing_ahead}
 
 take_front : {X : Type 0} (xs ys : List X) → take (length xs) (xs ++ ys) ≡ xs
 take_front [] ys = refl
@@ -137,8 +139,8 @@ module _ (l : Ledger) (e : Entries) (c : IsCore l e) (seeds : List K.Key) (r : I
                 (o, ap (at same_key (table_of l e)) (sym ae) ∙ z),
           )
 
-  pub for_resumed : IsFor version S w (held l e (length seeds))
-  for_resumed = record {
+  pub for_resumed : TellNothing (mark_trees e.marks.items) → IsFor version S w (held l e (length seeds))
+  for_resumed nothing = record {
     sound = subst (λ s. IsSound same_key (program version S w) s (table_of l e)) (sym resumed_seeds)
         (sound K.Key K.Outcome Range same_key (program version S w) seeds (written l) (table_of l e) key_equality trues (subst AreDistinct (sym the_keys) (known_apart l e (readable l e c)))
         (λ k m. seed_known k m) (λ k h. demanded_known k h) cases);
@@ -147,6 +149,8 @@ module _ (l : Ledger) (e : Entries) (c : IsCore l e) (seeds : List K.Key) (r : I
     proper = λ k m. proper k (subst (Member k) resumed_seeds m);
     true_notes = trues;
     noted = λ k o d. noted_known k o (cases k (Machine.Resolved o) d);
+    marked = marks_length l e c;
+    ahead = λ p k m f g. nothing_ahead S w (program version S w k) (table same_key (table_of l e)) m (nothing p m g);
   }
     where
       seed_known : (k : K.Key) → Member k seeds → IsKnown same_key (table_of l e) k

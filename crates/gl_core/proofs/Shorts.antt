@@ -1,5 +1,5 @@
 -- Short forms tell keys apart, and stay while numbers are given.
-use Rattle.std.proofs.Common.{◌≡◌, ℕ, zero, suc, eqb, ◌<◌, ◌^◌, Bool, true, false, cond, List, [], ◌∷◌, ◌++◌, length, slice_get, position, Option, Some, None, option_map, Result, Ok, Err, OnOk, OnErr, IsTrue, inl, inr, refl, sym, ap, subst, ◌∙◌}
+use Rattle.std.proofs.Common.{◌≡◌, ℕ, zero, suc, eqb, ◌<◌, ◌^◌, Bool, true, false, cond, List, [], ◌∷◌, ◌++◌, length, slice_get, position, Option, Some, None, option_map, Result, Ok, Err, OnOk, OnErr, IsTrue, ◌⊎◌, inl, inr, refl, sym, ap, subst, ◌∙◌}
 use Rattle.std.specs.List.{list_any}
 use Rattle.std.proofs.lemmas.Bool.{eqb-true, eq-eqb}
 use Rattle.gl_query.specs.Lists.{IsEquality, Member, AreDistinct}
@@ -128,6 +128,20 @@ sound_by : (ks : List K.Key) (k : K.Key) (b : Bool) → ((j : K.Key) → Member 
 sound_by ks k true h s = h
 sound_by ks k false h s = sound_last ks k h s
 
+member_last : (ks : List K.Key) (k j : K.Key) → Member j (ks ++ k ∷ []) → Member j ks ⊎ (j ≡ k)
+member_last [] k j (inl e) = inr e
+member_last [] k j (inr m) = absurd m
+member_last (x ∷ ks) k j (inl e) = inl (inl e)
+member_last (x ∷ ks) k j (inr m) = deeper (member_last ks k j m)
+  where
+    deeper : Member j ks ⊎ (j ≡ k) → Member j (x ∷ ks) ⊎ (j ≡ k)
+    deeper (inl n) = inl (inr n)
+    deeper (inr e) = inr e
+
+member_by : (ks : List K.Key) (k j : K.Key) (b : Bool) → Member j (cond b ks (ks ++ k ∷ [])) → Member j ks ⊎ (j ≡ k)
+member_by ks k j true m = inl m
+member_by ks k j false m = member_last ks k j m
+
 module _ (l : Numbered) (ps : List (Short × K.Key)) (h : IsShort l ps) (k : K.Key) where
   pub unseen : short_in l k ≡ None → Member k (seconds ps) → ⊥
   unseen e = no_member k (seconds ps) (number_none form.eq form_equality same_key key_equality (short_in l) (short_exact l) k ps e h.forms)
@@ -155,6 +169,9 @@ module _ (l : Numbered) (ps : List (Short × K.Key)) (h : IsShort l ps) (k : K.K
     pub keys_put : Grows (seconds ps) (seconds (put_pair form.eq ps s k))
     keys_put = subst (Grows (seconds ps)) (sym put) (inserted_longer same_key k (key_equality.1 k) (seconds ps))
 
+    members_put : (j : K.Key) → Member j (seconds (put_pair form.eq ps s k)) → Member j (seconds ps) ⊎ (j ≡ k)
+    members_put j m = member_by (seconds ps) k j (list_any (same_key k) (seconds ps)) (subst (Member j) put m)
+
     -- what is found is the key's number
     pub is_number : (r : Option ℕ) → r ≡ position (form.eq s) (firsts ps) → IsNumber (seconds ps) k r
     is_number None e = key_absent (sym e)
@@ -167,6 +184,9 @@ module _ (l : Numbered) (ps : List (Short × K.Key)) (h : IsShort l ps) (k : K.K
 
       pub short_after : IsTrue (is_sound_key k) → length (seconds qs) < 2 ^ 32 → IsShort l qs
       short_after sound few = after_by (λ e. subst (IsShort l) (sym e) (short_put sound (subst (λ x. length (seconds x) < 2 ^ 32) e few))) (λ e. subst (IsShort l) (sym e) h) r ok err
+
+      pub members_after : (j : K.Key) → Member j (seconds qs) → Member j (seconds ps) ⊎ (j ≡ k)
+      members_after j m = after_by (λ e. members_put j (subst (λ x. Member j (seconds x)) e m)) (λ e. inl (subst (λ x. Member j (seconds x)) e m)) r ok err
 
       pub keys_after : Grows (seconds ps) (seconds qs)
       keys_after = after_by (λ e. subst (λ x. Grows (seconds ps) (seconds x)) (sym e) keys_put) (λ e. subst (λ x. Grows (seconds ps) (seconds x)) (sym e) (grows_not (seconds ps))) r ok err

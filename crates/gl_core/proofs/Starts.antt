@@ -13,8 +13,8 @@ use Rattle.gl_core.proofs.Passed.{none_passed}
 use Rattle.gl_core.proofs.Wakes.{get_there, get_within}
 
 pub begun_core : (l : Ledger) (e : Entries) → IsLedger l → Each (λ n. n < length l.book) e.known.items → IsIndex e.known.items e.at.items → length e.statuses.items.items ≡ length e.known.items → length e.waiting.items ≡ length e.known.items →
-    length e.known.items ≤ max_demanded → AreCounted e.statuses → AreBegun l.rows.items e.known.items e.statuses.items.items → length e.passed.items ≡ length e.known.items → ((q : ℕ) → slice_index e.passed.items q ≡ 0) → IsCore l e
-begun_core l e h below index size rows few counted begun passed none = record {
+    length e.known.items ≤ max_demanded → AreCounted e.statuses → AreBegun l.rows.items e.known.items e.statuses.items.items → length e.passed.items ≡ length e.known.items → length e.marks.items ≡ length e.known.items → ((q : ℕ) → slice_index e.passed.items q ≡ 0) → IsCore l e
+begun_core l e h below index size rows few counted begun passed marks none = record {
   ledger = h;
   table = record {
     statuses = size;
@@ -25,6 +25,7 @@ begun_core l e h below index size rows few counted begun passed none = record {
     listed = λ q p d. absurd (none_waits q p d);
     index = index;
     passed = passed;
+    marks = marks;
   };
   below = below;
   resolved = λ p r d. (let (n, f) = number p (Resolved r) d in let (x, g, i) = begun p n (Resolved r) f d in (x, g, f ∙ ap Some (sym i)));

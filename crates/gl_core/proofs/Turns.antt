@@ -112,6 +112,10 @@ pub on_err : {X E P Q : Type 0} (r : Result X E) → OnErr r P → (P → Q) →
 on_err (Ok x) p f = tt
 on_err (Err e) p f = f p
 
+pub any_ok : {X E P : Type 0} (r : Result X E) → P → OnOk r P
+any_ok (Ok x) p = p
+any_ok (Err e) p = tt
+
 pub any_err : {X E P : Type 0} (r : Result X E) → P → OnErr r P
 any_err (Ok x) p = tt
 any_err (Err e) p = p

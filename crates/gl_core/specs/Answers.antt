@@ -1,11 +1,9 @@
 -- What picks and runs answer, and the steps that they take.
-use Rattle.std.specs.Prelude.{◌≡◌, ℕ, ◌+◌, ◌≤◌, List, length, slice_get, Option, Some, None, Bool, false, cond, IsTrue, IfSome, IsSome}
-use Rattle.gl_query.specs.Lists.{Member, AreDistinct}
+use Rattle.std.specs.Prelude.{◌≡◌, ◌⊎◌, ℕ, ◌+◌, ◌≤◌, List, slice_get, Option, Some, None, Bool, cond, IsTrue, IfSome, IsSome}
 use Rattle.gl_query.specs.Query.{Query}
 use Rattle.gl_query.specs.Machine as Machine
 use Rattle.gl_query.specs.Costs.{Counted, counted_keys, unnoted, AreReads, sum_reads}
 use Rattle.gl_calculus.specs.Grid.{Range}
-use Rattle.gl_calculus.specs.Limits.{max_demanded}
 use Rattle.gl_calculus.specs.Key as K
 use Rattle.gl_calculus.specs.Key.{same_key}
 use Rattle.gl_calculus.specs.Sound.{is_sound_outcome, is_outcome_of}
@@ -29,6 +27,10 @@ picked_tree Full = Machine.Picked.Full
 abbrev pub counted : (K.Key → Bool) → Option K.Key → ℕ → ℕ
 counted noted None n = n
 counted noted (Some k) n = cond (noted k) n (one_more n)
+
+-- the same, or one less: a pick may take no step
+abbrev pub AtMostCounted : (K.Key → Bool) → Option K.Key → ℕ → ℕ → Type 0
+AtMostCounted noted v n m = (m ≡ n) ⊎ (m ≡ counted noted v n)
 
 -- The steps from n to m are at most 1 and the number of reads for each known key without a note, of which the reads are there.
 pub record AllowsKnown (program : K.Key → Query K.Key K.Outcome Range K.Outcome) (noted : K.Key → Bool) (st : State) (n m : ℕ) : Type 0 where

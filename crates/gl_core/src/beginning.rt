@@ -5,12 +5,14 @@ ghost use Rattle.gl_calculus.specs.Limits.{max_demanded};
 ghost use Rattle.gl_core.specs.Numbers.{Each, IsIndex};
 ghost use Rattle.gl_core.specs.Ledger.{IsLedger};
 ghost use Rattle.gl_core.specs.Tree.{HasPlace};
+ghost use Rattle.gl_core.specs.Marks.{mark_trees, TellNothing};
 ghost use Rattle.gl_core.specs.Statuses.{AreCounted};
 ghost use Rattle.gl_core.specs.Table.{IsCore, AreBegun, status_by};
 
 use crate::entries::Entries;
 use crate::index::put;
 use crate::ledger::Ledger;
+use crate::mark::Mark;
 use crate::statuses::Statuses;
 use gl_plane::NoMemory;
 use std::alloc::Global;
@@ -73,6 +75,18 @@ fn no_lists(alloc: Global, count: usize) -> Result<Vec<Vec<usize>>, NoMemory>
     Ok(lists)
 }
 
+/// So many marks of nothing.
+fn no_marks(alloc: Global, count: usize) -> Result<Vec<Mark>, NoMemory>
+    ensures size { IfOk result (λ marks. length marks.items ≡ count) }
+    ensures nothing { IfOk result (λ marks. TellNothing (mark_trees marks.items)) }
+{
+    let mut marks = Vec::new(alloc);
+    for _ in 0..count {
+        marks.push(Mark::none())?;
+    }
+    Ok(marks)
+}
+
 /// The state in which these are known, each resolved where it has a row, and idle where not.
 pub fn begun(alloc: Global, known: Vec<u32>, ledger: &Ledger) -> Result<Entries, NoMemory>
     requires kept { IsLedger ledger.now }
@@ -82,17 +96,20 @@ pub fn begun(alloc: Global, known: Vec<u32>, ledger: &Ledger) -> Result<Entries,
     ensures known { IfOk result (λ e. e.known.items ≡ known.items) }
     ensures begun { IfOk result
         (λ e. AreBegun ledger.now.rows.items e.known.items e.statuses.items.items) }
+    ensures marks { IfOk result (λ e. TellNothing (mark_trees e.marks.items)) }
     ensures core { IfOk result (IsCore ledger.now) }
 {
     let at = index_of(alloc, &known, ledger.book.len())?;
     let statuses = statuses_of(alloc, &known, ledger)?;
     let waiting = no_lists(alloc, known.len())?;
     let passed = vec![in alloc; 0usize; known.len()]?;
+    let marks = no_marks(alloc, known.len())?;
     Ok(Entries {
         known,
         at,
         statuses,
         waiting,
         passed,
+        marks,
     })
 }

@@ -1,14 +1,15 @@
 //! Keys by numbers.
-ghost use Rattle.std.specs.Prelude.{◌≡◌, ◌<◌, ◌^◌, [], Some, None, IsTrue, length, position, slice_get, OnOk, OnErr, IfOk, IfSome};
+ghost use Rattle.std.specs.Prelude.{◌≡◌, ◌<◌, ◌^◌, [], Some, None, IsTrue, length, slice_get, IfOk, OnErr};
 ghost use Rattle.gl_calculus.specs.Sound.{is_sound_key};
 ghost use Rattle.gl_demand.specs.View.{key_tree};
-ghost use Rattle.gl_intern.specs.Numbered.{firsts, put_pair};
 ghost use Rattle.gl_core.specs.Numbers.{Grows, IsNumber, AreBooked};
-ghost use Rattle.gl_core.specs.Shorts.{key_pairs};
-ghost use Rattle.gl_core.specs.contracts.short.ShortPartialEq.TheImpl.{ghosts as form};
+ghost use Rattle.gl_core.specs.Words.{key_word};
 
-use crate::guesses::{copy_word, guessed, remember};
-use crate::short::{Short, find_short, short_form};
+use crate::guesses::{
+    copy_word, guess, guessed_parent, own_word, remember, remember_frame, replace,
+};
+use crate::placing::{find_place, frame_of, place_key};
+use crate::short::{Short, find_short};
 use gl_demand::Key;
 use gl_intern::Interner;
 use gl_plane::NoMemory;
@@ -16,17 +17,17 @@ use indexmap::IndexMap;
 use std::alloc::Global;
 use std::marker::Model;
 
-/// The most keys of a book.
-const MOST: usize = 4_000_000_000;
-
 /// Keys, each once, seen as a list of plain keys. A key's number is its place in the list, and
 /// never changes. The keys stand beside their short forms, by which they are looked up. The number of
-/// a key in a copy is guessed first, which takes one comparison in place of a walk.
+/// a key in a copy is guessed first, by its word: that takes one comparison in place of a walk, and
+/// none where no key has the word.
 pub struct Book {
     interner: Interner,
     keys: IndexMap<Short, Key>,
-    // by words, which other keys may have as well
+    // by the words of all keys in copies, which other keys may have as well
     guesses: IndexMap<u64, u32>,
+    // the numbers of frames, by their words
+    frames: IndexMap<u64, u32>,
 }
 
 // One call wherever it is dropped, in place of one for each part.
@@ -36,6 +37,7 @@ impl Drop for Book {
             interner: _,
             keys: _,
             guesses: _,
+            frames: _,
         } = self;
     }
 }
@@ -47,6 +49,7 @@ impl Model for Book {
     ghost use Rattle.gl_calculus.specs.Key as K;
     ghost use Rattle.gl_intern.specs.Numbered.{seconds};
     ghost use Rattle.gl_core.specs.Shorts.{key_pairs, IsShort};
+    ghost use Rattle.gl_core.specs.Words.{HasWords};
 
     ghost Value = { List K.Key };
 
@@ -54,7 +57,8 @@ impl Model for Book {
 
     ghost view = { λ b. seconds (key_pairs b.keys.entries) };
 
-    ghost invariant = { λ b. IsShort b.interner (key_pairs b.keys.entries) };
+    ghost invariant = { λ b. IsShort b.interner (key_pairs b.keys.entries)
+        × HasWords b.guesses.entries (seconds (key_pairs b.keys.entries)) };
 }
 
 impl Book {
@@ -67,6 +71,7 @@ impl Book {
             interner: Interner::new(alloc),
             keys: IndexMap::new(alloc),
             guesses: IndexMap::new(alloc),
+            frames: IndexMap::new(alloc),
         }
     }
 
@@ -82,33 +87,31 @@ impl Book {
     pub fn find(&self, key: &Key) -> Option<u32>
         ensures { IsNumber self.now (key_tree key.now) result }
     {
-        match self.guess(key) {
-            Some(n) => Some(n),
+        match copy_word(key) {
+            Some(word) => self.find_by_word(word, key),
             None => self.look_up(key),
         }
     }
 
-    /// The number of a key, which gets one where it has none. After `NoMemory` the keys are as
-    /// before, or one of them is new.
-    pub fn number(&mut self, key: Key) -> Result<u32, NoMemory>
-        requires { IsTrue (is_sound_key (key_tree key)) }
-        ensures number { IfOk result (λ n. slice_get self.new n ≡ Some (key_tree key)) }
-        ensures grows { Grows self.old self.new }
-        ensures booked { AreBooked self.old → AreBooked self.new }
+    /// The number of a key with this word. A word that no key has had belongs to no key.
+    fn find_by_word(&self, word: u64, key: &Key) -> Option<u32>
+        requires { key_word (key_tree key.now) ≡ Some word }
+        ensures { IsNumber self.now (key_tree key.now) result }
     {
-        match self.guess(&key) {
-            Some(n) => Ok(n),
-            None => self.number_anew(key),
+        match guess(&self.guesses, word) {
+            Some(n) => self.find_by_guess(n, key),
+            None => None,
         }
     }
 
-    /// The number that a key of a copy probably has, where it does have it.
-    fn guess(&self, key: &Key) -> Option<u32>
-        ensures { IfSome result (λ n. slice_get self.now n ≡ Some (key_tree key.now)) }
+    /// The number of a key that probably has this one.
+    fn find_by_guess(&self, n: u32, key: &Key) -> Option<u32>
+        ensures { IsNumber self.now (key_tree key.now) result }
     {
-        match guessed(&self.guesses, key) {
-            Some(n) if self.is_at(n as usize, key) => Some(n),
-            _ => None,
+        if self.is_at(n as usize, key) {
+            Some(n)
+        } else {
+            self.look_up(key)
         }
     }
 
@@ -122,34 +125,82 @@ impl Book {
         }
     }
 
-    /// The number of a key by its short form, which gets one where it has none.
+    /// The number of a key, which gets one where it has none. After `NoMemory` the keys are as
+    /// before.
+    pub fn number(&mut self, key: Key) -> Result<u32, NoMemory>
+        requires { IsTrue (is_sound_key (key_tree key)) }
+        ensures number { IfOk result (λ n. slice_get self.new n ≡ Some (key_tree key)) }
+        ensures grows { Grows self.old self.new }
+        ensures booked { AreBooked self.old → AreBooked self.new }
+        ensures err { OnErr result (self.new ≡ self.old) }
+    {
+        match copy_word(&key) {
+            Some(word) => self.number_by_word(word, key),
+            None => self.number_by_form(key),
+        }
+    }
+
+    /// The number of a key without word.
     fn number_by_form(&mut self, key: Key) -> Result<u32, NoMemory>
-        requires { IsTrue (is_sound_key (key_tree key)) }
+        requires sound { IsTrue (is_sound_key (key_tree key)) }
+        requires word { key_word (key_tree key) ≡ None }
         ensures number { IfOk result (λ n. slice_get self.new n ≡ Some (key_tree key)) }
         ensures grows { Grows self.old self.new }
         ensures booked { AreBooked self.old → AreBooked self.new }
+        ensures err { OnErr result (self.new ≡ self.old) }
     {
-        let short = short_form(&mut self.interner, &key)?;
-        place(&mut self.keys, short, key)
+        place_key(&mut self.interner, &mut self.keys, key, None)
     }
 
-    /// The same, and it is guessed the next time.
-    fn number_anew(&mut self, key: Key) -> Result<u32, NoMemory>
-        requires { IsTrue (is_sound_key (key_tree key)) }
+    /// The number of a key with this word.
+    fn number_by_word(&mut self, word: u64, key: Key) -> Result<u32, NoMemory>
+        requires sound { IsTrue (is_sound_key (key_tree key)) }
+        requires word { key_word (key_tree key) ≡ Some word }
         ensures number { IfOk result (λ n. slice_get self.new n ≡ Some (key_tree key)) }
         ensures grows { Grows self.old self.new }
         ensures booked { AreBooked self.old → AreBooked self.new }
+        ensures err { OnErr result (self.new ≡ self.old) }
     {
-        let word = copy_word(&key);
-        let n = self.number_by_form(key)?;
-        self.remember(word, n)?;
+        match guess(&self.guesses, word) {
+            Some(n) => self.number_by_guess(word, n, key),
+            None => self.number_anew(word, key),
+        }
+    }
+
+    /// The number of a key that probably has this one. Else it is guessed the next time, in place of
+    /// the other key with its word.
+    fn number_by_guess(&mut self, word: u64, n: u32, key: Key) -> Result<u32, NoMemory>
+        requires sound { IsTrue (is_sound_key (key_tree key)) }
+        requires word { key_word (key_tree key) ≡ Some word }
+        ensures number { IfOk result (λ n. slice_get self.new n ≡ Some (key_tree key)) }
+        ensures grows { Grows self.old self.new }
+        ensures booked { AreBooked self.old → AreBooked self.new }
+        ensures err { OnErr result (self.new ≡ self.old) }
+    {
+        if self.is_at(n as usize, &key) {
+            return Ok(n);
+        }
+        self.number_anew(word, key)
+    }
+
+    /// The number of a key that was not guessed. Its word is remembered first, so that no key is
+    /// without it.
+    fn number_anew(&mut self, word: u64, key: Key) -> Result<u32, NoMemory>
+        requires sound { IsTrue (is_sound_key (key_tree key)) }
+        requires word { key_word (key_tree key) ≡ Some word }
+        ensures number { IfOk result (λ n. slice_get self.new n ≡ Some (key_tree key)) }
+        ensures grows { Grows self.old self.new }
+        ensures booked { AreBooked self.old → AreBooked self.new }
+        ensures err { OnErr result (self.new ≡ self.old) }
+    {
+        let next = self.keys.len() as u32;
+        remember(&mut self.guesses, word, next)?;
+        let frame = own_word(&key);
+        let parent = guessed_parent(&self.frames, &key);
+        let n = place_key(&mut self.interner, &mut self.keys, key, parent)?;
+        replace(&mut self.guesses, word, n);
+        remember_frame(&mut self.frames, frame, frame_of(&self.keys, n));
         Ok(n)
-    }
-
-    fn remember(&mut self, word: Option<u64>, n: u32) -> Result<(), NoMemory>
-        ensures { self.new ≡ self.old }
-    {
-        remember(&mut self.guesses, word, n)
     }
 
     /// The key with a number.
@@ -169,52 +220,5 @@ impl Book {
             Some((_, k)) => k == key,
             None => false,
         }
-    }
-}
-
-/// The number of a short form: `None` exactly where it has none.
-fn find_place(keys: &IndexMap<Short, Key>, short: Short) -> Option<u32>
-    requires { length keys.now.entries < 2 ^ 32 }
-    ensures { result ≡ position (form.eq short) (firsts (key_pairs keys.now.entries)) }
-{
-    match keys.get_index_of(&short) {
-        Some(n) => Some(n as u32),
-        None => None,
-    }
-}
-
-/// The number of a key, by its short form. It goes last where it is new.
-fn place(keys: &mut IndexMap<Short, Key>, short: Short, key: Key) -> Result<u32, NoMemory>
-    requires { length keys.old.entries < 2 ^ 32 }
-    ensures pairs { OnOk result (key_pairs keys.new.entries ≡
-        put_pair form.eq (key_pairs keys.old.entries) short (key_tree key)) }
-    ensures number { IfOk result
-        (λ n. position (form.eq short) (firsts (key_pairs keys.new.entries)) ≡ Some n) }
-    ensures err { OnErr result (keys.new.entries ≡ keys.old.entries) }
-    ensures few { length keys.new.entries < 2 ^ 32 }
-{
-    match keys.get_index_of(&short) {
-        Some(n) => Ok(n as u32),
-        None => push(keys, short, key),
-    }
-}
-
-/// One more key, which goes last.
-fn push(keys: &mut IndexMap<Short, Key>, short: Short, key: Key) -> Result<u32, NoMemory>
-    requires few { length keys.old.entries < 2 ^ 32 }
-    requires new { position (form.eq short) (firsts (key_pairs keys.old.entries)) ≡ None }
-    ensures pairs { OnOk result (key_pairs keys.new.entries ≡
-        put_pair form.eq (key_pairs keys.old.entries) short (key_tree key)) }
-    ensures number { IfOk result
-        (λ n. position (form.eq short) (firsts (key_pairs keys.new.entries)) ≡ Some n) }
-    ensures err { OnErr result (keys.new.entries ≡ keys.old.entries) }
-    ensures few { length keys.new.entries < 2 ^ 32 }
-{
-    if keys.len() >= MOST {
-        return Err(NoMemory);
-    }
-    match keys.insert_full(short, key) {
-        Ok(found) => Ok(found.0 as u32),
-        Err(_) => Err(NoMemory),
     }
 }

@@ -84,6 +84,7 @@ impl Ledger {
         ensures grows { Grows self.old.book self.new.book }
         ensures rows { self.new.rows.items ≡ self.old.rows.items }
         ensures kept { IsLedger self.new }
+        ensures err { OnErr result (self.new.book ≡ self.old.book) }
     {
         self.book.number(key)
     }

@@ -22,8 +22,9 @@ ghost use Rattle.gl_demand.specs.Sound.{AreSoundKeys};
 ghost use Rattle.gl_core.specs.State.{state_of, seeds_of, notes_in, note_trees, is_noted, noted_after, HaveSoundParts, IsFor};
 ghost use Rattle.gl_query.specs.InOrder.{note_keys};
 ghost use Rattle.gl_core.specs.Table.{IsTable, AreIdle};
+ghost use Rattle.gl_core.specs.Marks.{mark_trees, TellNothing};
 ghost use Rattle.gl_demand.specs.Steps.{AllowsDemanded};
-ghost use Rattle.gl_core.specs.Answers.{picked_tree, counted, AllowsKnown};
+ghost use Rattle.gl_core.specs.Answers.{picked_tree, counted, AtMostCounted, AllowsKnown};
 
 use crate::answers::{CoreFault, Picked};
 use crate::converting::ledger_of;
@@ -69,14 +70,15 @@ impl Model for Core {
     ghost use Rattle.std.specs.Coded.{codes};
     ghost use Rattle.gl_calculus.specs.Codes.{coded_key, coded_outcome, coded_note};
     ghost use Rattle.gl_core.specs.Held.{Held};
+    ghost use Rattle.gl_core.specs.Marks.{mark_trees, coded_mark};
     ghost use Rattle.gl_core.specs.Ledger.{written};
     ghost use Rattle.gl_core.specs.Table.{table_of, IsCore};
 
     ghost Value = { Held };
 
-    ghost coded = { Prim.hlevel (codes, coded_key, coded_outcome, coded_note) };
+    ghost coded = { Prim.hlevel (codes, coded_key, coded_outcome, coded_note, coded_mark) };
 
-    ghost view = { λ c. record { state = table_of c.ledger c.entries; seeds = c.seeds; notes = written c.ledger } };
+    ghost view = { λ c. record { state = table_of c.ledger c.entries; seeds = c.seeds; notes = written c.ledger; marks = mark_trees c.entries.marks.items } };
 
     ghost invariant = { λ c. IsCore c.ledger c.entries };
 }
@@ -99,6 +101,7 @@ fn seeded(alloc: Global, seeds: &[u32]) -> Result<Entries, NoMemory>
     ensures known { IfOk result (λ e. e.known.items ≡ seeds.now) }
     ensures idle { IfOk result (λ e. AreIdle e.statuses.items.items) }
     ensures passed { IfOk result (λ e. (q : ℕ) → slice_index e.passed.items q ≡ 0) }
+    ensures marks { IfOk result (λ e. TellNothing (mark_trees e.marks.items)) }
     ensures table { IfOk result IsTable }
 {
     let mut entries = Entries::new(alloc);
@@ -190,9 +193,10 @@ impl Core {
 
     /// Picks the i-th of the idle keys, in the order in which keys became known.
     ///
-    /// A key without a note is evaluated for one level, which is one step. A key with a note takes
-    /// none: it goes by the first of the note's reads that is not resolved. After `NoMemory` the
-    /// core is as before.
+    /// A key without a note is evaluated for one level, which is one step; but where it is known
+    /// what its last evaluation was reading, it takes none and waits for the next key of that,
+    /// unless one before has another outcome than a value. A key with a note takes none: it goes by
+    /// the first of the note's reads that is not resolved. After `NoMemory` the core is as before.
     pub fn pick<L: Watch>(
         &mut self,
         alloc: Global,
@@ -211,7 +215,8 @@ impl Core {
         ensures err { OnErr result (self.new ≡ self.old) }
         ensures seeds { seeds_of self.new ≡ seeds_of self.old }
         ensures stays { IsFor (version_tree version) (sheet cells.now) w.now self.new }
-        ensures counted { steps.new ≡ counted (is_noted (notes_in self.old)) (nth (idle_keys (state_of self.old)) i) steps.old }
+        ensures counted { AtMostCounted (is_noted (notes_in self.old)) (nth (idle_keys (state_of self.old)) i) steps.old steps.new }
+        ensures evaluated { IfOk result (λ picked. picked_tree picked ≡ Machine.Picked.Resolved → steps.new ≡ counted (is_noted (notes_in self.old)) (nth (idle_keys (state_of self.old)) i) steps.old) }
     {
         let p = self.entries.statuses.idle_place(i as u32);
         pick_at(

@@ -12,15 +12,15 @@ ghost use Rattle.gl_support.specs.Rows.{notes_of};
 ghost use Rattle.gl_demand.specs.declared.outcome.Outcome.{Outcome};
 ghost use Rattle.gl_core.specs.Numbers.{Each, numbers_of, AreNumbers, Grows};
 ghost use Rattle.gl_core.specs.Ledger.{written, IsLedger};
+ghost use Rattle.gl_core.specs.Marks.{mark_trees, TellNothing};
 ghost use Rattle.gl_core.specs.Table.{IsCore, AreBegun};
 ghost use Rattle.gl_core.specs.Resuming.{IsClosure, IsResumed};
 
-use crate::MAX_DEMANDED;
 use crate::answers::CoreFault;
 use crate::beginning::begun;
 use crate::entries::Entries;
 use crate::ledger::Ledger;
-use gl_demand::{Key, Outcome};
+use gl_demand::{Key, MAX_DEMANDED, Outcome};
 use gl_plane::{Addr, NoMemory, Range};
 use gl_support::{Row, wanted};
 use gl_value::Env;
@@ -137,6 +137,7 @@ pub fn resumed(alloc: Global, places: &[Addr], ledger: &mut Ledger) -> Result<En
         (λ e. IsResumed ledger.new (map (K.Cell V.Top) places.now) e.known.items) }
     ensures begun { IfOk result
         (λ e. AreBegun ledger.new.rows.items e.known.items e.statuses.items.items) }
+    ensures marks { IfOk result (λ e. TellNothing (mark_trees e.marks.items)) }
     ensures core { IfOk result (IsCore ledger.new) }
     ensures work { IfErr result (λ e. e ≡ CoreFault.Work
         → (known : List ℕ) × IsResumed ledger.new (map (K.Cell V.Top) places.now) known

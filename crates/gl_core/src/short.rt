@@ -53,14 +53,19 @@ pub fn find_short(interner: &Interner, key: &Key) -> Option<Short>
 }
 
 #[tactic(auto, using(gl_value::specs::Forms::trees))]
-fn make_cell(interner: &mut Interner, e: &Env, a: Addr) -> Result<Short, NoMemory>
+fn make_cell(
+    interner: &mut Interner,
+    e: &Env,
+    a: Addr,
+    parent: Option<u32>,
+) -> Result<Short, NoMemory>
     ensures short { IfOk result
         (λ s. short_in interner.new (K.Cell (frame_tree e.now) a) ≡ Some s) }
     ensures grows { IsGrown interner.old interner.new }
 {
     match e {
         Env::Top => Ok(Short::Top(a)),
-        Env::In(_, _) => match interner.frame(e) {
+        Env::In(_, _) => match interner.frame_within(e, parent) {
             Ok(n) => Ok(Short::In(n, a)),
             Err(e) => Err(e),
         },
@@ -68,14 +73,18 @@ fn make_cell(interner: &mut Interner, e: &Env, a: Addr) -> Result<Short, NoMemor
 }
 
 /// The short form of a key, whose frame or sheet value gets a number where it has none. It is one
-/// walk, whether or not it has one.
-pub fn short_form(interner: &mut Interner, key: &Key) -> Result<Short, NoMemory>
+/// step where the guessed number is that of its sheet value's parent frame, else one walk.
+pub fn short_form(
+    interner: &mut Interner,
+    key: &Key,
+    parent: Option<u32>,
+) -> Result<Short, NoMemory>
     ensures short { IfOk result (λ s. short_in interner.new (key_tree key.now) ≡ Some s) }
     ensures grows { IsGrown interner.old interner.new }
 {
     match key {
-        Key::Cell(e, a) => make_cell(interner, e, *a),
-        Key::Settle(s) => match interner.sheet(s) {
+        Key::Cell(e, a) => make_cell(interner, e, *a, parent),
+        Key::Settle(s) => match interner.sheet_within(s, parent) {
             Ok(n) => Ok(Short::Settle(n)),
             Err(e) => Err(e),
         },

@@ -19,7 +19,7 @@ struct Sheet {
     sees: &'static [(&'static str, Sight)],
 }
 
-const SHEETS: [Sheet; 10] = [
+const SHEETS: [Sheet; 12] = [
     Sheet {
         lines: &["set A1 =B1+1", "set B1 =C1+1", "set C1 =1"],
         seeds: &["A1", "B1", "C1"],
@@ -31,13 +31,46 @@ const SHEETS: [Sheet; 10] = [
             ("D1", Sight::NotDemanded),
         ],
     },
-    // a range is read cell by cell
+    // a range is read cell by cell: where its formula waits, it goes from one cell to the next
+    // without an evaluation
     Sheet {
         lines: &["set A1 =SUM(B1:B3)", "set B1 =1", "set B2 =2", "set B3 =3"],
         seeds: &["A1", "B1", "B2", "B3"],
         demanded: 4,
-        steps: [7, 4, 5],
+        steps: [5, 4, 5],
         sees: &[("A1", Sight::Number(6)), ("B3", Sight::Number(3))],
+    },
+    // it waits for the first that loops, and those behind it aren't demanded
+    Sheet {
+        lines: &[
+            "set A1 =SUM(B1:B4)",
+            "set B1 =1",
+            "set B2 =2",
+            "set B3 =B3",
+            "set B4 =4",
+        ],
+        seeds: &["A1"],
+        demanded: 4,
+        steps: [4, 4, 4],
+        sees: &[
+            ("A1", Sight::Loops),
+            ("B2", Sight::Number(2)),
+            ("B4", Sight::NotDemanded),
+        ],
+    },
+    // a range in a copy, and the round of the copy
+    Sheet {
+        lines: &[
+            "set A1 =VIEW(UPDATE(SHEET(B1:C3),B1,5),C1)",
+            "set B1 1",
+            "set B2 =B1+1",
+            "set B3 =B1+2",
+            "set C1 =SUM(B1:B3)",
+        ],
+        seeds: &["A1"],
+        demanded: 5,
+        steps: [8, 8, 8],
+        sees: &[("A1", Sight::Number(18)), ("C1", Sight::NotDemanded)],
     },
     // a ring, and a cell that demands it
     Sheet {

@@ -5,6 +5,7 @@ use Rattle.gl_core.proofs.Grown.{table_kept_grown, written_kept_grown, core_grow
 use Rattle.gl_core.proofs.Settling.{gone_core, gone_on}
 use Rattle.gl_core.proofs.Turns.{if_on, table_err, core_after, any_err, on_err}
 use Rattle.gl_core.proofs.Places.{if_ok}
+use Rattle.gl_core.proofs.Turns.{any_ok}
 use Rattle.gl_core.proofs.picking.go_on.Goals as goal
 
 pub returns-in_err-n-clause-notes : goal.returns-in_err-n-clause-notes
@@ -55,3 +56,6 @@ returns-clause-core c =
     core_after c.number.new.self e c.need.new.self c.need.result (core_grown l c.number.new.self e c.requires.core n.kept n.grows n.rows) c.need.ensures.table c.need.ensures.passed
     (if_ok c.need.result c.need.ensures.needs (λ picked need. gone_core l e c.requires.core c.number.new.self n.kept n.grows n.rows c.args.p c.in_ok-n.n (key_tree c.args.on) c.in_ok-n.ensures.number c.need.new.self c.need.ensures.table c.need.ensures.passed c.requires.idle k ek picked need))
     c.need.ensures.known_err c.need.ensures.err
+
+pub returns-clause-marks : goal.returns-clause-marks
+returns-clause-marks c = any_ok c.need.result c.need.ensures.marks

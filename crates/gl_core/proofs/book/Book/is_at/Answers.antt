@@ -16,4 +16,4 @@ returns-in-Some c t =
     let at : slice_get c.args.self.now c.args.n ≡ Some (key_tree c.args.key.now) = ap (λ (xs : List K.Key). slice_get xs c.args.n) (sym c.self.view_is) ∙ second_at key_tree es c.args.n ∙ ap (option_map (λ e. key_tree e.1)) (sym c.in-Some.ensures.entry) ∙ ap Some same in
     let h = get_within c.args.self.now c.args.n (key_tree c.args.key.now) at in
     let l : length c.args.self.now ≡ length (seconds (key_pairs es)) = ap (λ (xs : List K.Key). length xs) (sym c.self.view_is) in
-    (at, omega (arith, h, l, c.self.invariant.booked.few))
+    (at, omega (arith, h, l, c.self.invariant.0.booked.few))

@@ -1,4 +1,4 @@
-use Rattle.std.proofs.Common.{rules, [], ◌≡◌, ◌<◌, ◌^◌, length, ap, sym, subst, arith, ◌∙◌}
+use Rattle.std.proofs.Common.{rules, [], ◌≡◌, ◌⊎◌, ◌<◌, ◌^◌, length, ap, sym, subst, arith, ◌∙◌}
 use Rattle.gl_query.specs.Machine.{idle_keys, nth, pick}
 use Rattle.gl_query.specs.Costs.{answer_at}
 use Rattle.gl_query.specs.InOrder.{AreOrdered}
@@ -15,7 +15,7 @@ use Rattle.gl_core.specs.Answers.{picked_tree, counted}
 use Rattle.gl_core.proofs.Idle.{at_most_length}
 use Rattle.gl_core.proofs.Places.{on_ok, if_ok}
 use Rattle.gl_core.proofs.Cores.{idle_count, the_key_at}
-use Rattle.gl_core.proofs.Picks.{there, the_key, proper_there, outcomes_true, picked_state, picked_answer, picked_notes, picked_stays, picked_seeds, picked_order}
+use Rattle.gl_core.proofs.Picks.{there, the_key, proper_there, ahead_there, resolved_tree, outcomes_true, picked_state, picked_answer, picked_notes, picked_stays, picked_seeds, picked_order}
 use Rattle.gl_core.proofs.machine.Core.pick.Goals as goal
 
 pub idle_place-p-requires-clause-there : goal.idle_place-p-requires-clause-there
@@ -74,13 +74,29 @@ returns-clause-seeds g c =
 pub returns-clause-stays : goal.returns-clause-stays
 returns-clause-stays g c =
     let h = subst (IsFor (version_tree c.args.version) (sheet c.args.cells.now) c.args.w.now) (sym c.self.view_is) c.requires.for_it in
-    picked_stays (version_tree c.args.version) (sheet c.args.cells.now) c.args.w.now c.self.inside.ledger c.self.inside.entries c.self.inside.seeds h c.self.invariant c.args.i c.idle_place-p.result c.idle_place-p.ensures.before c.idle_place-p.ensures.idle c.pick_at.new.ledger c.pick_at.new.entries c.pick_at.result c.pick_at.ensures.state c.pick_at.ensures.answer c.pick_at.ensures.err
+    picked_stays (version_tree c.args.version) (sheet c.args.cells.now) c.args.w.now c.self.inside.ledger c.self.inside.entries c.self.inside.seeds h c.self.invariant c.args.i c.idle_place-p.result c.idle_place-p.ensures.before c.idle_place-p.ensures.idle c.pick_at.new.ledger c.pick_at.new.entries c.pick_at.result c.pick_at.ensures.state c.pick_at.ensures.answer c.pick_at.ensures.err c.pick_at.ensures.core c.pick_at.ensures.marks c.pick_at.ensures.marks_err
 
 pub returns-clause-counted : goal.returns-clause-counted
 returns-clause-counted g c =
     let h = subst (IsFor (version_tree c.args.version) (sheet c.args.cells.now) c.args.w.now) (sym c.self.view_is) c.requires.for_it in
     let (k, ek) = the_key_at c.self.inside.ledger c.self.inside.entries c.self.invariant c.idle_place-p.result (there (version_tree c.args.version) (sheet c.args.cells.now) c.args.w.now c.self.inside.ledger c.self.inside.entries c.self.inside.seeds h c.self.invariant c.args.i c.idle_place-p.result c.idle_place-p.ensures.before c.idle_place-p.ensures.idle) in
-    c.pick_at.ensures.counted k ek ∙ ap (λ v. counted (is_noted (written c.self.inside.ledger)) v c.args.steps.now) (sym (the_key (version_tree c.args.version) (sheet c.args.cells.now) c.args.w.now c.self.inside.ledger c.self.inside.entries c.self.inside.seeds h c.self.invariant c.args.i c.idle_place-p.result c.idle_place-p.ensures.before c.idle_place-p.ensures.idle k ek)) ∙ ap (λ (x : Held). counted (is_noted (notes_in x)) (nth (idle_keys (state_of x)) c.args.i) c.args.steps.now) c.self.view_is
+    let n = c.args.steps.now in
+    let m = c.pick_at.new.steps in
+    subst (λ (x : Held). (m ≡ n) ⊎ (m ≡ counted (is_noted (notes_in x)) (nth (idle_keys (state_of x)) c.args.i) n)) c.self.view_is
+    (subst (λ v. (m ≡ n) ⊎ (m ≡ counted (is_noted (written c.self.inside.ledger)) v n)) (sym (the_key (version_tree c.args.version) (sheet c.args.cells.now) c.args.w.now c.self.inside.ledger c.self.inside.entries c.self.inside.seeds h c.self.invariant c.args.i c.idle_place-p.result c.idle_place-p.ensures.before c.idle_place-p.ensures.idle k ek)) (c.pick_at.ensures.counted k ek))
+
+pub returns-clause-evaluated : goal.returns-clause-evaluated
+returns-clause-evaluated g c =
+    let h = subst (IsFor (version_tree c.args.version) (sheet c.args.cells.now) c.args.w.now) (sym c.self.view_is) c.requires.for_it in
+    let (k, ek) = the_key_at c.self.inside.ledger c.self.inside.entries c.self.invariant c.idle_place-p.result (there (version_tree c.args.version) (sheet c.args.cells.now) c.args.w.now c.self.inside.ledger c.self.inside.entries c.self.inside.seeds h c.self.invariant c.args.i c.idle_place-p.result c.idle_place-p.ensures.before c.idle_place-p.ensures.idle) in
+    let n = c.args.steps.now in
+    if_ok c.pick_at.result c.pick_at.ensures.evaluated (λ picked f e.
+    f k ek (resolved_tree picked e) ∙ ap (λ v. counted (is_noted (written c.self.inside.ledger)) v n) (sym (the_key (version_tree c.args.version) (sheet c.args.cells.now) c.args.w.now c.self.inside.ledger c.self.inside.entries c.self.inside.seeds h c.self.invariant c.args.i c.idle_place-p.result c.idle_place-p.ensures.before c.idle_place-p.ensures.idle k ek)) ∙ ap (λ (x : Held). counted (is_noted (notes_in x)) (nth (idle_keys (state_of x)) c.args.i) n) c.self.view_is)
+
+pub pick_at-requires-clause-ahead : goal.pick_at-requires-clause-ahead
+pick_at-requires-clause-ahead g c =
+    let h = subst (IsFor (version_tree c.args.version) (sheet c.args.cells.now) c.args.w.now) (sym c.self.view_is) c.requires.for_it in
+    ahead_there (version_tree c.args.version) (sheet c.args.cells.now) c.args.w.now c.self.inside.ledger c.self.inside.entries c.self.inside.seeds h c.self.invariant c.args.i c.idle_place-p.result c.idle_place-p.ensures.before c.idle_place-p.ensures.idle
 
 pub returns-clause-ordered : goal.returns-clause-ordered
 returns-clause-ordered g c o =

@@ -41,7 +41,7 @@ returns-in-Ok-clause-for_it c =
     let trues = subst (λ (ns : Notes). AreTrue same_key (program (version_tree c.args.version) (sheet c.args.cells.now) c.args.w.now) ns) (sym (c.resumed.ensures.notes ∙ c.into_ledger-ledger.ensures.notes)) c.requires.true_notes in
     let n : length c.args.places.now ≡ length seeds = sym (length-map (K.Cell Top) c.args.places.now) in
     subst (λ m. IsFor (version_tree c.args.version) (sheet c.args.cells.now) c.args.w.now (held l e m)) (sym n)
-    (for_resumed l e c.in-Ok.ensures.core seeds c.in-Ok.ensures.known c.in-Ok.ensures.begun (version_tree c.args.version) (sheet c.args.cells.now) c.args.w.now trues c.requires.proper)
+    (for_resumed l e c.in-Ok.ensures.core seeds c.in-Ok.ensures.known c.in-Ok.ensures.begun (version_tree c.args.version) (sheet c.args.cells.now) c.args.w.now trues c.requires.proper c.in-Ok.ensures.marks)
 
 pub returns-in-Err-clause-work : goal.returns-in-Err-clause-work
 returns-in-Err-clause-work c = λ e.

@@ -45,7 +45,7 @@ picks-smaller g c =
 pub picks-preserved : goal.picks-preserved
 picks-preserved g c =
     let l = subst (λ x. c.next-i.result < x) c.idle-n.ensures c.next-i.ensures.below in
-    run_goes (version_tree c.args.version) (sheet c.args.cells.now) c.args.w.now c.args.self c.picks.core c.args.steps.now c.picks.steps c.picks.invariant c.next-i.result l c.pick.new.self c.pick.new.steps _ c.in-Ok.ensures.state c.in-Ok.ensures.answer (c.is_full.ensures.other c.if-is_full.false) c.in-Ok.ensures.notes c.pick.ensures.stays c.pick.ensures.seeds c.pick.ensures.ordered c.pick.ensures.counted
+    run_goes (version_tree c.args.version) (sheet c.args.cells.now) c.args.w.now c.args.self c.picks.core c.args.steps.now c.picks.steps c.picks.invariant c.next-i.result l c.pick.new.self c.pick.new.steps _ c.in-Ok.ensures.state c.in-Ok.ensures.answer (c.is_full.ensures.other c.if-is_full.false) c.in-Ok.ensures.notes c.pick.ensures.stays c.pick.ensures.seeds c.pick.ensures.ordered c.pick.ensures.counted c.in-Ok.ensures.evaluated
 
 pub returns-then-n-eq0-clause-ordered : goal.returns-then-n-eq0-clause-ordered
 returns-then-n-eq0-clause-ordered g c o = subst (λ (x : Held). AreOrdered [] (notes_in x)) (sym c.into_quiet.ensures) (c.picks.invariant.ordered o)

@@ -4,7 +4,7 @@ use Rattle.gl_intern.proofs.Keys.{firsts_of}
 use Rattle.gl_intern.proofs.Pushing.{kept_pairs}
 use Rattle.gl_core.specs.contracts.short.ShortPartialEq.TheImpl.{ghosts as form}
 use Rattle.gl_core.proofs.Shorts.{form_equality}
-use Rattle.gl_core.proofs.book.place.Goals as goal
+use Rattle.gl_core.proofs.placing.place.Goals as goal
 
 pub push-requires-clause-new : goal.push-requires-clause-new
 push-requires-clause-new c = ap (position (form.eq c.args.short)) (firsts_of key_tree c.args.keys.now.entries) ∙ sym c.in-None.ensures.index

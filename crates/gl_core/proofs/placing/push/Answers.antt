@@ -4,7 +4,7 @@ use Rattle.gl_intern.specs.Numbered.{pairs, firsts}
 use Rattle.gl_intern.proofs.Pushing.{pushed_pairs, pushed_number}
 use Rattle.gl_core.specs.contracts.short.ShortPartialEq.TheImpl.{ghosts as form}
 use Rattle.gl_core.proofs.Shorts.{form_equality}
-use Rattle.gl_core.proofs.book.push.Goals as goal
+use Rattle.gl_core.proofs.placing.push.Goals as goal
 
 pub returns-in-Ok-clause-pairs : goal.returns-in-Ok-clause-pairs
 returns-in-Ok-clause-pairs c = ap (pairs key_tree) c.in-Ok.ensures.entries ∙ pushed_pairs form.eq form_equality key_tree c.args.keys.now.entries c.args.short c.args.key c.requires.new

@@ -1,0 +1,9 @@
+use Rattle.std.proofs.Common.{◌≡◌, length}
+use Rattle.gl_core.specs.Marks.{mark_trees, TellNothing}
+use Rattle.gl_core.proofs.beginning.no_marks.Given as goal
+
+abbrev pub invariant-loop : goal.invariant-loop
+invariant-loop l = record {
+  size : length l.marks.items ≡ l.counter;
+  nothing : TellNothing (mark_trees l.marks.items);
+}

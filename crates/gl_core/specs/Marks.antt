@@ -1,0 +1,65 @@
+-- What keys that wait will need next: what each was reading, and a place in it.
+use Rattle.std.specs.Prelude.{◌≡◌, ◌⊎◌, ℕ, List, map, slice_get, Option, Some}
+use Rattle.std.proofs.Common.{inl, inr, refl}
+use base.Stored.{Coded, coded_unit, coded⊎, coded×, coded_ℕ}
+use Rattle.std.specs.Coded.{code_by}
+use Rattle.gl_query.specs.Query.{Query}
+use Rattle.gl_calculus.specs.Grid.{Range}
+use Rattle.gl_calculus.specs.Formula.{Cells}
+use Rattle.gl_calculus.specs.Value.{Oracle, Frame}
+use Rattle.gl_calculus.specs.Codes.{coded_frame, coded_range}
+use Rattle.gl_calculus.specs.Key as K
+use Rattle.gl_ahead.specs.Ahead.{IsAhead}
+use Rattle.gl_ahead.specs.Demands.{is_value}
+use Rattle.gl_ahead.specs.Reading.{Ahead, Nothing, Area, Round, keys_from}
+use Rattle.gl_demand.specs.Reading.{ahead_tree}
+use Rattle.gl_core.specs.declared.mark.Mark.{Mark}
+
+-- what was being read, and the place from which on its keys are ahead
+abbrev pub PlainMark : Type 0
+PlainMark = Ahead × ℕ
+
+abbrev pub mark_tree : Mark → PlainMark
+mark_tree m = (ahead_tree m.ahead, m.place)
+
+abbrev pub mark_trees : List Mark → List PlainMark
+mark_trees ms = map mark_tree ms
+
+-- the keys from there on are ahead of the query, over these outcomes
+abbrev pub IsMark : Cells → Oracle → Query K.Key K.Outcome Range K.Outcome → (K.Key → Option K.Outcome) → PlainMark → Type 0
+IsMark S w q f m = IsAhead is_value q f (keys_from S w m.0 m.1)
+
+-- each mark is one that stood there, or tells nothing
+abbrev pub MarksStay : List PlainMark → List PlainMark → Type 0
+MarksStay old new = (q : ℕ) (m : PlainMark) → slice_get new q ≡ Some m → (slice_get old q ≡ Some m) ⊎ (m.0 ≡ Nothing)
+
+-- each mark is one that stood there, or tells nothing, or stands at this place and is right
+abbrev pub MarksBy : (PlainMark → Type 0) → ℕ → List PlainMark → List PlainMark → Type 0
+MarksBy IsRight p old new = (q : ℕ) (m : PlainMark) → slice_get new q ≡ Some m → (slice_get old q ≡ Some m) ⊎ (m.0 ≡ Nothing) ⊎ ((q ≡ p) × IsRight m)
+
+-- none of them tells anything
+abbrev pub TellNothing : List PlainMark → Type 0
+TellNothing ms = (q : ℕ) (m : PlainMark) → slice_get ms q ≡ Some m → m.0 ≡ Nothing
+
+-- ---- codes, by which values of models are told apart
+
+abbrev Parts : Type 0
+Parts = Unit {0} ⊎ (Frame × Range) ⊎ (Frame × Range)
+
+abbrev to_parts : Ahead → Parts
+to_parts Nothing = inl tt
+to_parts (Area e r) = inr (inl (e, r))
+to_parts (Round e r) = inr (inr (e, r))
+
+abbrev of_parts : Parts → Ahead
+of_parts (inl x) = Nothing
+of_parts (inr (inl x)) = Area x.0 x.1
+of_parts (inr (inr x)) = Round x.0 x.1
+
+pub back : (a : Ahead) → of_parts (to_parts a) ≡ a
+back Nothing = refl
+back (Area e r) = refl
+back (Round e r) = refl
+
+abbrev pub coded_mark : Coded PlainMark
+coded_mark = coded× (code_by Parts (coded⊎ coded_unit (coded⊎ (coded× coded_frame coded_range) (coded× coded_frame coded_range))) to_parts of_parts back) coded_ℕ
