@@ -1,0 +1,13 @@
+pub mod Shapes
+pub mod Places
+pub mod Pieces
+pub mod Contents
+pub mod Columns
+pub mod Grid
+pub mod Filling
+pub mod Rivals
+pub mod Network
+pub mod View
+pub mod Planning
+pub mod Plans
+pub mod Searching
