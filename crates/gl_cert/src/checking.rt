@@ -80,6 +80,7 @@ fn check_loops<L: Watch>(
         (says_so (cert_tree c.now).shown
         (says (sheet cells.now) w.now a (cert_tree c.now).notes (cert_tree c.now).loops))) }
     ensures steps { steps.new ≤ steps.old + length (cert_tree c.now).loops }
+    ensures later { steps.old ≤ steps.new }
 {
     let loops = key_set(alloc, &c.loops)?;
     match first_free(alloc, cells, w, &c.loops, &loops, notes, version, steps) {
@@ -105,6 +106,7 @@ fn verdict_on<L: Watch>(
         ≡ verdict (version_tree version) (sheet cells.now) w.now a (cert_tree c.now)) }
     ensures steps { steps.new ≤ steps.old
         + length (cert_tree c.now).notes + length (cert_tree c.now).loops }
+    ensures later { steps.old ≤ steps.new }
 {
     let mut notes = Notes::new(alloc);
     match first_stray(alloc, cells, w, &c.notes, &mut notes, version, steps) {
@@ -136,6 +138,7 @@ pub fn check<L: Watch>(
         → IsShown (version_tree version) (sheet cells.now) w.now a (cert_tree c.now).shown) }
     ensures steps { steps.new ≤ steps.old
         + length (cert_tree c.now).notes + length (cert_tree c.now).loops }
+    ensures later { steps.old ≤ steps.new }
 {
     verdict_on(alloc, cells, w, a, c, version, steps)
 }

@@ -78,6 +78,7 @@ fn key_waits<L: Watch>(
         (program (version_tree version) (sheet cells.now) w.now)
         (claims notes.now) (map key_tree loops.now.keys) (key_tree key.now)) }
     ensures steps { steps.new ≤ steps.old + 1 }
+    ensures later { steps.old ≤ steps.new }
 {
     if !is_proper(cells, key) {
         return Ok(false);
@@ -107,6 +108,7 @@ pub fn first_free<L: Watch>(
         (program (version_tree version) (sheet cells.now) w.now)
         (claims notes.now) (map key_tree loops.now.keys) (map key_tree list.now)) }
     ensures steps { steps.new ≤ steps.old + length list.now }
+    ensures later { steps.old ≤ steps.new }
 {
     for i in 0..list.len() {
         match key_waits(alloc, cells, w, &list[i], loops, notes, version, steps) {

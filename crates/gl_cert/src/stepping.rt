@@ -61,6 +61,7 @@ fn found_of(turn: Turn) -> Found
         found,
         reads: _,
         looked: _,
+        ahead: _,
     } = turn;
     found
 }

@@ -80,6 +80,7 @@ fn note_follows<L: Watch>(
     ensures noted { IfOk result (λ b. b ≡ true → claims notes.new
         ≡ claims notes.old ++ (key_tree key.now, outcome_tree outcome.now) ∷ []) }
     ensures steps { steps.new ≤ steps.old + 1 }
+    ensures later { steps.old ≤ steps.new }
 {
     if !is_proper(cells, key) {
         return Ok(false);
@@ -112,6 +113,7 @@ pub fn first_stray<L: Watch>(
         (program (version_tree version) (sheet cells.now) w.now) [] (claim_trees list.now)) }
     ensures noted { IfOk result (λ r. r ≡ None → claims notes.new ≡ claim_trees list.now) }
     ensures steps { steps.new ≤ steps.old + length list.now }
+    ensures later { steps.old ≤ steps.new }
 {
     for i in 0..list.len() {
         let (key, outcome) = &list[i];

@@ -1,3 +1,4 @@
 pub mod Tops
 pub mod Turns
 pub mod Endings
+pub mod Marks

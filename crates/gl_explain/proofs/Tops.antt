@@ -1,5 +1,5 @@
 -- The top of a stack.
-use Rattle.std.proofs.Common.{◌≡◌, ℕ, zero, suc, ◌-◌, List, [], ◌∷◌, ◌++◌, map, length, cond, Bool, true, false, nat_lt, ◌+◌, ◌≤◌, slice_get, Option, Some, None, IfSome, IsTrue, Bor, refl, sym, ap, subst, inl, inr, ◌∙◌, arith}
+use Rattle.std.proofs.Common.{◌≡◌, ℕ, zero, suc, ◌-◌, List, [], ◌∷◌, ◌++◌, map, length, cond, false, slice_get, Option, Some, None, IfSome, IsTrue, Bor, refl, sym, ap, subst, inl, inr, ◌∙◌, arith}
 use Rattle.std.specs.Option.{option_copied}
 use Rattle.gl_query.specs.Lists.{has_member}
 use Rattle.gl_calculus.specs.Key as K
@@ -7,7 +7,6 @@ use Rattle.gl_calculus.specs.Key.{same_key}
 use Rattle.gl_calculus.specs.Sound.{is_sound_key}
 use Rattle.gl_cert.proofs.Members.{any_member}
 use Rattle.indexmap.specs.IndexSet.{insert_key}
-use Rattle.gl_demand.specs.Steps.{one_more}
 use Rattle.gl_demand.specs.contracts.key.KeyPartialEq.TheImpl.{ghosts as key}
 use Rattle.gl_explanation.proofs.Going.{snoc_same}
 use Rattle.gl_demand.specs.Sound.{AreSoundKeys}
@@ -68,13 +67,6 @@ trees_length (k ∷ ks) = ap suc (trees_length ks)
 -- a key that isn't among those of a set goes last
 pub put_last : (ks : List Key) (k : Key) → has_member same_key (key_tree k) (map key_tree ks) ≡ false → map key_tree (insert_key key.eq ks k) ≡ map key_tree ks ++ key_tree k ∷ []
 put_last ks k h = ap (λ b. map key_tree (cond b ks (ks ++ k ∷ []))) (any_member ks k ∙ h) ∙ trees_both ks (k ∷ [])
-
-pub stepped : (n : ℕ) → one_more n ≤ n + 1
-stepped n = by (nat_lt n 18446744073709551615)
-  where
-    by : (b : Bool) → cond b (n + 1) n ≤ n + 1
-    by true = omega arith
-    by false = omega arith
 
 pub one_sound : (k : K.Key) → IsTrue (is_sound_key k) → AreSoundKeys (k ∷ [])
 one_sound k s j (inl e) = subst (λ y. IsTrue (is_sound_key y)) (sym e) s

@@ -22,6 +22,7 @@ use Rattle.gl_explanation.proofs.Judging.{test_proper}
 use Rattle.gl_explanation.proofs.Going as Go
 use Rattle.gl_explanation.proofs.Spending as Sp
 use Rattle.gl_explanation.proofs.Walks as Wa
+use Rattle.gl_explain.specs.Marks.{PlainMark}
 use Rattle.gl_explain.specs.Walking.{IsWalking, HasEnded, IsTurned, left}
 use Rattle.gl_explain.specs.Putting.{IsTakenOff, IsPutOn, there, full, on}
 use Rattle.gl_explain.specs.declared.turning.Turned.{Turned}
@@ -60,20 +61,20 @@ module _ (version : Version) (S : Cells) (w : Oracle) (root : Key) where
       record { fine = g.fine; so_far = Go.taken_off same_key same_outcome (is_proper S) max_demanded (program version S w) key_equality outcome_equality (λ k. asks_test S (asks_proper S w version k)) root g.fine n m l done us x.top o g.so_far (f x.top us x.off) b }))
 
   -- a turn where it lacks a key
-  pub on_turned : (n m l : ℕ) (done : List (Claim Key Outcome)) (up us vs : List Key) (k j : Key) (t : Turned) → Walking n m done up → up ≡ us ++ k ∷ [] → IsPutOn j done up t vs →
+  pub on_turned : (n m l : ℕ) (done : List (Claim Key Outcome)) (up us vs : List Key) (k j : Key) (a : PlainMark) (ms ns : List PlainMark) (t : Turned) → Walking n m done up → up ≡ us ++ k ∷ [] → IsPutOn j a done up ms t vs ns →
       found (noted same_key done) (program version S w k) ≡ Need j → l ≤ m + 1 → IsTurned version S w root n l done vs t
-  on_turned n m l done up us vs k j t h e p f b = by t vs p
+  on_turned n m l done up us vs k j a ms ns t h e p f b = by t vs ns p
     where
       g : Walking n m done (us ++ k ∷ [])
       g = subst (Walking n m done) e h
 
-      by : (t : Turned) (vs : List Key) → IsPutOn j done up t vs → IsTurned version S w root n l done vs t
-      by _ _ (there i) =
+      by : (t : Turned) (vs : List Key) (ns : List PlainMark) → IsPutOn j a done up ms t vs ns → IsTurned version S w root n l done vs t
+      by _ _ _ (there i) =
           let i' = subst (λ z. has_member same_key j z ≡ true) e i in
           let c = Go.circled same_key same_outcome (is_proper S) max_demanded (program version S w) key_equality outcome_equality (λ k. asks_test S (asks_proper S w version k)) root g.fine n m done us k j g.so_far f i' in
           subst (HasEnded version S w root n l done) (sym e)
           (record { walked = c; allows = Sp.circled_spent same_key same_outcome (is_proper S) max_demanded (program version S w) key_equality outcome_equality (λ k. asks_test S (asks_proper S w version k)) root g.fine n m l done us k g.so_far (ends_sound g.fine done (us ++ k ∷ []) c) b })
-      by _ _ (full i c) =
+      by _ _ _ (full i c) =
           let i' = subst (λ z. has_member same_key j z ≡ false) e i in
           let c' = subst (λ z. length done + length z ≡ max_demanded) e c in
           let (ks, d, q, each, most) = Sp.exhausted_spent same_key same_outcome (is_proper S) max_demanded (program version S w) key_equality outcome_equality (λ k. asks_test S (asks_proper S w version k)) root g.fine n m l done us k g.so_far c' b in
@@ -81,7 +82,7 @@ module _ (version : Version) (S : Cells) (w : Oracle) (root : Key) where
             walked = Go.exhausted same_key same_outcome (is_proper S) max_demanded (program version S w) key_equality outcome_equality (λ k. asks_test S (asks_proper S w version k)) root g.fine n m done us k j g.so_far f i' c';
             allows = record { keys = ks; distinct = d; few = q; each = λ x y. (each x y, refl); most = most };
           }
-      by _ _ (on i c) =
+      by _ _ _ (on i c) =
           let i' = subst (λ z. has_member same_key j z ≡ false) e i in
           let c' : length done + length (us ++ k ∷ []) ≡ max_demanded → ⊥ = λ z. c (ap (λ y. length done + length y) e ∙ z) in
           subst (λ z. Walking n l done (z ++ j ∷ [])) (sym e)
@@ -90,16 +91,16 @@ module _ (version : Version) (S : Cells) (w : Oracle) (root : Key) where
   walking_room : (n m : ℕ) (done : List (Claim Key Outcome)) (up : List Key) → Walking n m done up → length done + length up ≤ max_demanded
   walking_room n m done up h = omega (arith, h.so_far.room, ap length h.so_far.order, ap length h.so_far.stacked, length-reverse h.so_far.notes, length-reverse h.so_far.stack)
 
-  pub put_falls : (n m : ℕ) (done : List (Claim Key Outcome)) (up vs : List Key) (j : Key) (t : Turned) → Walking n m done up → IsPutOn j done up t vs → t ≡ On → left done vs < left done up
-  put_falls n m done up vs j t h p e = by t vs p e
+  pub put_falls : (n m : ℕ) (done : List (Claim Key Outcome)) (up vs : List Key) (j : Key) (a : PlainMark) (ms ns : List PlainMark) (t : Turned) → Walking n m done up → IsPutOn j a done up ms t vs ns → t ≡ On → left done vs < left done up
+  put_falls n m done up vs j a ms ns t h p e = by t vs ns p e
     where
-      by : (t : Turned) (vs : List Key) → IsPutOn j done up t vs → t ≡ On → left done vs < left done up
-      by _ _ (there i) e = absurd (cc e)
-      by _ _ (full i c) e = absurd (cc e)
-      by _ _ (on i c) e = omega (arith, c, walking_room n m done up h, length-append up (j ∷ []))
+      by : (t : Turned) (vs : List Key) (ns : List PlainMark) → IsPutOn j a done up ms t vs ns → t ≡ On → left done vs < left done up
+      by _ _ _ (there i) e = absurd (cc e)
+      by _ _ _ (full i c) e = absurd (cc e)
+      by _ _ _ (on i c) e = omega (arith, c, walking_room n m done up h, length-append up (j ∷ []))
 
 -- the keys on the stack stay sound
-pub put_sound : (done : List (Claim Key Outcome)) (up vs : List Key) (j : Key) (t : Turned) → IsPutOn j done up t vs → AreSoundKeys up → IsTrue (is_sound_key j) → AreSoundKeys vs
-put_sound done up _ j _ (there i) h s = h
-put_sound done up _ j _ (full i c) h s = h
-put_sound done up _ j _ (on i c) h s = more_sound up j h s
+pub put_sound : (done : List (Claim Key Outcome)) (up vs : List Key) (j : Key) (a : PlainMark) (ms ns : List PlainMark) (t : Turned) → IsPutOn j a done up ms t vs ns → AreSoundKeys up → IsTrue (is_sound_key j) → AreSoundKeys vs
+put_sound done up _ j a ms _ _ (there i) h s = h
+put_sound done up _ j a ms _ _ (full i c) h s = h
+put_sound done up _ j a ms _ _ (on i c) h s = more_sound up j h s

@@ -4,6 +4,8 @@ use Rattle.gl_query.specs.Lists.{has_member}
 use Rattle.gl_calculus.specs.Limits.{max_demanded}
 use Rattle.gl_calculus.specs.Key.{Key, Outcome, same_key}
 use Rattle.gl_explanation.specs.Walk.{Claim}
+use Rattle.gl_ahead.specs.Reading.{Nothing}
+use Rattle.gl_explain.specs.Marks.{PlainMark}
 use Rattle.gl_explain.specs.declared.turning.Turned.{Turned}
 use Rattle.gl_explain.specs.declared.turning.Turned.TheVariants.{On, Ended, Full}
 
@@ -18,8 +20,8 @@ pub record IsTakenOff (o : Outcome) (done : List (Claim Key Outcome)) (up : List
   pub off : up ≡ us ++ top ∷ []
   pub noted : more ≡ done ++ (top, o) ∷ []
 
--- a key is put on, or is there, or is one too many
-pub data IsPutOn (j : Key) (done : List (Claim Key Outcome)) (up : List Key) : Turned → List Key → Type 0 where
-  there : has_member same_key j up ≡ true → IsPutOn j done up Ended up
-  full : has_member same_key j up ≡ false → length done + length up ≡ max_demanded → IsPutOn j done up Full up
-  on : has_member same_key j up ≡ false → (length done + length up ≡ max_demanded → ⊥) → IsPutOn j done up On (up ++ j ∷ [])
+-- A key is put on, with a mark that tells nothing, and the one below it gets this mark; or it is there, or is one too many.
+pub data IsPutOn (j : Key) (m : PlainMark) (done : List (Claim Key Outcome)) (up : List Key) (ms : List PlainMark) : Turned → List Key → List PlainMark → Type 0 where
+  there : has_member same_key j up ≡ true → IsPutOn j m done up ms Ended up ms
+  full : has_member same_key j up ≡ false → length done + length up ≡ max_demanded → IsPutOn j m done up ms Full up ms
+  on : has_member same_key j up ≡ false → (length done + length up ≡ max_demanded → ⊥) → IsPutOn j m done up ms On (up ++ j ∷ []) ((ms ++ m ∷ []) ++ (Nothing, 0) ∷ [])

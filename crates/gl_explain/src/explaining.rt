@@ -1,5 +1,5 @@
 //! The explanation of an address.
-ghost use Rattle.std.specs.Prelude.{◌≡◌, ℕ, Some, None, map, IfOk};
+ghost use Rattle.std.specs.Prelude.{◌≡◌, ◌≤◌, ℕ, Some, None, map, IfOk};
 ghost use Rattle.gl_calculus.specs.Calculation as C;
 ghost use Rattle.gl_calculus.specs.Calculation.{IsAnswer};
 ghost use Rattle.gl_calculus.specs.Formula as F;
@@ -62,7 +62,8 @@ fn decided<L: Watch>(
     steps: &mut Steps<L>,
 ) -> Result<Explained, NoMemory>
     requires { key_at (sheet cells.now) w.now a ≡ Some (key_tree root.now) }
-    ensures { IfOk result (λ x. IsExplained (version_tree version) (sheet cells.now) w.now a steps.old steps.new (explained_tree x)) }
+    ensures explained { IfOk result (λ x. IsExplained (version_tree version) (sheet cells.now) w.now a steps.old steps.new (explained_tree x)) }
+    ensures later { steps.old ≤ steps.new }
 {
     match walk(alloc, cells, w, root, version, steps) {
         Ok(Walked::Ended(notes, loops)) => ended(alloc, cells, w, a, root, notes, loops),
@@ -91,7 +92,8 @@ fn explained<L: Watch>(
     version: Version,
     steps: &mut Steps<L>,
 ) -> Result<Explained, NoMemory>
-    ensures { IfOk result (λ x. IsExplained (version_tree version) (sheet cells.now) w.now a steps.old steps.new (explained_tree x)) }
+    ensures explained { IfOk result (λ x. IsExplained (version_tree version) (sheet cells.now) w.now a steps.old steps.new (explained_tree x)) }
+    ensures later { steps.old ≤ steps.new }
 {
     match key_at(cells, w, a) {
         Some(root) => decided(alloc, cells, w, a, &root, version, steps),
@@ -122,6 +124,7 @@ pub fn certificate<L: Watch>(
     ensures sound { IfOk result (λ x. (c : E.Certificate) → explained_tree x ≡ E.Cert c
         → AreSoundKeys (map (λ n. n.0) c.notes) × AreSoundKeys c.loops) }
     ensures steps { IfOk result (λ x. AllowsWalk (version_tree version) (sheet cells.now) w.now a (explained_tree x) steps.old steps.new) }
+    ensures later { steps.old ≤ steps.new }
 {
     // For its clause that the sheet is in order.
     let _formulas = cells.formulas();

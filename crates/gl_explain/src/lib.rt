@@ -4,11 +4,10 @@
 mod ending;
 mod explained;
 mod explaining;
+mod mark;
+mod reading;
 mod turning;
 mod walking;
 
 pub use explained::Explained;
 pub use explaining::certificate;
-
-/// The most keys that one walk goes through.
-pub const MAX_DEMANDED: usize = 500_000;

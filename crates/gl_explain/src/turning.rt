@@ -1,7 +1,6 @@
 //! One turn of a walk.
-ghost use Rattle.std.specs.Prelude.{◌≡◌, ◌<◌, ◌≤◌, ◌+◌, ℕ, List, [], ◌∷◌, ◌++◌, None, map, IsTrue, IfOk, IfSome, IfNone};
-ghost use Rattle.gl_query.specs.Query.{Ready, Need, found};
-ghost use Rattle.gl_calculus.specs.Evaluation.{program};
+ghost use Rattle.std.specs.Prelude.{◌≡◌, ◌≤◌, ◌<◌, ◌++◌, ◌∷◌, ℕ, [], None, map, length, IsTrue, IfOk, IfSome, IfNone};
+ghost use Rattle.gl_query.specs.Query.{Ready};
 ghost use Rattle.gl_calculus.specs.Key as K;
 ghost use Rattle.gl_calculus.specs.Key.{same_key};
 ghost use Rattle.gl_calculus.specs.Sound.{is_sound_key};
@@ -9,17 +8,19 @@ ghost use Rattle.gl_explanation.specs.Walk.{noted};
 ghost use Rattle.gl_ast.specs.View.{version_tree};
 ghost use Rattle.gl_cells.specs.Sheet.{sheet};
 ghost use Rattle.gl_demand.specs.Sound.{AreSoundKeys, IsSoundFound};
-ghost use Rattle.gl_demand.specs.View.{key_tree, outcome_tree, found_tree};
+ghost use Rattle.gl_demand.specs.View.{key_tree, outcome_tree};
 ghost use Rattle.gl_cert.specs.Notes.{claims};
+ghost use Rattle.gl_explain.specs.Marks.{mark_tree, mark_trees, AreMarks};
 ghost use Rattle.gl_explain.specs.Walking.{IsWalking, IsTurned, left};
 ghost use Rattle.gl_explain.specs.declared.turning.Turned.TheVariants.{On};
 ghost use Rattle.gl_explain.specs.Putting.{IsTop, IsTakenOff, IsPutOn};
 
-use crate::MAX_DEMANDED;
+use crate::mark::Mark;
+use crate::reading::{Reached, read_on};
 use gl_ast::Version;
 use gl_cells::Cells;
-use gl_cert::{Notes, is_among, level};
-use gl_demand::{Found, Key, Outcome, Steps, Watch};
+use gl_cert::{Notes, is_among};
+use gl_demand::{Key, MAX_DEMANDED, Outcome, Steps, Watch};
 use gl_plane::{NoMemory, Oracle};
 use indexmap::IndexSet;
 use std::alloc::Global;
@@ -41,6 +42,17 @@ fn top(stack: &IndexSet<Key>) -> Option<&Key>
     stack.last()
 }
 
+/// Takes off the mark of the top.
+fn take_mark(marks: &mut Vec<Mark>) -> Mark
+    requires { 0 < length marks.old.items }
+    ensures { mark_trees marks.old.items ≡ mark_trees marks.new.items ++ mark_tree result ∷ [] }
+{
+    match marks.pop() {
+        Some(mark) => mark,
+        None => unreachable!(),
+    }
+}
+
 /// Takes the top off, and notes its outcome.
 fn take_off(
     notes: &mut Notes,
@@ -59,10 +71,18 @@ fn take_off(
     Ok(Turned::On)
 }
 
-/// Puts a key on, unless it is there, or one more would be too many.
-fn put_on(notes: &Notes, stack: &mut IndexSet<Key>, key: Key) -> Result<Turned, NoMemory>
-    ensures put { IfOk result (λ t. IsPutOn (key_tree key) (claims notes.now) (map key_tree stack.old.keys)
-        t (map key_tree stack.new.keys)) }
+/// Puts a key on, unless it is there, or one more would be too many. The one below it has this mark
+/// from now on.
+fn put_on(
+    notes: &Notes,
+    stack: &mut IndexSet<Key>,
+    marks: &mut Vec<Mark>,
+    key: Key,
+    mark: Mark,
+) -> Result<Turned, NoMemory>
+    ensures put { IfOk result (λ t. IsPutOn (key_tree key) (mark_tree mark) (claims notes.now)
+        (map key_tree stack.old.keys) (mark_trees marks.old.items)
+        t (map key_tree stack.new.keys) (mark_trees marks.new.items)) }
 {
     if is_among(stack, &key) {
         return Ok(Turned::Ended);
@@ -71,6 +91,8 @@ fn put_on(notes: &Notes, stack: &mut IndexSet<Key>, key: Key) -> Result<Turned, 
         return Ok(Turned::Full);
     }
     stack.insert(key)?;
+    marks.push(mark)?;
+    marks.push(Mark::none())?;
     Ok(Turned::On)
 }
 
@@ -81,24 +103,33 @@ pub fn turn<L: Watch>(
     w: &Oracle,
     notes: &mut Notes,
     stack: &mut IndexSet<Key>,
+    marks: &mut Vec<Mark>,
     version: Version,
     steps: &mut Steps<L>,
 ) -> Result<Turned, NoMemory>
     requires walking { (root : K.Key) × (n : ℕ) × IsWalking (version_tree version) (sheet cells.now) w.now root n steps.old (claims notes.old) (map key_tree stack.old.keys) }
     requires sound { AreSoundKeys (map key_tree stack.old.keys) }
+    requires marks { AreMarks (version_tree version) (sheet cells.now) w.now (claims notes.old)
+        (map key_tree stack.old.keys) (mark_trees marks.old.items) }
     ensures turned { IfOk result (λ t. (root : K.Key) (n : ℕ)
         → IsWalking (version_tree version) (sheet cells.now) w.now root n steps.old (claims notes.old) (map key_tree stack.old.keys)
         → IsTurned (version_tree version) (sheet cells.now) w.now root n steps.new (claims notes.new) (map key_tree stack.new.keys) t) }
     ensures falls { IfOk result (λ t. t ≡ On → left (claims notes.new) (map key_tree stack.new.keys)
         < left (claims notes.old) (map key_tree stack.old.keys)) }
     ensures sound { IfOk result (λ _. AreSoundKeys (map key_tree stack.new.keys)) }
+    ensures marks { IfOk result (λ t. t ≡ On → AreMarks (version_tree version) (sheet cells.now) w.now
+        (claims notes.new) (map key_tree stack.new.keys) (mark_trees marks.new.items)) }
+    ensures later { steps.old ≤ steps.new }
 {
     match top(stack) {
-        Some(key) => match level(alloc, cells, w, key, notes, version, steps) {
-            Ok(Found::Ready(outcome)) => take_off(notes, stack, outcome),
-            Ok(Found::Need(key)) => put_on(notes, stack, key),
-            Err(NoMemory) => Err(NoMemory),
-        },
+        Some(key) => {
+            let mark = take_mark(marks);
+            match read_on(alloc, cells, w, key, mark, notes, version, steps) {
+                Ok(Reached::Ready(outcome)) => take_off(notes, stack, outcome),
+                Ok(Reached::Need(key, mark)) => put_on(notes, stack, marks, key, mark),
+                Err(NoMemory) => Err(NoMemory),
+            }
+        }
         None => Ok(Turned::Ended),
     }
 }

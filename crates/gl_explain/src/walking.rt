@@ -1,12 +1,15 @@
 //! The walk from a key.
-ghost use Rattle.std.specs.Prelude.{◌≡◌, ℕ, [], ◌∷◌, map, true, IsTrue, IfOk};
+ghost use Rattle.std.specs.Prelude.{◌≡◌, ◌≤◌, ℕ, [], ◌∷◌, map, true, IsTrue, IfOk};
 ghost use Rattle.gl_calculus.specs.Sound.{is_sound_key};
 ghost use Rattle.gl_explanation.specs.Certificate.{is_proper};
 ghost use Rattle.gl_ast.specs.View.{version_tree};
 ghost use Rattle.gl_cells.specs.Sheet.{sheet};
 ghost use Rattle.gl_demand.specs.View.{key_tree};
+ghost use Rattle.gl_ahead.specs.Reading.{Nothing};
+ghost use Rattle.gl_explain.specs.Marks.{mark_trees};
 ghost use Rattle.gl_explain.specs.Walked.{IsFound};
 
+use crate::mark::Mark;
 use crate::turning::{Turned, turn};
 use gl_ast::Version;
 use gl_cells::Cells;
@@ -36,6 +39,17 @@ fn stack_of(alloc: Global, root: &Key) -> Result<IndexSet<Key>, NoMemory>
     }
 }
 
+/// The mark of that key, which was not evaluated yet.
+fn marks_of(alloc: Global) -> Result<Vec<Mark>, NoMemory>
+    ensures { IfOk result (λ m. mark_trees m.items ≡ (Nothing, 0) ∷ []) }
+{
+    let mut marks = Vec::new(alloc);
+    match marks.push(Mark::none()) {
+        Ok(()) => Ok(marks),
+        Err(_) => Err(NoMemory),
+    }
+}
+
 /// The walk from a key.
 pub fn walk<L: Watch>(
     alloc: Global,
@@ -47,12 +61,16 @@ pub fn walk<L: Watch>(
 ) -> Result<Walked, NoMemory>
     requires sound { IsTrue (is_sound_key (key_tree root.now)) }
     requires proper { is_proper (sheet cells.now) (key_tree root.now) ≡ true }
-    ensures { IfOk result (λ x. IsFound (version_tree version) (sheet cells.now) w.now (key_tree root.now) steps.old steps.new x) }
+    ensures found { IfOk result (λ x. IsFound (version_tree version) (sheet cells.now) w.now (key_tree root.now) steps.old steps.new x) }
+    ensures later { steps.old ≤ steps.new }
 {
     let mut stack = stack_of(alloc, root)?;
+    let mut marks = marks_of(alloc)?;
     let mut notes = Notes::new(alloc);
     'turns: loop {
-        match turn(alloc, cells, w, &mut notes, &mut stack, version, steps) {
+        match turn(
+            alloc, cells, w, &mut notes, &mut stack, &mut marks, version, steps,
+        ) {
             Ok(Turned::On) => {}
             Ok(Turned::Ended) => return Ok(Walked::Ended(notes, stack)),
             Ok(Turned::Full) => return Ok(Walked::Full),

@@ -47,4 +47,5 @@ loop-i-preserved g c =
     record {
       passed = subst (λ ns. Passed same_key same_outcome (is_proper S) P key_equality all ns rest (i + 1)) (sym (c.in-Ok-true.ensures.noted c.in-Ok-true.field-0-test)) more;
       steps = omega (arith, c.loop-i.invariant.steps, c.note_follows.ensures.steps);
+      later = omega (arith, c.loop-i.invariant.later, c.note_follows.ensures.later);
     }

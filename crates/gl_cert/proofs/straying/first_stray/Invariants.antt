@@ -15,4 +15,5 @@ abbrev pub invariant-loop-i : goal.invariant-loop-i
 invariant-loop-i g l = record {
   passed : Passed same_key same_outcome (is_proper (sheet l.cells)) (program (version_tree l.version) (sheet l.cells) l.w) key_equality (claim_trees l.list) (claims l.notes) (claim_trees (drop l.i l.list)) l.i;
   steps : l.steps ≤ l.fn.steps + l.i;
+  later : l.fn.steps ≤ l.steps;
 }

@@ -21,7 +21,7 @@ returns-clause-accepted g c =
     (λ x. IsExplained v S w a c.args.steps.now c.explained.new.steps (explained_tree x))
     (λ x. (t : E.Certificate) → explained_tree x ≡ E.Cert t → verdict v S w a t ≡ E.Accepted)
     (λ x h t e. walk_accepted v S w a t (subst (Explains v S w a) e h.explains))
-    c.explained.ensures
+    c.explained.ensures.explained
 
 pub returns-clause-certified : goal.returns-clause-certified
 returns-clause-certified g c =
@@ -33,4 +33,4 @@ returns-clause-certified g c =
     (λ x. IsExplained v S w a c.args.steps.now c.explained.new.steps (explained_tree x))
     (λ x. (i : ℕ) → IsAnswer v S (C.Settled w i) → (t : E.Certificate) × (explained_tree x ≡ E.Cert t))
     (λ x h i s. settled_certifies v S w i a (explained_tree x) c.formulas-formulas.ensures.ordered s h.explains)
-    c.explained.ensures
+    c.explained.ensures.explained

@@ -1,11 +1,13 @@
-use Rattle.std.proofs.Common.{◌≡◌, ◌+◌, false, length, map, sym, subst, ap, ◌∙◌, arith}
+use Rattle.std.proofs.Common.{◌≡◌, ◌+◌, [], ◌∷◌, ◌++◌, false, length, map, sym, subst, ap, ◌∙◌, arith}
 use Rattle.gl_query.specs.Lists.{has_member}
 use Rattle.gl_calculus.specs.Limits.{max_demanded}
 use Rattle.gl_calculus.specs.Key.{same_key}
 use Rattle.gl_demand.specs.View.{key_tree}
 use Rattle.gl_cert.specs.Notes.{claims}
+use Rattle.gl_explain.specs.Marks.{mark_tree, mark_trees}
 use Rattle.gl_explain.specs.Putting.{IsPutOn, there, full, on}
 use Rattle.gl_explain.specs.declared.turning.Turned.TheVariants.{On}
+use Rattle.gl_explain.proofs.Marks.{two_pushed}
 use Rattle.gl_explain.proofs.Tops.{trees_length, put_last}
 use Rattle.gl_explain.proofs.turning.put_on.Goals as goal
 
@@ -19,7 +21,13 @@ returns-then-len-eq-MAX_DEMANDED c =
 
 pub returns : goal.returns
 returns c =
-    let off : has_member same_key (key_tree c.args.key) (map key_tree c.args.stack.now.keys) ≡ false = sym c.is_among.ensures ∙ c.if-is_among.false in
-    let few : length (claims c.args.notes.now) + length (map key_tree c.args.stack.now.keys) ≡ max_demanded → ⊥ = λ e. omega (arith, e, c.len.ensures.count, c.len-2.ensures.len, c.if-len-eq-MAX_DEMANDED.false, trees_length c.args.stack.now.keys) in
+    let j = key_tree c.args.key in
+    let m = mark_tree c.args.mark in
+    let done = claims c.args.notes.now in
+    let up = map key_tree c.args.stack.now.keys in
+    let ms = mark_trees c.args.marks.now.items in
+    let off : has_member same_key j up ≡ false = sym c.is_among.ensures ∙ c.if-is_among.false in
+    let few : length done + length up ≡ max_demanded → ⊥ = λ e. omega (arith, e, c.len.ensures.count, c.len-2.ensures.len, c.if-len-eq-MAX_DEMANDED.false, trees_length c.args.stack.now.keys) in
     let last = ap (map key_tree) c.in_ok-insert.ensures.keys ∙ put_last c.args.stack.now.keys c.args.key off in
-    record { put = subst (IsPutOn (key_tree c.args.key) (claims c.args.notes.now) (map key_tree c.args.stack.now.keys) On) (sym last) (on off few) }
+    let both = two_pushed c.args.marks.now.items c.push.new.self.items c.push-2.new.self.items c.args.mark c.none.result c.in_ok-push.ensures.items c.in_ok-push-2.ensures.items c.none.ensures in
+    record { put = subst (λ us. IsPutOn j m done up ms On us (mark_trees c.push-2.new.self.items)) (sym last) (subst (IsPutOn j m done up ms On (up ++ j ∷ [])) (sym both) (on off few)) }

@@ -9,20 +9,22 @@ use Rattle.gl_explanation.specs.Walk.{noted}
 use Rattle.gl_ast.specs.View.{version_tree}
 use Rattle.gl_cells.specs.Sheet.{sheet}
 use Rattle.gl_demand.specs.Sound.{AreSoundKeys, IsSoundFound}
-use Rattle.gl_demand.specs.View.{key_tree, outcome_tree, found_tree}
+use Rattle.gl_demand.specs.View.{key_tree, outcome_tree}
 use Rattle.gl_cert.specs.Notes.{claims}
+use Rattle.gl_explain.specs.Marks.{mark_tree, mark_trees, reached_tree, IsMark, IsMarked, AreMarks}
 use Rattle.gl_explain.specs.Walking.{IsWalking, HasEnded, IsTurned, left}
 use Rattle.gl_explain.specs.Putting.{IsTakenOff, IsPutOn}
 use Rattle.gl_explain.specs.declared.turning.Turned.TheVariants.{On}
-use Rattle.gl_explain.proofs.Tops.{trees_top, top_sound, below_sound, one_top, stepped}
+use Rattle.gl_explain.proofs.Tops.{trees_top, top_sound, below_sound, one_top}
 use Rattle.gl_explain.proofs.Turns.{top_free, top_proper, off_turned, on_turned, end_empty, put_falls, put_sound}
+use Rattle.gl_explain.proofs.Marks.{some_mark, below_marked, off_marks, on_marks}
 use Rattle.gl_explain.proofs.turning.turn.Goals as goal
 
-pub level-requires-clause-sound : goal.level-requires-clause-sound
-level-requires-clause-sound g c = top_sound c.args.stack.now.keys c.in-Some.key.now c.requires.sound c.in-Some.ensures.some
+pub read_on-requires-clause-sound : goal.read_on-requires-clause-sound
+read_on-requires-clause-sound g c = top_sound c.args.stack.now.keys c.in-Some.key.now c.requires.sound c.in-Some.ensures.some
 
-pub level-requires-clause-proper : goal.level-requires-clause-proper
-level-requires-clause-proper g c =
+pub read_on-requires-clause-proper : goal.read_on-requires-clause-proper
+read_on-requires-clause-proper g c =
     let v = version_tree c.args.version in
     let S = sheet c.args.cells.now in
     let w = c.args.w.now in
@@ -35,6 +37,32 @@ level-requires-clause-proper g c =
     let e = trees_top c.args.stack.now.keys below k d in
     let (root, n, h) = c.requires.walking in
     top_proper v S w root n m done us (key_tree k) (subst (IsWalking v S w root n m done) e h)
+
+pub take_mark-mark-requires : goal.take_mark-mark-requires
+take_mark-mark-requires g c =
+    let v = version_tree c.args.version in
+    let S = sheet c.args.cells.now in
+    let w = c.args.w.now in
+    let done = claims c.args.notes.now in
+    let up = map key_tree c.args.stack.now.keys in
+    let k = c.in-Some.key.now in
+    let (below, d) = c.in-Some.ensures.some in
+    let us = map key_tree below in
+    let e = trees_top c.args.stack.now.keys below k d in
+    some_mark (IsMark v S w done) up us (key_tree k) c.args.marks.now.items e c.requires.marks
+
+pub read_on-requires-clause-mark : goal.read_on-requires-clause-mark
+read_on-requires-clause-mark g c =
+    let v = version_tree c.args.version in
+    let S = sheet c.args.cells.now in
+    let w = c.args.w.now in
+    let done = claims c.args.notes.now in
+    let up = map key_tree c.args.stack.now.keys in
+    let k = c.in-Some.key.now in
+    let (below, d) = c.in-Some.ensures.some in
+    let us = map key_tree below in
+    let e = trees_top c.args.stack.now.keys below k d in
+    (below_marked (IsMark v S w done) up us (key_tree k) (mark_trees c.args.marks.now.items) (mark_trees c.take_mark-mark.new.marks.items) (mark_tree c.take_mark-mark.result) e c.take_mark-mark.ensures c.requires.marks).1
 
 pub take_off-requires-clause-top : goal.take_off-requires-clause-top
 take_off-requires-clause-top g c = λ j t.
@@ -50,7 +78,7 @@ take_off-requires-clause-top g c = λ j t.
     let e = trees_top c.args.stack.now.keys below k d in
     let (root, n, h) = c.requires.walking in
     let o = outcome_tree c.in-Ok-Ready.outcome in
-    let f : IsSoundFound (key_tree k) (Ready o) = subst (λ f. IsSoundFound (key_tree k) (found_tree f)) c.in-Ok-Ready.field-0-is c.in-Ok-Ready.ensures.sound in
+    let f : IsSoundFound (key_tree k) (Ready o) = subst (λ f. IsSoundFound (key_tree k) (reached_tree f)) c.in-Ok-Ready.field-0-is c.in-Ok-Ready.ensures.sound in
     subst (λ x. (noted same_key done (key_tree x) ≡ None) × IsTrue (is_sound_key (key_tree x)) × IsSoundFound (key_tree x) (Ready o)) (one_top c.args.stack.now.keys k j (below, d) t)
     (top_free v S w root n m done us (key_tree k) (subst (IsWalking v S w root n m done) e h), top_sound c.args.stack.now.keys k c.requires.sound (below, d), f)
 
@@ -69,9 +97,9 @@ returns-in-Ok-Ready-clause-turned g c =
     let o = outcome_tree c.in-Ok-Ready.outcome in
     let more = claims c.take_off.new.notes in
     let vs = map key_tree c.take_off.new.stack.keys in
-    let l = c.level.new.steps in
-    let le : l ≤ m + 1 = subst (λ x. x ≤ m + 1) (sym c.level.ensures.counted) (stepped m) in
-    let f : found (noted same_key done) (program v S w (key_tree k)) ≡ Ready o = sym c.in-Ok-Ready.ensures.found ∙ ap found_tree c.in-Ok-Ready.field-0-is in
+    let l = c.read_on.new.steps in
+    let le : l ≤ m + 1 = c.read_on.ensures.steps in
+    let f : found (noted same_key done) (program v S w (key_tree k)) ≡ Ready o = sym c.in-Ok-Ready.ensures.found ∙ ap reached_tree c.in-Ok-Ready.field-0-is in
     IfOk-weaker c.take_off.result (λ t. IsTakenOff o done up t more vs) (λ t. (root : K.Key) (n : ℕ) → IsWalking v S w root n m done up → IsTurned v S w root n l more vs t)
     (λ t x root n h. off_turned v S w root n m l done more up vs o t h x (λ j us' q. subst (λ y. found (noted same_key done) (program v S w y) ≡ Ready o) (one_top up (key_tree k) j (us, e) (us', q)) f) le)
     c.take_off.ensures.taken
@@ -84,6 +112,24 @@ returns-in-Ok-Ready-clause-sound g c =
     let more = claims c.take_off.new.notes in
     let vs = map key_tree c.take_off.new.stack.keys in
     IfOk-weaker c.take_off.result (λ t. IsTakenOff o done up t more vs) (λ t. AreSoundKeys vs) (λ t x. below_sound up vs x.top c.requires.sound x.off) c.take_off.ensures.taken
+
+pub returns-in-Ok-Ready-clause-marks : goal.returns-in-Ok-Ready-clause-marks
+returns-in-Ok-Ready-clause-marks g c =
+    let v = version_tree c.args.version in
+    let S = sheet c.args.cells.now in
+    let w = c.args.w.now in
+    let done = claims c.args.notes.now in
+    let up = map key_tree c.args.stack.now.keys in
+    let k = c.in-Some.key.now in
+    let (below, d) = c.in-Some.ensures.some in
+    let us = map key_tree below in
+    let e = trees_top c.args.stack.now.keys below k d in
+    let o = outcome_tree c.in-Ok-Ready.outcome in
+    let more = claims c.take_off.new.notes in
+    let vs = map key_tree c.take_off.new.stack.keys in
+    let ns = mark_trees c.take_mark-mark.new.marks.items in
+    let h = (below_marked (IsMark v S w done) up us (key_tree k) (mark_trees c.args.marks.now.items) ns (mark_tree c.take_mark-mark.result) e c.take_mark-mark.ensures c.requires.marks).0 in
+    IfOk-weaker c.take_off.result (λ t. IsTakenOff o done up t more vs) (λ t. t ≡ On → AreMarks v S w more vs ns) (λ t x q. off_marks v S w o done more up us vs (key_tree k) t ns x e h) c.take_off.ensures.taken
 
 pub returns-in-Ok-Need-clause-turned : goal.returns-in-Ok-Need-clause-turned
 returns-in-Ok-Need-clause-turned g c =
@@ -99,11 +145,14 @@ returns-in-Ok-Need-clause-turned g c =
     let e = trees_top c.args.stack.now.keys below k d in
     let j = key_tree c.in-Ok-Need.key in
     let vs = map key_tree c.put_on.new.stack.keys in
-    let l = c.level.new.steps in
-    let le : l ≤ m + 1 = subst (λ x. x ≤ m + 1) (sym c.level.ensures.counted) (stepped m) in
-    let f : found (noted same_key done) (program v S w (key_tree k)) ≡ Need j = sym c.in-Ok-Need.ensures.found ∙ ap found_tree c.in-Ok-Need.field-0-is in
-    IfOk-weaker c.put_on.result (λ t. IsPutOn j done up t vs) (λ t. (root : K.Key) (n : ℕ) → IsWalking v S w root n m done up → IsTurned v S w root n l done vs t)
-    (λ t x root n h. on_turned v S w root n m l done up us vs (key_tree k) j t h e x f le)
+    let a = mark_tree c.in-Ok-Need.mark in
+    let ms = mark_trees c.take_mark-mark.new.marks.items in
+    let ns = mark_trees c.put_on.new.marks.items in
+    let l = c.read_on.new.steps in
+    let le : l ≤ m + 1 = c.read_on.ensures.steps in
+    let f : found (noted same_key done) (program v S w (key_tree k)) ≡ Need j = sym c.in-Ok-Need.ensures.found ∙ ap reached_tree c.in-Ok-Need.field-0-is in
+    IfOk-weaker c.put_on.result (λ t. IsPutOn j a done up ms t vs ns) (λ t. (root : K.Key) (n : ℕ) → IsWalking v S w root n m done up → IsTurned v S w root n l done vs t)
+    (λ t x root n h. on_turned v S w root n m l done up us vs (key_tree k) j a ms ns t h e x f le)
     c.put_on.ensures.put
 
 pub returns-in-Ok-Need-clause-falls : goal.returns-in-Ok-Need-clause-falls
@@ -115,8 +164,11 @@ returns-in-Ok-Need-clause-falls g c =
     let up = map key_tree c.args.stack.now.keys in
     let j = key_tree c.in-Ok-Need.key in
     let vs = map key_tree c.put_on.new.stack.keys in
+    let a = mark_tree c.in-Ok-Need.mark in
+    let ms = mark_trees c.take_mark-mark.new.marks.items in
+    let ns = mark_trees c.put_on.new.marks.items in
     let (root, n, h) = c.requires.walking in
-    IfOk-weaker c.put_on.result (λ t. IsPutOn j done up t vs) (λ t. t ≡ On → left done vs < left done up) (λ t x. put_falls v S w root n c.args.steps.now done up vs j t h x) c.put_on.ensures.put
+    IfOk-weaker c.put_on.result (λ t. IsPutOn j a done up ms t vs ns) (λ t. t ≡ On → left done vs < left done up) (λ t x. put_falls v S w root n c.args.steps.now done up vs j a ms ns t h x) c.put_on.ensures.put
 
 pub returns-in-Ok-Need-clause-sound : goal.returns-in-Ok-Need-clause-sound
 returns-in-Ok-Need-clause-sound g c =
@@ -124,8 +176,31 @@ returns-in-Ok-Need-clause-sound g c =
     let up = map key_tree c.args.stack.now.keys in
     let j = key_tree c.in-Ok-Need.key in
     let vs = map key_tree c.put_on.new.stack.keys in
-    let s : IsTrue (is_sound_key j) = subst (λ f. IsSoundFound (key_tree c.in-Some.key.now) (found_tree f)) c.in-Ok-Need.field-0-is c.in-Ok-Need.ensures.sound in
-    IfOk-weaker c.put_on.result (λ t. IsPutOn j done up t vs) (λ t. AreSoundKeys vs) (λ t x. put_sound done up vs j t x c.requires.sound s) c.put_on.ensures.put
+    let a = mark_tree c.in-Ok-Need.mark in
+    let ms = mark_trees c.take_mark-mark.new.marks.items in
+    let ns = mark_trees c.put_on.new.marks.items in
+    let s : IsTrue (is_sound_key j) = subst (λ f. IsSoundFound (key_tree c.in-Some.key.now) (reached_tree f)) c.in-Ok-Need.field-0-is c.in-Ok-Need.ensures.sound in
+    IfOk-weaker c.put_on.result (λ t. IsPutOn j a done up ms t vs ns) (λ t. AreSoundKeys vs) (λ t x. put_sound done up vs j a ms ns t x c.requires.sound s) c.put_on.ensures.put
+
+pub returns-in-Ok-Need-clause-marks : goal.returns-in-Ok-Need-clause-marks
+returns-in-Ok-Need-clause-marks g c =
+    let v = version_tree c.args.version in
+    let S = sheet c.args.cells.now in
+    let w = c.args.w.now in
+    let done = claims c.args.notes.now in
+    let up = map key_tree c.args.stack.now.keys in
+    let k = c.in-Some.key.now in
+    let (below, d) = c.in-Some.ensures.some in
+    let us = map key_tree below in
+    let e = trees_top c.args.stack.now.keys below k d in
+    let j = key_tree c.in-Ok-Need.key in
+    let vs = map key_tree c.put_on.new.stack.keys in
+    let a = mark_tree c.in-Ok-Need.mark in
+    let ms = mark_trees c.take_mark-mark.new.marks.items in
+    let ns = mark_trees c.put_on.new.marks.items in
+    let h = (below_marked (IsMark v S w done) up us (key_tree k) (mark_trees c.args.marks.now.items) ms (mark_tree c.take_mark-mark.result) e c.take_mark-mark.ensures c.requires.marks).0 in
+    let i : IsMark v S w done (key_tree k) a = subst (IsMarked (IsMark v S w done (key_tree k))) c.in-Ok-Need.field-0-is c.in-Ok-Need.ensures.mark in
+    IfOk-weaker c.put_on.result (λ t. IsPutOn j a done up ms t vs ns) (λ t. t ≡ On → AreMarks v S w done vs ns) (λ t x q. on_marks v S w done up us vs (key_tree k) j a ms ns t x e h i q) c.put_on.ensures.put
 
 pub returns-in-None-clause-turned : goal.returns-in-None-clause-turned
 returns-in-None-clause-turned g c = λ root n h.

@@ -1,11 +1,13 @@
-use Rattle.std.proofs.Common.{map, [], sym, subst}
+use Rattle.std.proofs.Common.{map, [], ◌∷◌, sym, subst, arith}
 use Rattle.gl_ast.specs.View.{version_tree}
 use Rattle.gl_cells.specs.Sheet.{sheet}
 use Rattle.gl_demand.specs.Sound.{AreSoundKeys}
 use Rattle.gl_demand.specs.View.{key_tree}
 use Rattle.gl_cert.specs.Notes.{claims}
+use Rattle.gl_explain.specs.Marks.{mark_trees, AreMarks}
 use Rattle.gl_explain.specs.Walking.{IsWalking, IsTurned}
 use Rattle.gl_explain.proofs.Tops.{one_sound}
+use Rattle.gl_explain.proofs.Marks.{nothing_marks}
 use Rattle.gl_explain.proofs.Turns.{begin_walk}
 use Rattle.gl_explain.proofs.walking.walk.Goals as goal
 
@@ -19,6 +21,9 @@ turns-init g c =
     record {
       walking = subst (λ d. IsWalking v S w r n n d (map key_tree c.in_ok-stack.stack.keys)) (sym c.new-notes.ensures) (subst (λ u. IsWalking v S w r n n [] u) (sym c.in_ok-stack.ensures) (begin_walk v S w r n c.requires.proper));
       sound = subst AreSoundKeys (sym c.in_ok-stack.ensures) (one_sound r c.requires.sound);
+      marks = subst (λ u. AreMarks v S w (claims c.new-notes.result) u (mark_trees c.in_ok-marks.marks.items)) (sym c.in_ok-stack.ensures)
+          (subst (AreMarks v S w (claims c.new-notes.result) (r ∷ [])) (sym c.in_ok-marks.ensures) (nothing_marks v S w (claims c.new-notes.result) r, tt));
+      later = omega arith;
     }
 
 pub turn-requires-clause-walking : goal.turn-requires-clause-walking
@@ -31,14 +36,16 @@ pub turns-preserved : goal.turns-preserved
 turns-preserved g c = record {
   walking = subst (IsTurned (version_tree c.args.version) (sheet c.args.cells.now) c.args.w.now (key_tree c.args.root.now) c.args.steps.now c.turn.new.steps (claims c.turn.new.notes) (map key_tree c.turn.new.stack.keys)) c.in-Ok-On.field-0-is (c.in-Ok-On.ensures.turned (key_tree c.args.root.now) c.args.steps.now c.turns.invariant.walking);
   sound = c.in-Ok-On.ensures.sound;
+  marks = c.in-Ok-On.ensures.marks c.in-Ok-On.field-0-is;
+  later = omega (arith, c.turns.invariant.later, c.turn.ensures.later);
 }
 
-pub returns-in-Ok-Ended : goal.returns-in-Ok-Ended
-returns-in-Ok-Ended g c = (
+pub returns-in-Ok-Ended-clause-found : goal.returns-in-Ok-Ended-clause-found
+returns-in-Ok-Ended-clause-found g c = (
   subst (IsTurned (version_tree c.args.version) (sheet c.args.cells.now) c.args.w.now (key_tree c.args.root.now) c.args.steps.now c.turn.new.steps (claims c.turn.new.notes) (map key_tree c.turn.new.stack.keys)) c.in-Ok-Ended.field-0-is (c.in-Ok-Ended.ensures.turned (key_tree c.args.root.now) c.args.steps.now c.turns.invariant.walking),
   c.in-Ok-Ended.ensures.sound,
 )
 
-pub returns-in-Ok-Full : goal.returns-in-Ok-Full
-returns-in-Ok-Full g c =
+pub returns-in-Ok-Full-clause-found : goal.returns-in-Ok-Full-clause-found
+returns-in-Ok-Full-clause-found g c =
     subst (IsTurned (version_tree c.args.version) (sheet c.args.cells.now) c.args.w.now (key_tree c.args.root.now) c.args.steps.now c.turn.new.steps (claims c.turn.new.notes) (map key_tree c.turn.new.stack.keys)) c.in-Ok-Full.field-0-is (c.in-Ok-Full.ensures.turned (key_tree c.args.root.now) c.args.steps.now c.turns.invariant.walking)

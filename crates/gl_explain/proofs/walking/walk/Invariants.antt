@@ -1,9 +1,10 @@
-use Rattle.std.proofs.Common.{map}
+use Rattle.std.proofs.Common.{◌≤◌, map}
 use Rattle.gl_ast.specs.View.{version_tree}
 use Rattle.gl_cells.specs.Sheet.{sheet}
 use Rattle.gl_demand.specs.Sound.{AreSoundKeys}
 use Rattle.gl_demand.specs.View.{key_tree}
 use Rattle.gl_cert.specs.Notes.{claims}
+use Rattle.gl_explain.specs.Marks.{mark_trees, AreMarks}
 use Rattle.gl_explain.specs.Walking.{IsWalking, left}
 use Rattle.gl_explain.proofs.walking.walk.Given as goal
 
@@ -14,4 +15,6 @@ abbrev pub invariant-turns : goal.invariant-turns
 invariant-turns g l = record {
   walking : IsWalking (version_tree l.version) (sheet l.cells) l.w (key_tree l.root) l.fn.steps l.steps (claims l.notes) (map key_tree l.stack.keys);
   sound : AreSoundKeys (map key_tree l.stack.keys);
+  marks : AreMarks (version_tree l.version) (sheet l.cells) l.w (claims l.notes) (map key_tree l.stack.keys) (mark_trees l.marks.items);
+  later : l.fn.steps ≤ l.steps;
 }

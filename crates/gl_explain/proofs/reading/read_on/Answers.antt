@@ -1,0 +1,25 @@
+use Rattle.std.proofs.Common.{◌≡◌, sym, subst}
+use Rattle.gl_calculus.specs.Key.{same_key}
+use Rattle.gl_explanation.specs.Walk.{noted}
+use Rattle.gl_ast.specs.View.{version_tree}
+use Rattle.gl_cells.specs.Sheet.{sheet}
+use Rattle.gl_ahead.specs.Reading.{keys_from}
+use Rattle.gl_demand.specs.Lacking.{IsNext}
+use Rattle.gl_demand.specs.Reading.{ahead_tree}
+use Rattle.gl_demand.specs.View.{key_tree}
+use Rattle.gl_cert.specs.Notes.{claims}
+use Rattle.gl_explain.specs.Marks.{mark_tree, IsMark}
+use Rattle.gl_explain.proofs.Marks.{marked_still, mark_onward}
+use Rattle.gl_explain.proofs.reading.read_on.Goals as goal
+
+pub returns-in-Ok-Some-clause-mark : goal.returns-in-Ok-Some-clause-mark
+returns-in-Ok-Some-clause-mark g c =
+    let v = version_tree c.args.version in
+    let S = sheet c.args.cells.now in
+    let w = c.args.w.now in
+    let done = claims c.args.notes.now in
+    let k = key_tree c.args.key.now in
+    let m = mark_tree c.args.mark in
+    let x = c.in-Ok-Some.lacked in
+    let is = subst (IsNext (noted same_key done) (keys_from S w m.0) m.1) c.in-Ok-Some.field-0-is c.in-Ok-Some.ensures in
+    marked_still (λ n. n ≡ (ahead_tree c.args.mark.ahead, x.place)) (IsMark v S w done k) (λ n e. subst (IsMark v S w done k) (sym e) (mark_onward v S w done k m x.place is.1 c.requires.mark)) c.by_mark.result c.by_mark.ensures.mark

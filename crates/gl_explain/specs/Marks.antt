@@ -1,0 +1,51 @@
+-- What keys that wait will need next: what each was reading, and a place in it.
+use Rattle.std.specs.Prelude.{ℕ, List, [], ◌∷◌, map}
+use Rattle.gl_query.specs.Query.{Found, Ready, Need}
+use Rattle.gl_calculus.specs.Formula.{Version, Cells}
+use Rattle.gl_calculus.specs.Value.{Oracle}
+use Rattle.gl_calculus.specs.Key as K
+use Rattle.gl_calculus.specs.Key.{same_key}
+use Rattle.gl_calculus.specs.Evaluation.{program}
+use Rattle.gl_explanation.specs.Walk.{Claim, noted}
+use Rattle.gl_ahead.specs.Ahead.{IsAhead}
+use Rattle.gl_ahead.specs.Demands.{is_value}
+use Rattle.gl_ahead.specs.Reading.{Ahead, keys_from}
+use Rattle.gl_demand.specs.Reading.{ahead_tree}
+use Rattle.gl_demand.specs.View.{key_tree, outcome_tree}
+use Rattle.gl_explain.specs.declared.mark.Mark.{Mark}
+use Rattle.gl_explain.specs.declared.reading.Reached.{Reached}
+
+-- what was being read, and the place from which on its keys are ahead
+abbrev pub PlainMark : Type 0
+PlainMark = Ahead × ℕ
+
+abbrev pub mark_tree : Mark → PlainMark
+mark_tree m = (ahead_tree m.ahead, m.place)
+
+abbrev pub mark_trees : List Mark → List PlainMark
+mark_trees ms = map mark_tree ms
+
+-- the keys from there on are ahead of the key, over these notes
+abbrev pub IsMark : Version → Cells → Oracle → List (Claim K.Key K.Outcome) → K.Key → PlainMark → Type 0
+IsMark version S w done k m = IsAhead is_value (program version S w k) (noted same_key done) (keys_from S w m.0 m.1)
+
+-- each key has a mark, in the same order
+abbrev pub AreMarked : (K.Key → PlainMark → Type 0) → List K.Key → List PlainMark → Type 0
+AreMarked Is [] [] = Unit {0}
+AreMarked Is (k ∷ ks) (m ∷ ms) = Is k m × AreMarked Is ks ms
+AreMarked Is ks ms = ⊥
+
+-- each key of the stack has a mark of its own
+abbrev pub AreMarks : Version → Cells → Oracle → List (Claim K.Key K.Outcome) → List K.Key → List PlainMark → Type 0
+AreMarks version S w done up ms = AreMarked (IsMark version S w done) up ms
+
+-- ---- what a key comes to
+
+abbrev pub reached_tree : Reached → Found K.Key K.Outcome
+reached_tree (Reached.Ready o) = Ready (outcome_tree o)
+reached_tree (Reached.Need k m) = Need (key_tree k)
+
+-- where it needs a key, its mark is such a one
+abbrev pub IsMarked : (PlainMark → Type 0) → Reached → Type 0
+IsMarked Is (Reached.Ready o) = Unit {0}
+IsMarked Is (Reached.Need k m) = Is (mark_tree m)

@@ -1,0 +1,45 @@
+//! What a key that waits will need next.
+ghost use Rattle.std.specs.Prelude.{◌≡◌};
+ghost use Rattle.gl_ahead.specs.Reading.{Nothing};
+ghost use Rattle.gl_demand.specs.Reading.{ahead_tree};
+ghost use Rattle.gl_explain.specs.Marks.{mark_tree};
+
+use gl_demand::Ahead;
+
+/// What the last evaluation of a key was reading where it stopped, and the place in it from which
+/// on its keys may still be without note.
+pub struct Mark {
+    pub ahead: Ahead,
+    pub place: u32,
+}
+
+// One call wherever it is dropped, in place of one for each part.
+impl Drop for Mark {
+    fn drop(self) {
+        let Mark { ahead: _, place: _ } = self;
+    }
+}
+
+impl Mark {
+    /// Nothing is known of what is needed next.
+    pub fn none() -> Mark
+        ensures { mark_tree result ≡ (Nothing, 0) }
+    {
+        Mark::at_start(Ahead::Nothing)
+    }
+
+    /// What is being read, from its start on.
+    pub fn at_start(ahead: Ahead) -> Mark
+        ensures { mark_tree result ≡ (ahead_tree ahead, 0) }
+    {
+        Mark { ahead, place: 0 }
+    }
+
+    /// The same from another place on.
+    pub fn moved(self, place: u32) -> Mark
+        ensures { mark_tree result ≡ (ahead_tree self.ahead, place) }
+    {
+        let Mark { ahead, place: _ } = self;
+        Mark { ahead, place }
+    }
+}

@@ -1,0 +1,192 @@
+//! What is said of certificates of which something was changed.
+use crate::parts::Claimed::{Number, Of, Own};
+use crate::parts::{Claimed, Parts, of_parts};
+use crate::settings::{Setting, found, verdict_on};
+use gl_ast::Version;
+use gl_cert::Verdict;
+use gl_demand::{Silent, Steps};
+use gl_plane::{Oracle, Permit};
+use std::test::Fail;
+use tests_common::{one_entry, sheet_of};
+
+/// The notes, the loops and what is shown of a certificate that is made of the parts of the one found,
+/// and what is said of it.
+type Change = (
+    &'static [(usize, Claimed)],
+    &'static [&'static str],
+    Option<i64>,
+    Verdict,
+);
+
+/// Of two notes: of an array, and of a sum that reads its second element.
+const CHANGED_NOTES: [Change; 11] = [
+    (&[(0, Own), (1, Own)], &[], None, Verdict::Accepted),
+    (
+        &[(0, Own), (1, Number(4))],
+        &[],
+        None,
+        Verdict::Note { at: 1 },
+    ),
+    (
+        &[(0, Number(1)), (1, Own)],
+        &[],
+        None,
+        Verdict::Note { at: 0 },
+    ),
+    (&[(1, Own), (0, Own)], &[], None, Verdict::Note { at: 0 }),
+    (
+        &[(0, Own), (0, Own), (1, Own)],
+        &[],
+        None,
+        Verdict::Note { at: 1 },
+    ),
+    (
+        &[(0, Own), (1, Own), (1, Own)],
+        &[],
+        None,
+        Verdict::Note { at: 2 },
+    ),
+    (&[(0, Own), (1, Own)], &[], Some(4), Verdict::Wrong),
+    (&[(0, Own)], &[], None, Verdict::Wrong),
+    (&[], &[], None, Verdict::Wrong),
+    (&[(1, Own)], &[], Some(4), Verdict::Note { at: 0 }),
+    // a key that has an outcome waits for none
+    (
+        &[(0, Own), (1, Own)],
+        &["B1"],
+        None,
+        Verdict::Loop { at: 0 },
+    ),
+];
+
+/// Of three notes: of a cell of a copy, of the copy, and of a cell that views it.
+const CHANGED_COPIES: [Change; 5] = [
+    (
+        &[(0, Own), (1, Own), (2, Own)],
+        &[],
+        None,
+        Verdict::Accepted,
+    ),
+    (
+        &[(0, Own), (1, Of(0)), (2, Own)],
+        &[],
+        None,
+        Verdict::Note { at: 1 },
+    ),
+    (
+        &[(0, Of(1)), (1, Own), (2, Own)],
+        &[],
+        None,
+        Verdict::Note { at: 0 },
+    ),
+    (
+        &[(1, Own), (0, Own), (2, Own)],
+        &[],
+        None,
+        Verdict::Note { at: 0 },
+    ),
+    (&[(0, Own), (2, Own)], &[], None, Verdict::Note { at: 1 }),
+];
+
+/// Of three loops: of a formula that reads the second, which waits for the third, and that for it.
+const CHANGED_LOOPS: [Change; 13] = [
+    (&[], &["C1", "A1", "B1"], None, Verdict::Accepted),
+    (&[], &["C1", "A1"], None, Verdict::Loop { at: 1 }),
+    (&[], &["C1", "B1"], None, Verdict::Loop { at: 0 }),
+    (&[], &["C1"], None, Verdict::Loop { at: 0 }),
+    (&[], &["B1", "A1", "C1"], None, Verdict::Accepted),
+    (&[], &["C1", "A1", "B1", "A1"], None, Verdict::Accepted),
+    (
+        &[],
+        &["C1", "A1", "B1", "D1", "E1"],
+        None,
+        Verdict::Accepted,
+    ),
+    (&[], &["A1", "B1"], None, Verdict::Wrong),
+    (&[], &[], None, Verdict::Wrong),
+    (&[], &["C1", "A1", "B1"], Some(7), Verdict::Wrong),
+    (&[], &["C1", "A1"], Some(7), Verdict::Loop { at: 1 }),
+    // an address without formula, and a formula that waits for none
+    (&[], &["A1", "B1", "Z9"], None, Verdict::Loop { at: 2 }),
+    (&[], &["A1", "B1", "F1"], None, Verdict::Loop { at: 2 }),
+];
+
+/// What is said of the changed certificate of an address.
+fn said(at: Setting<'_>, name: &str, change: &Change) -> Result<Verdict, Fail> {
+    let whole = found(at, name, &mut Steps::new(Silent))?;
+    let parts = Parts {
+        notes: change.0,
+        loops: change.1,
+        shown: change.2,
+    };
+    let changed = of_parts(at.alloc, &whole, &parts)?;
+    verdict_on(at, name, &changed, &mut Steps::new(Silent))
+}
+
+#[test]
+fn changed_notes(rt: HostRuntime) -> Result<(), Fail> {
+    let alloc = rt.alloc();
+    let cells = sheet_of(alloc, &["set A1 =SEQUENCE(2,1)", "set B1 =A2+1"])?;
+    let w = one_entry(alloc, "A1", 2, 1, Permit::Permitted)?;
+    let at = Setting {
+        alloc,
+        cells: &cells,
+        w: &w,
+        version: Version::One,
+    };
+    for (i, change) in CHANGED_NOTES.iter().enumerate() {
+        assert_eq!(rt; said(at, "B1", change)?, change.3, "row {i}");
+    }
+    Ok(())
+}
+
+#[test]
+fn changed_copies(rt: HostRuntime) -> Result<(), Fail> {
+    let alloc = rt.alloc();
+    let cells = sheet_of(
+        alloc,
+        &[
+            "set A1 1",
+            "set B1 =A1+1",
+            "set C1 =VIEW(UPDATE(SHEET(A1:B1),A1,5),B1)",
+        ],
+    )?;
+    let w = Oracle::new(alloc);
+    let at = Setting {
+        alloc,
+        cells: &cells,
+        w: &w,
+        version: Version::One,
+    };
+    for (i, change) in CHANGED_COPIES.iter().enumerate() {
+        assert_eq!(rt; said(at, "C1", change)?, change.3, "row {i}");
+    }
+    Ok(())
+}
+
+#[test]
+fn changed_loops(rt: HostRuntime) -> Result<(), Fail> {
+    let alloc = rt.alloc();
+    let cells = sheet_of(
+        alloc,
+        &[
+            "set A1 =B1",
+            "set B1 =A1",
+            "set C1 =IFERROR(A1,7)",
+            "set D1 =E1",
+            "set E1 =D1",
+            "set F1 =1",
+        ],
+    )?;
+    let w = Oracle::new(alloc);
+    let at = Setting {
+        alloc,
+        cells: &cells,
+        w: &w,
+        version: Version::One,
+    };
+    for (i, change) in CHANGED_LOOPS.iter().enumerate() {
+        assert_eq!(rt; said(at, "C1", change)?, change.3, "row {i}");
+    }
+    Ok(())
+}

@@ -1,0 +1,92 @@
+//! Certificates of addresses, and the verdicts on them.
+ghost use Rattle.std.specs.Prelude.{IsTrue, map};
+ghost use Rattle.gl_demand.specs.Sound.{AreSoundKeys};
+ghost use Rattle.gl_demand.specs.View.{key_tree};
+ghost use Rattle.gl_cert.specs.Claims.{claim_trees};
+
+use gl_ast::Version;
+use gl_cells::Cells;
+use gl_cert::{Cert, Verdict, check};
+use gl_demand::{Key, Outcome, Silent, Steps};
+use gl_explain::{Explained, certificate};
+use gl_plane::Oracle;
+use std::alloc::Global;
+use std::test::Fail;
+use tests_common::address;
+
+/// What certificates go by: the sheet, the oracle and the version.
+#[derive(Clone, Copy)]
+pub struct Setting<'a> {
+    pub alloc: Global,
+    pub cells: &'a Cells,
+    pub w: &'a Oracle,
+    pub version: Version,
+}
+
+/// What explains an address.
+pub fn explained(
+    at: Setting<'_>,
+    name: &str,
+    steps: &mut Steps<Silent>,
+) -> Result<Explained, Fail> {
+    let a = address(name)?;
+    match certificate(at.alloc, at.cells, at.w, a, at.version, steps) {
+        Ok(x) => Ok(x),
+        Err(e) => Err(e.into()),
+    }
+}
+
+/// The certificate of an address.
+pub fn found(at: Setting<'_>, name: &str, steps: &mut Steps<Silent>) -> Result<Cert, Fail> {
+    match explained(at, name, steps)? {
+        Explained::Cert(c) => Ok(c),
+        Explained::Work => Err("too much work".into()),
+        Explained::Aborts(_) => Err("a spent budget".into()),
+    }
+}
+
+/// Whether all keys are sound.
+fn are_sound(keys: &[Key]) -> bool
+    ensures { IsTrue result → AreSoundKeys (map key_tree keys.now) }
+{
+    let Some((first, rest)) = keys.split_first() else {
+        return true;
+    };
+    if !first.is_sound() {
+        return false;
+    }
+    are_sound(rest)
+}
+
+/// Whether the keys of all notes are sound.
+fn are_of_sound_keys(notes: &[(Key, Outcome)]) -> bool
+    ensures { IsTrue result → AreSoundKeys (map (λ n. n.0) (claim_trees notes.now)) }
+{
+    let Some((first, rest)) = notes.split_first() else {
+        return true;
+    };
+    if !first.0.is_sound() {
+        return false;
+    }
+    are_of_sound_keys(rest)
+}
+
+/// The verdict on a certificate of an address.
+pub fn verdict_on(
+    at: Setting<'_>,
+    name: &str,
+    c: &Cert,
+    steps: &mut Steps<Silent>,
+) -> Result<Verdict, Fail> {
+    let a = address(name)?;
+    if !are_of_sound_keys(&c.notes) {
+        return Err("a note of a key that is not sound".into());
+    }
+    if !are_sound(&c.loops) {
+        return Err("a loop that is not sound".into());
+    }
+    match check(at.alloc, at.cells, at.w, a, c, at.version, steps) {
+        Ok(verdict) => Ok(verdict),
+        Err(e) => Err(e.into()),
+    }
+}
