@@ -94,6 +94,7 @@ words_set l u h C.ReadsWords.quit = tt
 words_set l u h C.ReadsWords.export = tt
 words_set l u h C.ReadsWords.undo = tt
 words_set l u h C.ReadsWords.redo = tt
+words_set l u h C.ReadsWords.flow = tt
 words_set l u h C.ReadsWords.site = tt
 words_set l u h (C.ReadsWords.edit {t = t} {n = n} {place = place} {text = o} k b r) = (b, text_proper r (text_of_edit l t n place o h u))
 words_set l u h (C.ReadsWords.edit_fault a k b r) = tt
@@ -113,6 +114,8 @@ words_set l u h (C.ReadsWords.get k) = tt
 words_set l u h (C.ReadsWords.get_place n) = tt
 words_set l u h (C.ReadsWords.why_of k) = tt
 words_set l u h (C.ReadsWords.why_place n) = tt
+words_set l u h (C.ReadsWords.explain k) = tt
+words_set l u h (C.ReadsWords.explain_place n) = tt
 words_set l u h (C.ReadsWords.payload k) = tt
 
 line_set : {l : Bytes} {x : Read Request} → ReadsLine l x → IfSet x

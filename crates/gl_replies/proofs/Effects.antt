@@ -12,6 +12,8 @@ use Rattle.gl_protocol.specs.Framing.{Item, Line, Import, Long, Truncated}
 use Rattle.gl_protocol.specs.Tables.{line, export_text}
 use Rattle.gl_protocol.specs.Commands as C
 use Rattle.gl_protocol.specs.Commands.{Read, Is, Not, Word, AddressWord, LineWord, TruncatedWord, SiteWord, Request, ReadsLine, ImportWords, words_of, IsAddress, NoAddress, with_contents, allowed, imported, without_mark, error_line, spent_line, ok_line, get_text, list_text, SettledReply, asks_calculation}
+use Rattle.gl_forecast.specs.Forecast.{Forecast, IsForecast}
+use Rattle.gl_protocol.specs.Explanations.{forecast_line}
 use Rattle.gl_protocol.specs.Script.{Script, edited, settings, is_change, change, register_of, merge}
 use Rattle.gl_protocol.specs.Acts as T
 use Rattle.gl_protocol.specs.Acts.{Does, Acts}
@@ -43,7 +45,7 @@ abbrev pub export_effect : Script → Option Replica → Effect
 export_effect s (Some r) = (s, export_text r.registers)
 export_effect s None = refused s SiteWord
 
--- of a request that asks for no calculation, and brings no edit of another replica
+-- of a request that asks for no calculation and no forecast, and brings no edit of another replica
 abbrev pub effect : Version → Script → Request → Effect
 effect version s (C.Request.Set a c) = of_read s (change s (C.Request.Set a c))
 effect version s (C.Request.Clear r) = of_read s (change s (C.Request.Clear r))
@@ -56,14 +58,20 @@ effect version s C.Request.Export = export_effect s s.replica
 effect version s C.Request.Quit = (s, line (codes "bye"))
 effect version s x = (s, [])
 
--- the edit that a request brings
-abbrev pub brought : Request → Option Edit
-brought (C.Request.Merge e) = Some e
-brought x = None
+-- what a request has its effect by: the state alone, what the edit that it brings is to its register, or the forecast
+pub data Cause : Type 0 where
+  State Forecasted : Cause
+  Brought : Edit → Cause
 
-abbrev pub LeavesBy : Version → Script → Request → Script → Bytes → Option Edit → Type 0
-LeavesBy version s x s' r (Some e) = (j : Judged) × IsJudged (register_of s e.place) e j × AreBoth s' r (of_read s (merge s e j))
-LeavesBy version s x s' r None = AreBoth s' r (effect version s x)
+abbrev pub cause : Request → Cause
+cause (C.Request.Merge e) = Brought e
+cause C.Request.Flow = Forecasted
+cause x = State
+
+abbrev pub LeavesBy : Version → Script → Request → Script → Bytes → Cause → Type 0
+LeavesBy version s x s' r State = AreBoth s' r (effect version s x)
+LeavesBy version s x s' r Forecasted = (s' ≡ s) × (f : Forecast) × IsForecast s.sheet f × (r ≡ forecast_line f)
+LeavesBy version s x s' r (Brought e) = (j : Judged) × IsJudged (register_of s e.place) e j × AreBoth s' r (of_read s (merge s e j))
 
 module _ (records : Bytes → List (List Bytes)) (version : Version) (s : Script) where
   -- the reply of a request that asks for it
@@ -74,7 +82,7 @@ module _ (records : Bytes → List (List Bytes)) (version : Version) (s : Script
 
   abbrev pub Done : Bool → Request → Script → Bytes → Type 0
   Done true x s' r = (s' ≡ s) × Calculated x r
-  Done false x s' r = LeavesBy version s x s' r (brought x)
+  Done false x s' r = LeavesBy version s x s' r (cause x)
 
   settled_done : {w : Oracle} {n : ℕ} {x : Request} {r : Bytes} → IsAnswer version s.sheet (A.Answer.Settled w n) → SettledReply records version s.sheet w n x r → Done (asks_calculation records version s.sheet x) x s r
   settled_done {w = w} {n = n} a (C.SettledReply.show h) = (refl, inl (w, n, a, C.SettledReply.show h))
@@ -82,6 +90,7 @@ module _ (records : Bytes → List (List Bytes)) (version : Version) (s : Script
   settled_done {w = w} {n = n} a C.SettledReply.calc = (refl, inl (w, n, a, C.SettledReply.calc))
   settled_done {w = w} {n = n} a C.SettledReply.oracle = (refl, inl (w, n, a, C.SettledReply.oracle))
   settled_done {w = w} {n = n} a C.SettledReply.why_so = (refl, inl (w, n, a, C.SettledReply.why_so))
+  settled_done {w = w} {n = n} a (C.SettledReply.explain h) = (refl, inl (w, n, a, C.SettledReply.explain h))
 
   spent_done : (x : Request) (k : SpentKind) (b : Bool) → asks_calculation records version s.sheet x ≡ b → IsTrue b → IsAnswer version s.sheet (A.Answer.Spent k) → Done b x s (spent_line k)
   spent_done x k true e t a = (refl, inr (k, a, refl))
@@ -100,10 +109,12 @@ module _ (records : Bytes → List (List Bytes)) (version : Version) (s : Script
   change_done C.Request.ShowOracle s' r t h = cc t
   change_done C.Request.Quit s' r t h = cc t
   change_done C.Request.Export s' r t h = cc t
+  change_done C.Request.Flow s' r t h = cc t
   change_done (C.Request.View x) s' r t h = cc t
   change_done (C.Request.Show a) s' r t h = cc t
   change_done (C.Request.Get a) s' r t h = cc t
   change_done (C.Request.Why a) s' r t h = cc t
+  change_done (C.Request.Explain a) s' r t h = cc t
   change_done (C.Request.Merge e) s' r t h = cc t
 
   -- what a request leaves and replies
@@ -117,6 +128,7 @@ module _ (records : Bytes → List (List Bytes)) (version : Version) (s : Script
   done T.Does.list = (refl, refl)
   done (T.Does.export r e) = (sym (ap (λ (o : Option Replica). (export_effect s o).0) e), sym (ap (λ (o : Option Replica). (export_effect s o).1) e))
   done (T.Does.export_alone e) = (sym (ap (λ (o : Option Replica). (export_effect s o).0) e), sym (ap (λ (o : Option Replica). (export_effect s o).1) e))
+  done (T.Does.flow {f = f} h) = (refl, f, h, refl)
   done T.Does.quit = (refl, refl)
   done (T.Does.settled a h) = settled_done a h
   done (T.Does.spent {x = x} {k = k} t a) = spent_done x k (asks_calculation records version s.sheet x) refl t a

@@ -6,8 +6,10 @@ use Rattle.gl_calculus.specs.Formula.{Version, Cells, Content, content}
 use Rattle.gl_calculus.specs.Calculation.{SpentKind, Why, why}
 use Rattle.gl_calculus.specs.Oracle as R
 use Rattle.gl_language.specs.Text.{Bytes}
+use Rattle.gl_forecast.specs.Forecast.{Forecast, Yes, Circle, Unknown}
 use Rattle.gl_protocol.specs.Framing.{Item}
 use Rattle.gl_protocol.specs.Tables.{line}
+use Rattle.gl_protocol.specs.Explanations.{forecast_line}
 use Rattle.gl_protocol.specs.Commands as C
 use Rattle.gl_protocol.specs.Commands.{Word, Request, error_line, spent_line, why_text, ok_line, get_text, SettledReply}
 use Rattle.gl_protocol.specs.Script.{Script}
@@ -45,6 +47,11 @@ get_reply : (o : Option Content) → IsError (line (get_text o))
 get_reply None = no_error (by (omega arith) (λ e. omega (arith, e)))
 get_reply (Some c) = no_error (line_begins (content_begins c))
 
+forecast_reply : (f : Forecast) → IsError (forecast_line f)
+forecast_reply (Yes h) = no_error (by (omega arith) (λ e. omega (arith, e)))
+forecast_reply (Circle a) = no_error (by (omega arith) (λ e. omega (arith, e)))
+forecast_reply (Unknown a) = no_error (by (omega arith) (λ e. omega (arith, e)))
+
 module _ (records : Bytes → List (List Bytes)) (version : Version) (S : Cells) where
   settled_reply : {w : Oracle} {n : ℕ} {x : Request} {r : Bytes} → SettledReply records version S w n x r → IsError r
   settled_reply (C.SettledReply.show {x = x} s) = no_error (line_begins (shown_begins x))
@@ -52,6 +59,8 @@ module _ (records : Bytes → List (List Bytes)) (version : Version) (S : Cells)
   settled_reply C.SettledReply.calc = no_error (by (omega arith) (λ e. omega (arith, e)))
   settled_reply C.SettledReply.oracle = no_error (by (omega arith) (λ e. omega (arith, e)))
   settled_reply {w = w} (C.SettledReply.why_so {a = a}) = why_reply (why S w a)
+  -- `explain` begins with an `e` too
+  settled_reply (C.SettledReply.explain h) = λ h. cc h
 
 module _ (records : Bytes → List (List Bytes)) (version : Version) (s : Script) where
   ok_reply : IsError ok_line
@@ -68,6 +77,7 @@ module _ (records : Bytes → List (List Bytes)) (version : Version) (s : Script
   -- `export` begins with an `e` too
   does_reply (T.Does.export r e) = λ h. cc h
   does_reply (T.Does.export_alone e) = an_error C.SiteWord
+  does_reply (T.Does.flow {f = f} h) = forecast_reply f
   does_reply T.Does.quit = no_error (by (omega arith) (λ e. omega (arith, e)))
   does_reply (T.Does.settled a h) = settled_reply records version s.sheet h
   does_reply (T.Does.spent {k = k} t a) = spent_reply k

@@ -179,10 +179,12 @@ module _ (records : Bytes → List (List Bytes)) (version : Version) where
   change_takes s C.Request.ShowOracle s' ds h got t k = cc t
   change_takes s C.Request.Quit s' ds h got t k = cc t
   change_takes s C.Request.Export s' ds h got t k = cc t
+  change_takes s C.Request.Flow s' ds h got t k = cc t
   change_takes s (C.Request.View x) s' ds h got t k = cc t
   change_takes s (C.Request.Show a) s' ds h got t k = cc t
   change_takes s (C.Request.Get a) s' ds h got t k = cc t
   change_takes s (C.Request.Why a) s' ds h got t k = cc t
+  change_takes s (C.Request.Explain a) s' ds h got t k = cc t
   change_takes s (C.Request.Merge e) s' ds h got t k = cc t
 
   no_error : (w : Word) → IsFalse (is_refusal (C.error_line w)) → ⊥
@@ -195,6 +197,7 @@ module _ (records : Bytes → List (List Bytes)) (version : Version) where
   settled_takes s C.SettledReply.calc = refl
   settled_takes s C.SettledReply.oracle = refl
   settled_takes s C.SettledReply.why_so = refl
+  settled_takes s (C.SettledReply.explain k) = refl
 
   spent_takes : (s : Script) (A : Cells) (x : Request) → IsTrue (C.asks_calculation records version A x) → edits_of records version s x ≡ []
   spent_takes s A (C.Request.Show a) t = refl
@@ -202,6 +205,7 @@ module _ (records : Bytes → List (List Bytes)) (version : Version) where
   spent_takes s A C.Request.Calculate t = refl
   spent_takes s A C.Request.ShowOracle t = refl
   spent_takes s A (C.Request.Why a) t = refl
+  spent_takes s A (C.Request.Explain a) t = refl
   spent_takes s A (C.Request.Set a c) t = cc t
   spent_takes s A (C.Request.Clear r) t = cc t
   spent_takes s A (C.Request.Site n) t = cc t
@@ -211,6 +215,7 @@ module _ (records : Bytes → List (List Bytes)) (version : Version) where
   spent_takes s A C.Request.ListAll t = cc t
   spent_takes s A C.Request.Quit t = cc t
   spent_takes s A C.Request.Export t = cc t
+  spent_takes s A C.Request.Flow t = cc t
   spent_takes s A (C.Request.Get a) t = cc t
   spent_takes s A (C.Request.Merge e) t = cc t
 
@@ -227,6 +232,7 @@ module _ (records : Bytes → List (List Bytes)) (version : Version) where
   does_take {s = s} ds h got T.Does.list f = no_more s ds got
   does_take {s = s} ds h got (T.Does.export r e) f = no_more s ds got
   does_take ds h got (T.Does.export_alone e) f = absurd (no_error SiteWord f)
+  does_take {s = s} ds h got (T.Does.flow k) f = no_more s ds got
   does_take {s = s} ds h got T.Does.quit f = no_more s ds got
   does_take {s = s} {x = x} ds h got (T.Does.settled a k) f = stays s ds (edits_of records version s x) (settled_takes s k) got
   does_take {s = s} ds h got (T.Does.spent {x = x} t a) f = stays s ds (edits_of records version s x) (spent_takes s s.sheet x t) got

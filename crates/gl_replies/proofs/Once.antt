@@ -9,8 +9,12 @@ use Rattle.gl_calculus.specs.Calculation.{Answer, SpentKind, IsAnswer, Shown, Is
 use Rattle.gl_calculus.specs.Calculation as A
 use Rattle.gl_calculus.proofs.Proved.{at_most_one_answer, at_most_one_shown}
 use Rattle.gl_language.specs.Text.{Bytes, shown_text}
+use Rattle.gl_explanation.specs.Certificate.{Certificate, Cert, Explains, verdict}
+use Rattle.gl_explanation.proofs.Once.{one_explanation}
+use Rattle.gl_forecast.proofs.Once.{one_forecast}
 use Rattle.gl_protocol.specs.Framing.{Item, Line, Import, Long, Truncated}
 use Rattle.gl_protocol.specs.Tables.{line, table_text}
+use Rattle.gl_protocol.specs.Explanations.{explanation_text, forecast_line}
 use Rattle.gl_protocol.specs.Commands as C
 use Rattle.gl_protocol.specs.Commands.{Is, Not, Word, LineWord, TruncatedWord, Request, ReadsLine, ImportWords, words_of, error_line, spent_line, AreShown, SettledReply, asks_calculation}
 use Rattle.gl_edits.specs.Replicas.{Stamp, Edit, Judged, Wins, Loses, Conflict, IsJudged, is_earlier}
@@ -18,7 +22,7 @@ use Rattle.gl_edits.specs.Replicas as R
 use Rattle.gl_protocol.specs.Script.{Script, register_of, merge}
 use Rattle.gl_protocol.specs.Acts.{Does}
 use Rattle.gl_script.proofs.Once.{one_line, same_place}
-use Rattle.gl_replies.proofs.Effects.{Calculated, Done, LeavesBy, brought, done, of_read, Effect, effect, import_effect, ByPlace, Imports, Acted}
+use Rattle.gl_replies.proofs.Effects.{Calculated, Done, Cause, State, Forecasted, Brought, cause, LeavesBy, done, of_read, Effect, effect, import_effect, ByPlace, Imports, Acted}
 
 -- two results that are one
 abbrev Same : Script → Script → Bytes → Bytes → Type 0
@@ -77,12 +81,23 @@ module _ (records : Bytes → List (List Bytes)) (version : Version) (S : Cells)
   one_table {w = w} {r = r} (C.AreShown.row {i = i} {xs = xs} {rest = us} h f p) (C.AreShown.row {xs = ys} {rest = vs} k g q) =
       ap (λ (x : List Shown). x ∷ us) (one_row w r i (extents r).cols xs ys h k f g) ∙ ap (λ (x : List (List Shown)). ys ∷ x) (one_table p q)
 
+  same_certificate : (c d : Certificate) → Cert c ≡ Cert d → c ≡ d
+  same_certificate c d h = cc h
+
+  one_certificate : (w : Oracle) (a : Addr) (c d : Certificate) → Explains version S w a (Cert c) → Explains version S w a (Cert d) → c ≡ d
+  one_certificate w a c d h k = same_certificate c d (one_explanation version S w a (Cert c) (Cert d) h k)
+
+  -- the reply that gives a certificate
+  abbrev explanation : Oracle → Addr → Certificate → Bytes
+  explanation w a c = explanation_text (verdict version S w a c) c
+
   one_settled : {w : Oracle} {n : ℕ} {x : Request} {r s : Bytes} → SettledReply records version S w n x r → SettledReply records version S w n x s → r ≡ s
   one_settled {w = w} (C.SettledReply.show {a = a} {x = x} h) (C.SettledReply.show {x = y} k) = ap (λ (z : Shown). line (shown_text z)) (at_most_one_shown version S w a x y h k)
   one_settled (C.SettledReply.view {r = r} h) (C.SettledReply.view k) = ap (table_text (extents r).cols) (one_table h k)
   one_settled C.SettledReply.calc C.SettledReply.calc = refl
   one_settled C.SettledReply.oracle C.SettledReply.oracle = refl
   one_settled C.SettledReply.why_so C.SettledReply.why_so = refl
+  one_settled {w = w} (C.SettledReply.explain {a = a} {c = c} h) (C.SettledReply.explain {c = d} k) = ap (explanation w a) (one_certificate w a c d h k)
 
   same_oracle : (v w : Oracle) (m n : ℕ) → A.Answer.Settled v m ≡ A.Answer.Settled w n → v ≡ w
   same_oracle v w m n h = cc h
@@ -106,16 +121,17 @@ module _ (records : Bytes → List (List Bytes)) (version : Version) (s : Script
   one_calculated x r q (inr (k, b, z)) (inl (v, m, a, p)) = absurd (not_both records version s.sheet v m k a b)
   one_calculated x r q (inr (j, a, p)) (inr (k, b, z)) = p ∙ ap spent_line (same_spent records version s.sheet j k (at_most_one_answer version s.sheet (A.Answer.Spent j) (A.Answer.Spent k) a b)) ∙ sym z
 
-  one_left : (x : Request) (t u : Script) (r q : Bytes) (o : Option Edit) → LeavesBy version s x t r o → LeavesBy version s x u q o → Same t u r q
-  one_left x t u r q (Some e) h k =
+  one_left : (x : Request) (t u : Script) (r q : Bytes) (o : Cause) → LeavesBy version s x t r o → LeavesBy version s x u q o → Same t u r q
+  one_left x t u r q (Brought e) h k =
       let j : h.0 ≡ k.0 = one_judged (register_of s e.place) e h.0 k.0 h.1 k.1 in
       let i : of_read s (merge s e h.0) ≡ of_read s (merge s e k.0) = ap (λ (z : Judged). of_read s (merge s e z)) j in
       (h.2.0 ∙ ap (λ (y : Effect). y.0) i ∙ sym k.2.0, h.2.1 ∙ ap (λ (y : Effect). y.1) i ∙ sym k.2.1)
-  one_left x t u r q None h k = same t u (effect version s x).0 r q (effect version s x).1 h k
+  one_left x t u r q Forecasted (d, f, h, e) (c, g, k, i) = (d ∙ sym c, e ∙ ap forecast_line (one_forecast s.sheet f g h k) ∙ sym i)
+  one_left x t u r q State h k = same t u (effect version s x).0 r q (effect version s x).1 h k
 
   one_done : (b : Bool) (x : Request) (t u : Script) (r q : Bytes) → Done records version s b x t r → Done records version s b x u q → Same t u r q
   one_done true x t u r q h k = (h.0 ∙ sym k.0, one_calculated x r q h.1 k.1)
-  one_done false x t u r q h k = one_left x t u r q (brought x) h k
+  one_done false x t u r q h k = one_left x t u r q (cause x) h k
 
   one_does : (x : Request) (t u : Script) (r q : Bytes) → Does records version s x t r → Does records version s x u q → Same t u r q
   one_does x t u r q h k = one_done (asks_calculation records version s.sheet x) x t u r q (done records version s h) (done records version s k)

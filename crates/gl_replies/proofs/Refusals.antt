@@ -23,6 +23,7 @@ does_leave records version s T.Does.get h = refl
 does_leave records version s T.Does.list h = refl
 does_leave records version s (T.Does.export r e) h = refl
 does_leave records version s (T.Does.export_alone e) h = refl
+does_leave records version s (T.Does.flow f) h = refl
 does_leave records version s T.Does.quit h = refl
 does_leave records version s (T.Does.settled a k) h = refl
 does_leave records version s (T.Does.spent t a) h = refl

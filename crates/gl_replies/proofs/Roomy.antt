@@ -203,10 +203,12 @@ module _ (records : Bytes → List (List Bytes)) (version : Version) (s : Script
   change_roomy C.Request.ShowOracle s' h k t m = cc t
   change_roomy C.Request.Quit s' h k t m = cc t
   change_roomy C.Request.Export s' h k t m = cc t
+  change_roomy C.Request.Flow s' h k t m = cc t
   change_roomy (C.Request.View x) s' h k t m = cc t
   change_roomy (C.Request.Show a) s' h k t m = cc t
   change_roomy (C.Request.Get a) s' h k t m = cc t
   change_roomy (C.Request.Why a) s' h k t m = cc t
+  change_roomy (C.Request.Explain a) s' h k t m = cc t
   change_roomy (C.Request.Merge e) s' h k t m = cc t
 
   does_roomy : {x : Request} {s' : Script} {r : Bytes} → IsState s → IsRoomy s → Does records version s x s' r → IsRoomy s'
@@ -219,6 +221,7 @@ module _ (records : Bytes → List (List Bytes)) (version : Version) (s : Script
   does_roomy h k T.Does.list = k
   does_roomy h k (T.Does.export r e) = k
   does_roomy h k (T.Does.export_alone e) = k
+  does_roomy h k (T.Does.flow f) = k
   does_roomy h k T.Does.quit = k
   does_roomy h k (T.Does.settled a m) = k
   does_roomy h k (T.Does.spent t a) = k

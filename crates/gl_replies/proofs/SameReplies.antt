@@ -4,6 +4,7 @@ use Rattle.gl_calculus.specs.Formula.{Version, Cells, content}
 use Rattle.gl_calculus.specs.Calculation as A
 use Rattle.gl_calculus.specs.Calculation.{IsAnswer}
 use Rattle.gl_language.specs.Text.{Bytes}
+use Rattle.gl_forecast.specs.Forecast.{IsForecast}
 use Rattle.gl_protocol.specs.Framing.{Line}
 use Rattle.gl_protocol.specs.Tables.{line}
 use Rattle.gl_protocol.specs.Commands as C
@@ -27,10 +28,12 @@ change_or_asks C.Request.Calculate t i = cc t
 change_or_asks C.Request.ShowOracle t i = cc t
 change_or_asks C.Request.Quit t i = cc t
 change_or_asks C.Request.Export t i = cc t
+change_or_asks C.Request.Flow t i = cc t
 change_or_asks (C.Request.View x) t i = cc t
 change_or_asks (C.Request.Show a) t i = cc t
 change_or_asks (C.Request.Get a) t i = cc t
 change_or_asks (C.Request.Why a) t i = cc t
+change_or_asks (C.Request.Explain a) t i = cc t
 change_or_asks (C.Request.Merge e) t i = cc t
 
 module _ (records : Bytes → List (List Bytes)) (version : Version) (s t : Script) (same : s.sheet ≡ t.sheet) where
@@ -45,6 +48,7 @@ module _ (records : Bytes → List (List Bytes)) (version : Version) (s t : Scri
   over i T.Does.list = subst (λ (Z : Cells). Does records version t C.Request.ListAll t (list_text version Z)) (sym same) T.Does.list
   over i (T.Does.export r e) = cc i
   over i (T.Does.export_alone e) = cc i
+  over i (T.Does.flow {f = f} h) = T.Does.flow (subst (λ (Z : Cells). IsForecast Z f) same h)
   over i T.Does.quit = cc i
   over i (T.Does.settled {x = x} {w = w} {rounds = n} {reply = r} a k) =
       T.Does.settled (subst (λ (Z : Cells). IsAnswer version Z (A.Answer.Settled w n)) same a) (subst (λ (Z : Cells). SettledReply records version Z w n x r) same k)

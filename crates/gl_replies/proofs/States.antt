@@ -66,10 +66,12 @@ module _ (records : Bytes → List (List Bytes)) (version : Version) (s : Script
   change_keeps l C.Request.ShowOracle s' h q t k = cc t
   change_keeps l C.Request.Quit s' h q t k = cc t
   change_keeps l C.Request.Export s' h q t k = cc t
+  change_keeps l C.Request.Flow s' h q t k = cc t
   change_keeps l (C.Request.View x) s' h q t k = cc t
   change_keeps l (C.Request.Show a) s' h q t k = cc t
   change_keeps l (C.Request.Get a) s' h q t k = cc t
   change_keeps l (C.Request.Why a) s' h q t k = cc t
+  change_keeps l (C.Request.Explain a) s' h q t k = cc t
   change_keeps l (C.Request.Merge e) s' h q t k = cc t
 
   does_keep : (l : Bytes) {x : Request} {s' : Script} {r : Bytes} → IsState s → ReadsLine l (Is x) → Does records version s x s' r → IsState s'
@@ -84,6 +86,7 @@ module _ (records : Bytes → List (List Bytes)) (version : Version) (s : Script
   does_keep l h q T.Does.list = h
   does_keep l h q (T.Does.export r e) = h
   does_keep l h q (T.Does.export_alone e) = h
+  does_keep l h q (T.Does.flow f) = h
   does_keep l h q T.Does.quit = h
   does_keep l h q (T.Does.settled a k) = h
   does_keep l h q (T.Does.spent t a) = h

@@ -5,7 +5,7 @@ use Rattle.std.specs.Str.{IsUtf8}
 use Rattle.std.proofs.lemmas.Bool.Decides.{nat_tests}
 use Rattle.gl_language.specs.Text.{Bytes}
 use Rattle.gl_protocol.specs.Pieces.{Cut, cut_at, pieces, is_number}
-use Rattle.gl_protocol.specs.Commands.{Words, ListWords, CalcWords, OracleWords, QuitWords, ExportWords, UndoWords, RedoWords, SetWords, EditWords, ClearWords, ViewWords, ShowWords, GetWords, WhyWords, SiteWords, ImportWords, words_of, set_words, edit_words, words_of_pieces, some_words, behind, is_text}
+use Rattle.gl_protocol.specs.Commands.{Words, ListWords, CalcWords, OracleWords, QuitWords, ExportWords, UndoWords, RedoWords, FlowWords, SetWords, EditWords, ClearWords, ViewWords, ShowWords, GetWords, WhyWords, ExplainWords, SiteWords, ImportWords, words_of, set_words, edit_words, words_of_pieces, some_words, behind, is_text}
 use Rattle.gl_script.specs.Numbers.{is_site}
 use Rattle.gl_script.specs.Parts.{edit_at, edit_behind}
 use Rattle.gl_script.proofs.Decoded.{after_ascii}
@@ -78,31 +78,33 @@ edit_says l (Some r) e = timed (cut_at 32 r).0 (cut_at 32 r).1 (λ u. text_behin
     timed t None h = tt
     timed t (Some r) h = sited t (cut_at 32 r).0 (cut_at 32 r).1 (λ u. text_behind r (cut_at 32 r).1 refl (h u))
 
-one_says : (l : Bytes) (a b c d e f g : Bool) →
-    Says l (if a then Some ListWords else if b then Some CalcWords else if c then Some OracleWords else if d then Some QuitWords else if e then Some ExportWords else if f then Some UndoWords else if g then Some RedoWords else None)
-one_says l true b c d e f g = tt
-one_says l false true c d e f g = tt
-one_says l false false true d e f g = tt
-one_says l false false false true e f g = tt
-one_says l false false false false true f g = tt
-one_says l false false false false false true g = tt
-one_says l false false false false false false true = tt
-one_says l false false false false false false false = tt
+one_says : (l : Bytes) (a b c d e f g h : Bool) →
+    Says l (if a then Some ListWords else if b then Some CalcWords else if c then Some OracleWords else if d then Some QuitWords else if e then Some ExportWords else if f then Some UndoWords else if g then Some RedoWords else if h then Some FlowWords else None)
+one_says l true b c d e f g h = tt
+one_says l false true c d e f g h = tt
+one_says l false false true d e f g h = tt
+one_says l false false false true e f g h = tt
+one_says l false false false false true f g h = tt
+one_says l false false false false false true g h = tt
+one_says l false false false false false false true h = tt
+one_says l false false false false false false false true = tt
+one_says l false false false false false false false false = tt
 
 some_site : (l n : Bytes) (b : Bool) → Says l (some_words b (SiteWords n))
 some_site l n true = tt
 some_site l n false = tt
 
-two_says : (l place : Bytes) (x a b c d e f : Bool) →
-    Says l (if x then None else if a then Some (ClearWords place) else if b then Some (ViewWords place) else if c then Some (ShowWords place) else if d then Some (GetWords place) else if e then Some (WhyWords place) else if f then some_words (is_site place) (SiteWords place) else None)
-two_says l place true a b c d e f = tt
-two_says l place false true b c d e f = tt
-two_says l place false false true c d e f = tt
-two_says l place false false false true d e f = tt
-two_says l place false false false false true e f = tt
-two_says l place false false false false false true f = tt
-two_says l place false false false false false false true = some_site l place (is_site place)
-two_says l place false false false false false false false = tt
+two_says : (l place : Bytes) (x a b c d e f g : Bool) →
+    Says l (if x then None else if a then Some (ClearWords place) else if b then Some (ViewWords place) else if c then Some (ShowWords place) else if d then Some (GetWords place) else if e then Some (WhyWords place) else if f then Some (ExplainWords place) else if g then some_words (is_site place) (SiteWords place) else None)
+two_says l place true a b c d e f g = tt
+two_says l place false true b c d e f g = tt
+two_says l place false false true c d e f g = tt
+two_says l place false false false true d e f g = tt
+two_says l place false false false false true e f g = tt
+two_says l place false false false false false true f g = tt
+two_says l place false false false false false false true g = tt
+two_says l place false false false false false false false true = some_site l place (is_site place)
+two_says l place false false false false false false false false = tt
 
 three_says : (l place n : Bytes) (b : Bool) → Says l (some_words b (ImportWords place n))
 three_says l place n true = tt
@@ -111,9 +113,9 @@ three_says l place n false = tt
 pieces_say : (l : Bytes) (ps : List Bytes) → Says l (words_of_pieces ps)
 pieces_say l [] = tt
 pieces_say l (w ∷ []) =
-    one_says l (bytes_eq w (codes "list")) (bytes_eq w (codes "calc")) (bytes_eq w (codes "oracle")) (bytes_eq w (codes "quit")) (bytes_eq w (codes "export")) (bytes_eq w (codes "undo")) (bytes_eq w (codes "redo"))
+    one_says l (bytes_eq w (codes "list")) (bytes_eq w (codes "calc")) (bytes_eq w (codes "oracle")) (bytes_eq w (codes "quit")) (bytes_eq w (codes "export")) (bytes_eq w (codes "undo")) (bytes_eq w (codes "redo")) (bytes_eq w (codes "flow"))
 pieces_say l (w ∷ place ∷ []) =
-    two_says l place (length place == 0) (bytes_eq w (codes "clear")) (bytes_eq w (codes "view")) (bytes_eq w (codes "show")) (bytes_eq w (codes "get")) (bytes_eq w (codes "why")) (bytes_eq w (codes "site"))
+    two_says l place (length place == 0) (bytes_eq w (codes "clear")) (bytes_eq w (codes "view")) (bytes_eq w (codes "show")) (bytes_eq w (codes "get")) (bytes_eq w (codes "why")) (bytes_eq w (codes "explain")) (bytes_eq w (codes "site"))
 pieces_say l (w ∷ place ∷ n ∷ []) = three_says l place n (bytes_eq w (codes "import") && nat_lt 0 (length place) && is_number n)
 pieces_say l (w ∷ place ∷ n ∷ m ∷ ps) = tt
 

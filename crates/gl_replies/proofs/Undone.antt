@@ -83,10 +83,12 @@ module _ (records : Bytes → List (List Bytes)) (version : Version) where
   change_more s t C.Request.ShowOracle h none i k = cc i
   change_more s t C.Request.Quit h none i k = cc i
   change_more s t C.Request.Export h none i k = cc i
+  change_more s t C.Request.Flow h none i k = cc i
   change_more s t (C.Request.View x) h none i k = cc i
   change_more s t (C.Request.Show a) h none i k = cc i
   change_more s t (C.Request.Get a) h none i k = cc i
   change_more s t (C.Request.Why a) h none i k = cc i
+  change_more s t (C.Request.Explain a) h none i k = cc i
   change_more s t (C.Request.Merge e) h none i k = cc i
 
   edit_or_asks : (A : Cells) (x : Request) → IsTrue (is_edit records version x) → IsTrue (C.asks_calculation records version A x) → ⊥
@@ -101,10 +103,12 @@ module _ (records : Bytes → List (List Bytes)) (version : Version) where
   edit_or_asks A C.Request.ShowOracle i t = cc i
   edit_or_asks A C.Request.Quit i t = cc i
   edit_or_asks A C.Request.Export i t = cc i
+  edit_or_asks A C.Request.Flow i t = cc i
   edit_or_asks A (C.Request.View x) i t = cc i
   edit_or_asks A (C.Request.Show a) i t = cc i
   edit_or_asks A (C.Request.Get a) i t = cc i
   edit_or_asks A (C.Request.Why a) i t = cc i
+  edit_or_asks A (C.Request.Explain a) i t = cc i
   edit_or_asks A (C.Request.Merge e) i t = cc i
 
   no_settled : {A : Cells} {w : Oracle} {n : ℕ} {x : Request} {r : Bytes} → C.SettledReply records version A w n x r → IsTrue (is_edit records version x) → ⊥
@@ -113,6 +117,7 @@ module _ (records : Bytes → List (List Bytes)) (version : Version) where
   no_settled C.SettledReply.calc i = cc i
   no_settled C.SettledReply.oracle i = cc i
   no_settled C.SettledReply.why_so i = cc i
+  no_settled (C.SettledReply.explain k) i = cc i
 
   no_error : (w : C.Word) → IsFalse (is_refusal (C.error_line w)) → ⊥
   no_error w h = cc h
@@ -127,6 +132,7 @@ module _ (records : Bytes → List (List Bytes)) (version : Version) where
   does_more h none i T.Does.list f = cc i
   does_more h none i (T.Does.export r e) f = cc i
   does_more h none i (T.Does.export_alone e) f = cc i
+  does_more h none i (T.Does.flow k) f = cc i
   does_more h none i T.Does.quit f = cc i
   does_more h none i (T.Does.settled a k) f = absurd (no_settled k i)
   does_more {s = s} h none i (T.Does.spent {x = x} t a) f = absurd (edit_or_asks s.sheet x i t)

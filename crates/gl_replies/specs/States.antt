@@ -9,7 +9,7 @@ use Rattle.gl_edits.specs.Replicas.{Stamp, Edit, Replica, Changes, contents_of, 
 use Rattle.gl_edits.specs.Joins.{HaveSameMembers, HasTaken}
 use Rattle.gl_edits.specs.Steps.{Step, befores, afters}
 use Rattle.gl_protocol.specs.Framing.{Item, Line, Import}
-use Rattle.gl_protocol.specs.Commands.{Is, Request, Set, Clear, Merge, Show, View, Get, ListAll, Calculate, ShowOracle, Why, ReadsLine, ImportWords, words_of, IsAddress, imported, without_mark, ok_line}
+use Rattle.gl_protocol.specs.Commands.{Is, Request, Set, Clear, Merge, Show, View, Get, ListAll, Calculate, ShowOracle, Why, Explain, Flow, ReadsLine, ImportWords, words_of, IsAddress, imported, without_mark, ok_line}
 use Rattle.gl_protocol.specs.Script.{Script, new_script, with_changes, settings, removals}
 use Rattle.gl_protocol.specs.Acts.{Acts}
 use Rattle.gl_protocol.specs.Output.{Runs, is_refusal}
@@ -134,6 +134,8 @@ asks_sheet ListAll = true
 asks_sheet Calculate = true
 asks_sheet ShowOracle = true
 asks_sheet (Why a) = true
+asks_sheet (Explain a) = true
+asks_sheet Flow = true
 asks_sheet x = false
 
 -- What asks for the sheet alone has the same reply in states with the same sheet.

@@ -222,10 +222,15 @@ one_words (C.ReadsWords.why_of {place = p} {a = a} h) (C.ReadsWords.why_of {a = 
 one_words (C.ReadsWords.why_of {a = a} h) (C.ReadsWords.why_place n) = absurd (n a h)
 one_words (C.ReadsWords.why_place n) (C.ReadsWords.why_of {a = a} h) = absurd (n a h)
 one_words (C.ReadsWords.why_place n) (C.ReadsWords.why_place m) = refl
+one_words (C.ReadsWords.explain {place = p} {a = a} h) (C.ReadsWords.explain {a = b} k) = ap (λ (z : Addr). Is (C.Request.Explain z)) (same_place p a b h k)
+one_words (C.ReadsWords.explain {a = a} h) (C.ReadsWords.explain_place n) = absurd (n a h)
+one_words (C.ReadsWords.explain_place n) (C.ReadsWords.explain {a = a} h) = absurd (n a h)
+one_words (C.ReadsWords.explain_place n) (C.ReadsWords.explain_place m) = refl
 one_words (C.ReadsWords.payload h) (C.ReadsWords.payload k) = refl
 one_words C.ReadsWords.export C.ReadsWords.export = refl
 one_words C.ReadsWords.undo C.ReadsWords.undo = refl
 one_words C.ReadsWords.redo C.ReadsWords.redo = refl
+one_words C.ReadsWords.flow C.ReadsWords.flow = refl
 one_words C.ReadsWords.site C.ReadsWords.site = refl
 one_words (C.ReadsWords.edit {t = t} {n = n} {place = p} {a = a} {c = c} h i r) (C.ReadsWords.edit {a = b} {c = d} k j s) = ap (λ (z : Addr). edit_by t n z c) (same_place p a b h k) ∙ ap (λ (z : Option F.Content). edit_by t n b z) (same_edit r s)
 one_words (C.ReadsWords.edit h i r) (C.ReadsWords.edit_fault b k j s) = absurd (text_or_fault r s)

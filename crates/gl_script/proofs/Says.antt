@@ -5,7 +5,7 @@ use Rattle.std.proofs.lemmas.Bool.Decides.{nat_tests}
 use Rattle.gl_language.specs.Text.{Bytes}
 use Rattle.gl_protocol.specs.Pieces.{cut_at, pieces, is_number}
 use Rattle.gl_protocol.specs.Header.{count_by, count_of}
-use Rattle.gl_protocol.specs.Commands.{Words, ListWords, CalcWords, OracleWords, QuitWords, ExportWords, UndoWords, RedoWords, SetWords, ClearWords, ViewWords, ShowWords, GetWords, WhyWords, ImportWords, SiteWords, EditWords, words_of, set_words, edit_words, words_of_pieces, some_words, behind, is_text}
+use Rattle.gl_protocol.specs.Commands.{Words, ListWords, CalcWords, OracleWords, QuitWords, ExportWords, UndoWords, RedoWords, FlowWords, SetWords, ClearWords, ViewWords, ShowWords, GetWords, WhyWords, ExplainWords, ImportWords, SiteWords, EditWords, words_of, set_words, edit_words, words_of_pieces, some_words, behind, is_text}
 use Rattle.gl_script.specs.Numbers.{is_site}
 use Rattle.gl_script.specs.Parts.{edit_at, edit_behind}
 
@@ -59,31 +59,33 @@ edit_says l (Some r) = timed (cut_at 32 r).0 (cut_at 32 r).1
 
 -- ---- other words
 
-one_says : (l : Bytes) (a b c d e f g : Bool) →
-    Says l (if a then Some ListWords else if b then Some CalcWords else if c then Some OracleWords else if d then Some QuitWords else if e then Some ExportWords else if f then Some UndoWords else if g then Some RedoWords else None)
-one_says l true b c d e f g = tt
-one_says l false true c d e f g = tt
-one_says l false false true d e f g = tt
-one_says l false false false true e f g = tt
-one_says l false false false false true f g = tt
-one_says l false false false false false true g = tt
-one_says l false false false false false false true = tt
-one_says l false false false false false false false = tt
+one_says : (l : Bytes) (a b c d e f g h : Bool) →
+    Says l (if a then Some ListWords else if b then Some CalcWords else if c then Some OracleWords else if d then Some QuitWords else if e then Some ExportWords else if f then Some UndoWords else if g then Some RedoWords else if h then Some FlowWords else None)
+one_says l true b c d e f g h = tt
+one_says l false true c d e f g h = tt
+one_says l false false true d e f g h = tt
+one_says l false false false true e f g h = tt
+one_says l false false false false true f g h = tt
+one_says l false false false false false true g h = tt
+one_says l false false false false false false true h = tt
+one_says l false false false false false false false true = tt
+one_says l false false false false false false false false = tt
 
 some_site : (l n : Bytes) (b : Bool) → is_site n ≡ b → Says l (some_words b (SiteWords n))
 some_site l n true e = e
 some_site l n false e = tt
 
-two_says : (l place : Bytes) (x a b c d e f : Bool) →
-    Says l (if x then None else if a then Some (ClearWords place) else if b then Some (ViewWords place) else if c then Some (ShowWords place) else if d then Some (GetWords place) else if e then Some (WhyWords place) else if f then some_words (is_site place) (SiteWords place) else None)
-two_says l place true a b c d e f = tt
-two_says l place false true b c d e f = tt
-two_says l place false false true c d e f = tt
-two_says l place false false false true d e f = tt
-two_says l place false false false false true e f = tt
-two_says l place false false false false false true f = tt
-two_says l place false false false false false false true = some_site l place (is_site place) refl
-two_says l place false false false false false false false = tt
+two_says : (l place : Bytes) (x a b c d e f g : Bool) →
+    Says l (if x then None else if a then Some (ClearWords place) else if b then Some (ViewWords place) else if c then Some (ShowWords place) else if d then Some (GetWords place) else if e then Some (WhyWords place) else if f then Some (ExplainWords place) else if g then some_words (is_site place) (SiteWords place) else None)
+two_says l place true a b c d e f g = tt
+two_says l place false true b c d e f g = tt
+two_says l place false false true c d e f g = tt
+two_says l place false false false true d e f g = tt
+two_says l place false false false false true e f g = tt
+two_says l place false false false false false true f g = tt
+two_says l place false false false false false false true g = tt
+two_says l place false false false false false false false true = some_site l place (is_site place) refl
+two_says l place false false false false false false false false = tt
 
 three_says : (l w place n : Bytes) → pieces 32 l ≡ w ∷ place ∷ n ∷ [] → Says l (some_words (bytes_eq w (codes "import") && nat_lt 0 (length place) && is_number n) (ImportWords place n))
 three_says l w place n h = by (bytes_eq w (codes "import")) (nat_lt 0 (length place)) (is_number n) refl refl refl
@@ -97,9 +99,9 @@ three_says l w place n h = by (bytes_eq w (codes "import")) (nat_lt 0 (length pl
 pieces_say : (l : Bytes) (ps : List Bytes) → pieces 32 l ≡ ps → Says l (words_of_pieces ps)
 pieces_say l [] h = tt
 pieces_say l (w ∷ []) h =
-    one_says l (bytes_eq w (codes "list")) (bytes_eq w (codes "calc")) (bytes_eq w (codes "oracle")) (bytes_eq w (codes "quit")) (bytes_eq w (codes "export")) (bytes_eq w (codes "undo")) (bytes_eq w (codes "redo"))
+    one_says l (bytes_eq w (codes "list")) (bytes_eq w (codes "calc")) (bytes_eq w (codes "oracle")) (bytes_eq w (codes "quit")) (bytes_eq w (codes "export")) (bytes_eq w (codes "undo")) (bytes_eq w (codes "redo")) (bytes_eq w (codes "flow"))
 pieces_say l (w ∷ place ∷ []) h =
-    two_says l place (length place == 0) (bytes_eq w (codes "clear")) (bytes_eq w (codes "view")) (bytes_eq w (codes "show")) (bytes_eq w (codes "get")) (bytes_eq w (codes "why")) (bytes_eq w (codes "site"))
+    two_says l place (length place == 0) (bytes_eq w (codes "clear")) (bytes_eq w (codes "view")) (bytes_eq w (codes "show")) (bytes_eq w (codes "get")) (bytes_eq w (codes "why")) (bytes_eq w (codes "explain")) (bytes_eq w (codes "site"))
 pieces_say l (w ∷ place ∷ n ∷ []) h = three_says l w place n h
 pieces_say l (w ∷ place ∷ n ∷ m ∷ ps) h = tt
 

@@ -75,6 +75,7 @@ Asks l r.List = ReadsLine l (Is C.Request.ListAll)
 Asks l r.Calc = ReadsLine l (Is C.Request.Calculate)
 Asks l r.Oracle = ReadsLine l (Is C.Request.ShowOracle)
 Asks l (r.Why a) = ReadsLine l (Is (C.Request.Why a))
+Asks l (r.Explain a) = ReadsLine l (Is (C.Request.Explain a))
 Asks l (r.Import a n) = IsHeader l a n
 Asks l r.Version = IsTrue (is_version_line l) Ã— ReadsLine l (Not C.CommandWord)
 Asks l r.Quit = ReadsLine l (Is C.Request.Quit)
@@ -83,6 +84,7 @@ Asks l (r.Edit t n a c) = ReadsLine l (Is (C.Request.Merge (edit_of t n a c))) Ã
 Asks l r.Export = ReadsLine l (Is C.Request.Export)
 Asks l r.Undo = ReadsLine l (Is C.Request.Undo)
 Asks l r.Redo = ReadsLine l (Is C.Request.Redo)
+Asks l r.Flow = ReadsLine l (Is C.Request.Flow)
 
 -- the line gives an address this text: it is that of a `set`, or of an `edit`
 pub data GivesText (l t : Bytes) : Type 0 where

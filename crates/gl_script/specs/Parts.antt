@@ -32,12 +32,14 @@ words_tree (w.View place) = C.ViewWords place.now
 words_tree (w.Show place) = C.ShowWords place.now
 words_tree (w.Get place) = C.GetWords place.now
 words_tree (w.Why place) = C.WhyWords place.now
+words_tree (w.Explain place) = C.ExplainWords place.now
 words_tree (w.Import place n) = C.ImportWords place.now n.now
 words_tree (w.Site n) = C.SiteWords n.now
 words_tree (w.Edit t n place text) = C.EditWords t.now n.now place.now (option_copied text)
 words_tree w.Export = C.ExportWords
 words_tree w.Undo = C.UndoWords
 words_tree w.Redo = C.RedoWords
+words_tree w.Flow = C.FlowWords
 
 abbrev pub some_tree : Option Words → Option C.Words
 some_tree None = None

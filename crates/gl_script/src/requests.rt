@@ -32,6 +32,7 @@ pub enum Request {
     Calc,
     Oracle,
     Why(Addr),
+    Explain(Addr),
     /// The header of an import, which `n` bytes follow; `at` is `None` where its place is no address.
     Import {
         at: Option<Addr>,
@@ -53,6 +54,7 @@ pub enum Request {
     Export,
     Undo,
     Redo,
+    Flow,
 }
 
 /// Why a line is refused: the first of these that holds, in this order.
@@ -155,12 +157,14 @@ fn read_words(alloc: Global, words: Words<'_>) -> Result<Request, CommandFault>
         Words::Show(place) => show(place),
         Words::Get(place) => get(place),
         Words::Why(place) => why(place),
+        Words::Explain(place) => explain(place),
         Words::Import(place, count) => import(place, count),
         Words::Site(digits) => site(digits),
         Words::Edit(time, site, place, text) => edit(alloc, time, site, place, text),
         Words::Export => Ok(Request::Export),
         Words::Undo => Ok(Request::Undo),
         Words::Redo => Ok(Request::Redo),
+        Words::Flow => Ok(Request::Flow),
     }
 }
 
@@ -223,6 +227,15 @@ fn why(place: &str) -> Result<Request, CommandFault>
 {
     match read_address(place) {
         Some(a) => Ok(Request::Why(a)),
+        None => Err(CommandFault::Address),
+    }
+}
+
+fn explain(place: &str) -> Result<Request, CommandFault>
+    ensures { (l : Bytes) → HasWords l (C.ExplainWords place.now) → Answers l result }
+{
+    match read_address(place) {
+        Some(a) => Ok(Request::Explain(a)),
         None => Err(CommandFault::Address),
     }
 }

@@ -21,6 +21,7 @@ pub(crate) enum Words<'a> {
     Show(&'a str),
     Get(&'a str),
     Why(&'a str),
+    Explain(&'a str),
     Import(&'a str, &'a str),
     Site(&'a str),
     /// Time, site, place and text.
@@ -28,6 +29,7 @@ pub(crate) enum Words<'a> {
     Export,
     Undo,
     Redo,
+    Flow,
 }
 
 /// The words of a line, where it is a command with its arguments: it is cut at each space, but the
@@ -61,6 +63,7 @@ fn one_word(word: &str) -> Option<Words<'_>>
         "export" => Some(Words::Export),
         "undo" => Some(Words::Undo),
         "redo" => Some(Words::Redo),
+        "flow" => Some(Words::Flow),
         _ => None,
     }
 }
@@ -165,6 +168,7 @@ fn two_words<'a>(word: &str, place: &'a str) -> Option<Words<'a>>
         "show" => Some(Words::Show(place)),
         "get" => Some(Words::Get(place)),
         "why" => Some(Words::Why(place)),
+        "explain" => Some(Words::Explain(place)),
         "site" => site_words(place),
         _ => None,
     }

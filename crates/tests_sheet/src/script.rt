@@ -30,6 +30,7 @@ fn asked(request: &Request) -> &'static str {
         Request::Calc => "calc",
         Request::Oracle => "oracle",
         Request::Why(_) => "why",
+        Request::Explain(_) => "explain",
         Request::Import { at, .. } => {
             if at.is_some() {
                 "import"
@@ -44,6 +45,7 @@ fn asked(request: &Request) -> &'static str {
         Request::Export => "export",
         Request::Undo => "undo",
         Request::Redo => "redo",
+        Request::Flow => "flow",
     }
 }
 
@@ -120,6 +122,8 @@ fn queries_and_imports(rt: HostRuntime) {
             ("calc", "calc"),
             ("oracle", "oracle"),
             ("why A1", "why"),
+            ("explain ZZ9999", "explain"),
+            ("flow", "flow"),
             ("import A1 0", "import"),
             ("import A1 1048576", "import"),
             ("import ZZZ1 2", "import nowhere"),
@@ -235,6 +239,11 @@ fn words_that_are_no_command(rt: HostRuntime) {
             "show A1 B1",
             "show\tA1",
             "why",
+            "explain",
+            "explain ",
+            "explain A1 B1",
+            "flow x",
+            "flow ",
             "get A1 =",
             "view A1 : B2",
         ],
@@ -283,6 +292,8 @@ fn no_addresses(rt: HostRuntime) {
             "show a1",
             "get A01",
             "why A1:A1",
+            "explain A0",
+            "explain A1:A1",
             "view A1:",
             "view :A1",
             "view A1:B2:C3",

@@ -24,5 +24,8 @@ returns-in-Export c = λ l h. line_reads l C.ExportWords (Is C.Request.Export) (
 pub returns-in-Undo : goal.returns-in-Undo
 returns-in-Undo c = λ l h. line_reads l C.UndoWords (Is C.Request.Undo) (subst (λ (ws : Words). HasWords l (words_tree ws)) c.in-Undo.is h) C.ReadsWords.undo
 
+pub returns-in-Flow : goal.returns-in-Flow
+returns-in-Flow c = λ l h. line_reads l C.FlowWords (Is C.Request.Flow) (subst (λ (ws : Words). HasWords l (words_tree ws)) c.in-Flow.is h) C.ReadsWords.flow
+
 pub returns-in-Redo : goal.returns-in-Redo
 returns-in-Redo c = λ l h. line_reads l C.RedoWords (Is C.Request.Redo) (subst (λ (ws : Words). HasWords l (words_tree ws)) c.in-Redo.is h) C.ReadsWords.redo
