@@ -11,13 +11,14 @@ use Rattle.gl_protocol.specs.Tables.{line}
 use Rattle.gl_protocol.specs.Commands as C
 use Rattle.gl_protocol.specs.Commands.{Read, Is, Not, ReadsLine, error_line, get_text, list_text}
 use Rattle.gl_protocol.specs.Script.{Script, change, is_change, merge}
+use Rattle.gl_forecast.specs.Forecast.{IsForecast}
 use Rattle.gl_protocol.specs.Acts as T
 use Rattle.gl_protocol.specs.Acts.{Does, Acts}
 use Rattle.gl_csvin.specs.Import.{csv_records}
 use Rattle.gl_edits.specs.Replicas.{Edit, Replica}
 use Rattle.gl_run.specs.Changed.{IsChanged}
 use Rattle.gl_run.specs.Merged.{IsMerged, IsExport}
-use Rattle.gl_run.specs.Replies.{IsProperRequest}
+use Rattle.gl_run.specs.Replies.{IsProperRequest, TellsForecast}
 use Rattle.gl_script.specs.Command.{Asks}
 use Rattle.gl_script.specs.declared.requests.Request.{Request}
 use Rattle.gl_script.specs.declared.requests.Request.TheVariants as r
@@ -61,6 +62,9 @@ list_done version s U e = subst (λ Z. Does csv_records version s C.Request.List
 
 pub quit_done : (version : Version) (s : Script) → Does csv_records version s C.Request.Quit s (line (codes "bye"))
 quit_done version s = T.Does.quit
+
+pub flow_done : (version : Version) (s : Script) (S : Cells) (reply : Bytes) → S ≡ s.sheet → TellsForecast S reply → Does csv_records version s C.Request.Flow s reply
+flow_done version s S reply e (f, is, r) = subst (λ y. Does csv_records version s C.Request.Flow s y) (sym r) (T.Does.flow (subst (λ Z. IsForecast Z f) e is))
 
 -- ---- what may change the state
 
@@ -130,6 +134,7 @@ asked_proper l r.List h = tt
 asked_proper l r.Calc h = tt
 asked_proper l r.Oracle h = tt
 asked_proper l (r.Why a) h = tt
+asked_proper l (r.Explain a) h = tt
 asked_proper l (r.Import a n) h = tt
 asked_proper l r.Version h = tt
 asked_proper l r.Quit h = tt
@@ -137,3 +142,4 @@ asked_proper l (r.Site n) h = tt
 asked_proper l r.Export h = tt
 asked_proper l r.Undo h = tt
 asked_proper l r.Redo h = tt
+asked_proper l r.Flow h = tt

@@ -3,7 +3,9 @@ use Rattle.std.proofs.Common.{◌≡◌, ◌∙◌, ℕ, true, false, Bool, List
 use Rattle.std.proofs.lemmas.Result.{IfOk-weaker}
 use Rattle.gl_calculus.specs.Grid.{Addr}
 use Rattle.gl_calculus.specs.Formula.{Version, Cells}
+use Rattle.gl_calculus.specs.Value.{Oracle}
 use Rattle.gl_calculus.specs.Calculation as A
+use Rattle.gl_calculus.proofs.Proved.{at_most_one_answer}
 use Rattle.gl_calculus.specs.Memory.{AreTables, tables_for}
 use Rattle.gl_language.specs.Text.{Bytes}
 use Rattle.gl_protocol.specs.Framing.{Item, Line, Import}
@@ -11,10 +13,12 @@ use Rattle.gl_protocol.specs.Header.{payload_len}
 use Rattle.gl_protocol.specs.Commands as C
 use Rattle.gl_protocol.specs.Commands.{Is, Word, ReadsLine, imported, asks_calculation, error_line, ok_line}
 use Rattle.gl_protocol.specs.Output.{is_refusal}
-use Rattle.gl_calc.specs.View.{View}
-use Rattle.gl_calc.specs.Answers.{Takes, spent_tree}
+use Rattle.gl_calc.specs.View.{View, sheet_of}
+use Rattle.gl_calc.specs.Answers.{Answers, Takes, spent_tree}
+use Rattle.gl_calc.proofs.Rounds.{costs_answer}
 use Rattle.gl_calc.specs.declared.answers.Answer.{Answer}
 use Rattle.gl_calc.specs.declared.answers.Answer.TheVariants.{Settled, Spent}
+use Rattle.gl_calc.specs.declared.answers.SpentKind.{SpentKind}
 use Rattle.gl_csvin.specs.Import.{csv_records, records_of}
 use Rattle.gl_script.specs.Command.{Asks}
 use Rattle.gl_script.specs.declared.requests.Request.{Request}
@@ -23,8 +27,11 @@ use Rattle.gl_run.specs.Known.{Known, memory_in}
 use Rattle.gl_run.specs.Changed.{Marks}
 use Rattle.gl_run.specs.Script.{known_of}
 use Rattle.gl_run.specs.Spends as S
-use Rattle.gl_run.specs.Spends.{Touches, Calculates, Spends}
+use Rattle.gl_run.specs.Replies.{FollowsBy, query_tree}
+use Rattle.gl_run.specs.Spends.{Touches, Calculates, Follows, Spends, SpendsAsked}
 use Rattle.gl_run.specs.Touched.{touched_by}
+use Rattle.gl_run.specs.declared.queries.Query.{Query}
+use Rattle.gl_run.specs.declared.queries.Query.TheVariants as q
 use Rattle.gl_run.specs.declared.script.Script.{Script}
 
 -- ---- what is touched
@@ -96,9 +103,9 @@ module _ (version : Version) (K K' : Known) (q z : Request) (x : C.Request) (is 
       IfOk-weaker result P Q (λ reply t n l none a. S.Spends.line (line_read l a) other t) h
 
   pub if_calculated : {E : Type 0} (n m : ℕ) (result : Result (Vec ℕ Global) E) → asks_calculation csv_records version K.script.sheet x ≡ true
-      → IfOk result (λ reply. Calculates version K K' n m) → IfOk result (λ reply. LineSpends version K K' n m q reply.items)
+      → IfOk result (λ reply. SpendsAsked version x K K' n m) → IfOk result (λ reply. LineSpends version K K' n m q reply.items)
   if_calculated {E} n m result asks h =
-      let P : Vec ℕ Global → Type 0 = λ reply. Calculates version K K' n m in
+      let P : Vec ℕ Global → Type 0 = λ reply. SpendsAsked version x K K' n m in
       let Q : Vec ℕ Global → Type 0 = λ reply. LineSpends version K K' n m q reply.items in
       IfOk-weaker result P Q (λ reply c l none a. S.Spends.asked (line_read l a) asks c) h
 
@@ -138,6 +145,31 @@ pub calculates : (version : Version) (K K' : Known) (n m : ℕ) (x : Answer) →
     → AreTables version K.script.sheet K'.tables → K'.version ≡ version → K'.touched ≡ [] → Calculates version K K' n m
 calculates version K K' n m (Settled rounds) t made v none = record { answer = A.Answer.Settled t.0 rounds; costs = t.1; tables = made; made_for = v; touched = none }
 calculates version K K' n m (Spent k) t made v none = record { answer = A.Answer.Spent (spent_tree k); costs = t; tables = made; made_for = v; touched = none }
+
+-- what follows a calculation that settled to what is held
+pub settled_spends : (version : Version) (K K' : Known) (c : View) (old : Option (Version × Oracle)) (n k m : ℕ) (x : C.Request) (rounds : ℕ) → sheet_of c ≡ K.script.sheet
+    → Answers version K.script.sheet (Settled rounds) old c.held → Takes version K.script.sheet (tables_for version (memory_in K)) K.touched (Settled rounds) n k
+    → AreTables version K.script.sheet K'.tables → K'.version ≡ version → K'.touched ≡ [] → FollowsBy version c rounds x k m → SpendsAsked version x K K' n m
+unfolding calculates
+settled_spends version K K' c old n k m x rounds same a t made v none follows =
+    let S = K.script.sheet in
+    let there : A.Answer.Settled a.0 rounds ≡ A.Answer.Settled t.0 rounds =
+    at_most_one_answer version S (A.Answer.Settled a.0 rounds) (A.Answer.Settled t.0 rounds) a.1 (costs_answer version S (tables_for version (memory_in K)) K.touched (A.Answer.Settled t.0 rounds) n k t.1) in
+    (k, calculates version K K' n k (Settled rounds) t made v none, subst (λ r. Follows version S x r k m) there (subst (λ U. Follows version U x (A.Answer.Settled a.0 rounds) k m) same (follows a.0 a.2)))
+
+-- nothing follows a calculation that is spent
+nothing_follows : (version : Version) (S : Cells) (x : Query) (k : A.SpentKind) (n : ℕ) → Follows version S (query_tree x) (A.Answer.Spent k) n n
+nothing_follows version S (q.Show a) k n = refl
+nothing_follows version S (q.View r) k n = refl
+nothing_follows version S q.Calc k n = refl
+nothing_follows version S q.Oracle k n = refl
+nothing_follows version S (q.Why a) k n = refl
+nothing_follows version S (q.Explain a) k n = refl
+
+pub spent_spends : (version : Version) (K K' : Known) (n m : ℕ) (x : Query) (k : SpentKind) → Takes version K.script.sheet (tables_for version (memory_in K)) K.touched (Spent k) n m
+    → AreTables version K.script.sheet K'.tables → K'.version ≡ version → K'.touched ≡ [] → SpendsAsked version (query_tree x) K K' n m
+unfolding calculates
+spent_spends version K K' n m x k t made v none = (m, calculates version K K' n m (Spent k) t made v none, nothing_follows version K.script.sheet x (spent_tree k) m)
 
 -- ---- imports
 

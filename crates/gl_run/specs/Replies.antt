@@ -5,11 +5,16 @@ use Rattle.gl_calculus.specs.Value.{Oracle}
 use Rattle.gl_calculus.specs.Formula.{Version, Cells}
 use Rattle.gl_calculus.specs.Formula as F
 use Rattle.gl_calculus.specs.Calculation as A
-use Rattle.gl_calculus.specs.Calculation.{IsShown}
+use Rattle.gl_calculus.specs.Calculation.{IsAnswer, IsShown}
+use Rattle.gl_calculus.specs.Key.{Key, Outcome}
+use Rattle.gl_explanation.specs.Certificate.{verdict}
+use Rattle.gl_explanation.specs.Walk.{Claim}
 use Rattle.gl_language.specs.Text.{Bytes}
 use Rattle.gl_language.specs.Content.{IsProperContent}
 use Rattle.gl_protocol.specs.Commands as C
 use Rattle.gl_protocol.specs.Commands.{Word, Is, ImportWords, IsAddress, NoAddress, ReadsLine, words_of, AreShown, SettledReply, error_line}
+use Rattle.gl_forecast.specs.Forecast.{Forecast, IsForecast}
+use Rattle.gl_protocol.specs.Explanations.{note_line, loop_line, explanation_text, forecast_line}
 use Rattle.gl_protocol.specs.Tables.{line, set_text, edit_text}
 use Rattle.gl_edits.specs.Replicas.{Edit, is_stamp}
 use Rattle.gl_cells.specs.Content.{content_tree}
@@ -24,6 +29,7 @@ use Rattle.gl_script.specs.Command.{Asks}
 use Rattle.gl_script.specs.declared.requests.Request.{Request}
 use Rattle.gl_script.specs.declared.requests.Request.TheVariants as r
 use Rattle.gl_views.specs.Rows.{in_rows}
+use Rattle.gl_run.specs.Spends.{Explaining, Follows}
 use Rattle.gl_run.specs.declared.queries.Query.{Query}
 use Rattle.gl_run.specs.declared.queries.Query.TheVariants as q
 
@@ -53,6 +59,7 @@ query_tree (q.View x) = C.Request.View x
 query_tree q.Calc = C.Request.Calculate
 query_tree q.Oracle = C.Request.ShowOracle
 query_tree (q.Why a) = C.Request.Why a
+query_tree (q.Explain a) = C.Request.Explain a
 
 -- what `set` and `edit` put is proper, and the stamp of `edit` is one
 abbrev pub IsProperRequest : Request → Type 0
@@ -71,6 +78,7 @@ IsNoQuery (r.View x) = ⊥
 IsNoQuery r.Calc = ⊥
 IsNoQuery r.Oracle = ⊥
 IsNoQuery (r.Why a) = ⊥
+IsNoQuery (r.Explain a) = ⊥
 IsNoQuery x = ⊤
 
 -- the query that a request is, if it is one
@@ -95,11 +103,34 @@ set_lines S = flat_map (λ x. line (set_text x)) S
 abbrev pub edit_lines : List Edit → Bytes
 edit_lines rs = flat_map (λ e. line (edit_text e)) rs
 
+abbrev pub note_lines : List (Claim Key Outcome) → Bytes
+note_lines notes = flat_map (λ n. note_line n.0 n.1) notes
+
+abbrev pub loop_lines : List Key → Bytes
+loop_lines loops = flat_map loop_line loops
+
+-- the reply tells the forecast of the sheet
+abbrev pub TellsForecast : Cells → Bytes → Type 0
+TellsForecast S reply = (f : Forecast) × IsForecast S f × (reply ≡ forecast_line f)
+
 -- ---- queries
 
 -- the reply by the oracle that is held, where the calculation took so many rounds
 abbrev pub RepliesBy : View → ℕ → C.Request → Bytes → Type 0
 RepliesBy c rounds x reply = (version : Version) (w : Oracle) → c.held ≡ Some (version, w) → SettledReply csv_records version (sheet_of c) w rounds x reply
+
+-- the calculation settled in this version after so many rounds, and what it settled to is held
+abbrev pub Holds : Version → View → ℕ → Type 0
+Holds version c rounds = (w : Oracle) × (c.held ≡ Some (version, w)) × IsAnswer version (sheet_of c) (A.Settled w rounds)
+
+-- behind a calculation that settled after so many rounds, to what is held, a request takes the steps from n to m
+abbrev pub FollowsBy : Version → View → ℕ → C.Request → ℕ → ℕ → Type 0
+FollowsBy version c rounds x n m = (w : Oracle) → c.held ≡ Some (version, w) → Follows version (sheet_of c) x (A.Settled w rounds) n m
+
+-- the reply explains what the address shows, with the steps from n to m
+abbrev pub IsExplanation : Version → Cells → Oracle → Addr → ℕ → ℕ → Bytes → Type 0
+IsExplanation version S w a n m reply =
+    (x : Explaining version S w a n m) × (reply ≡ explanation_text (verdict version S w a x.certificate) x.certificate)
 
 -- the address shows this by the oracle that is held
 abbrev pub IsShownIn : View → Addr → A.Shown → Type 0

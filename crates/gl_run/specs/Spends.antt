@@ -1,16 +1,19 @@
 -- The steps that a script takes, item by item, with what is remembered from one calculation to the next.
-use Rattle.std.specs.Prelude.{◌≡◌, ℕ, List, [], ◌∷◌, ◌++◌, map, Some, true, false, IsTrue, IsFalse, if◌then◌else◌, codes}
+use Rattle.std.specs.Prelude.{◌≡◌, ◌≤◌, ◌+◌, ℕ, List, [], ◌∷◌, ◌++◌, length, map, Some, true, false, IsTrue, IsFalse, if◌then◌else◌, codes}
 use Rattle.gl_calculus.specs.Grid.{Addr}
+use Rattle.gl_calculus.specs.Value.{Oracle}
 use Rattle.gl_calculus.specs.Formula.{Version, One, Two, Cells}
-use Rattle.gl_calculus.specs.Calculation.{Answer}
+use Rattle.gl_calculus.specs.Calculation.{Answer, Settled, Spent}
 use Rattle.gl_calculus.specs.Memory.{AreTables, tables_for}
+use Rattle.gl_explanation.specs.Certificate.{Certificate, Cert, Explains}
 use Rattle.gl_language.specs.Text.{Bytes}
 use Rattle.gl_protocol.specs.Framing.{Item, Line, Import}
-use Rattle.gl_protocol.specs.Commands.{Request, Is, ImportWords, IsAddress, words_of, ReadsLine, imported, asks_calculation}
+use Rattle.gl_protocol.specs.Commands.{Request, Explain, Is, ImportWords, IsAddress, words_of, ReadsLine, imported, asks_calculation}
 use Rattle.gl_protocol.specs.Acts.{Acts}
 use Rattle.gl_protocol.specs.Output.{is_line, is_refusal}
 use Rattle.gl_calc.specs.Costs.{Costs}
 use Rattle.gl_csvin.specs.Import.{csv_records, records_of}
+use Rattle.gl_explain.specs.Steps.{AllowsWalk}
 use Rattle.gl_run.specs.Known.{Known, new_known, memory_in}
 use Rattle.gl_run.specs.Touched.{touched_by}
 
@@ -28,10 +31,29 @@ pub record Calculates (version : Version) (K K' : Known) (n m : ℕ) : Type 0 wh
   pub made_for : K'.version ≡ version
   pub touched : K'.touched ≡ []
 
--- The steps of an item go from n to m: those of a calculation where it asks for one, and else none.
+-- An explanation by an oracle takes the steps from n to m: those of the walk that finds a certificate, and then at most one for each note and each loop that is checked.
+pub record Explaining (version : Version) (S : Cells) (w : Oracle) (a : Addr) (n m : ℕ) : Type 0 where
+  pub certificate : Certificate
+  pub explains : Explains version S w a (Cert certificate)
+  pub found : ℕ
+  pub walk : AllowsWalk version S w a (Cert certificate) n found
+  pub check : m ≤ found + length certificate.notes + length certificate.loops
+  pub later : n ≤ m
+
+-- What a request takes behind its calculation, by the answer: `explain` an explanation where that settled, and all else nothing.
+abbrev pub Follows : Version → Cells → Request → Answer → ℕ → ℕ → Type 0
+Follows version S (Explain a) (Settled w rounds) n m = Explaining version S w a n m
+Follows version S (Explain a) (Spent k) n m = m ≡ n
+Follows version S x answer n m = m ≡ n
+
+-- a request that asks for the calculation takes the steps from n to m: those of the calculation, and of what follows it
+abbrev pub SpendsAsked : Version → Request → Known → Known → ℕ → ℕ → Type 0
+SpendsAsked version x K K' n m = (k : ℕ) × (c : Calculates version K K' n k) × Follows version K.script.sheet x c.answer k m
+
+-- The steps of an item go from n to m: those of a calculation and of an explanation where it asks for one, and else none.
 pub data Spends (version : Version) (K : Known) : Item → Bytes → Known → ℕ → ℕ → Type 0 where
   asked : {l reply : Bytes} {x : Request} {K' : Known} {n m : ℕ} → ReadsLine l (Is x) → IsTrue (asks_calculation csv_records version K.script.sheet x)
-      → Calculates version K K' n m → Spends version K (Line l) reply K' n m
+      → SpendsAsked version x K K' n m → Spends version K (Line l) reply K' n m
   line : {l reply : Bytes} {x : Request} {K' : Known} {n : ℕ} → ReadsLine l (Is x) → IsFalse (asks_calculation csv_records version K.script.sheet x)
       → Touches reply (touched_by K.script x) K K' → Spends version K (Line l) reply K' n n
   import : {l p reply : Bytes} {K' : Known} {n : ℕ} (place count : Bytes) (a : Addr) (cs : Cells) → words_of l ≡ Some (ImportWords place count) → IsAddress place a

@@ -17,6 +17,7 @@ ghost use Rattle.gl_run.specs.Spends.{Spends};
 
 use crate::edits::{clear, set};
 use crate::exports::export;
+use crate::forecasting::forecast;
 use crate::lines::{error_line, text_line};
 use crate::lists::{get, list};
 use crate::merging::{edit, site};
@@ -102,6 +103,7 @@ fn query_of(request: &Request) -> Option<Query>
         Request::Calc => Some(Query::Calc),
         Request::Oracle => Some(Query::Oracle),
         Request::Why(a) => Some(Query::Why(*a)),
+        Request::Explain(a) => Some(Query::Explain(*a)),
         Request::Nothing => None,
         Request::Set(_, _) => None,
         Request::Clear(_) => None,
@@ -115,6 +117,7 @@ fn query_of(request: &Request) -> Option<Query>
         Request::Export => None,
         Request::Undo => None,
         Request::Redo => None,
+        Request::Flow => None,
     }
 }
 
@@ -153,11 +156,13 @@ fn answer_other(
         Request::Export => export(alloc, script),
         Request::Undo => undo(alloc, script),
         Request::Redo => redo(alloc, script),
+        Request::Flow => forecast(alloc, script.calc.cells()),
         Request::Show(_) => unreachable!(),
         Request::View(_) => unreachable!(),
         Request::Calc => unreachable!(),
         Request::Oracle => unreachable!(),
         Request::Why(_) => unreachable!(),
+        Request::Explain(_) => unreachable!(),
     }
 }
 

@@ -14,10 +14,11 @@ ghost use Rattle.gl_value.specs.Made.{shown_tree};
 ghost use Rattle.gl_calc.specs.Answers.{spent_tree};
 ghost use Rattle.gl_calc.specs.Why.{why_tree};
 ghost use Rattle.gl_csvin.specs.Import.{csv_records};
-ghost use Rattle.gl_run.specs.Replies.{RepliesBy, query_tree};
+ghost use Rattle.gl_run.specs.Replies.{FollowsBy, Holds, RepliesBy, query_tree};
 ghost use Rattle.gl_run.specs.Script.{known_of, script_of};
-ghost use Rattle.gl_run.specs.Spends.{Calculates};
+ghost use Rattle.gl_run.specs.Spends.{SpendsAsked};
 
+use crate::explaining::explain;
 use crate::lines::{address_line, text_line};
 use crate::script::Script;
 use crate::tables::{shown_at, view};
@@ -39,6 +40,7 @@ pub(crate) enum Query {
     Calc,
     Oracle,
     Why(Addr),
+    Explain(Addr),
 }
 
 /// Calculates the sheet, and answers what is asked, or which budget was spent.
@@ -55,12 +57,14 @@ pub(crate) fn answer_query<F: Fn(u8, u64, u64) -> u64, L: Watch>(
     requires kind { kind ≤ 2 }
     ensures does { IfOk result (λ reply.
         Does csv_records (version_tree version) (script_of script.old) (query_tree query) (script_of script.new) reply.items) }
-    ensures calculates { IfOk result (λ reply. Calculates (version_tree version)
+    ensures spends { IfOk result (λ reply. SpendsAsked (version_tree version) (query_tree query)
         (known_of script.old) (known_of script.new) steps.old steps.new) }
     ensures script { script_of script.new ≡ script_of script.old }
 {
     match script.calc.refresh(alloc, order, kind, version, steps) {
-        Ok(Answer::Settled { rounds }) => settled_reply(alloc, &script.calc, rounds, query),
+        Ok(Answer::Settled { rounds }) => {
+            settled_reply(alloc, &script.calc, version, rounds, steps, query)
+        }
         Ok(Answer::Spent(spent)) => spent_line(alloc, spent),
         Err(NoMemory) => Err(NoMemory),
     }
@@ -78,9 +82,19 @@ fn spent_line(alloc: Global, spent: SpentKind) -> Result<Vec<u8>, NoMemory>
 }
 
 /// Answers what is asked by the oracle that is held, to which the calculation settled.
-fn settled_reply(alloc: Global, calc: &Calc, rounds: u32, query: Query) -> Result<Vec<u8>, NoMemory>
-    requires { IsSome calc.now.held }
-    ensures { IfOk result (λ reply. RepliesBy calc.now rounds (query_tree query) reply.items) }
+fn settled_reply<L: Watch>(
+    alloc: Global,
+    calc: &Calc,
+    version: Version,
+    rounds: u32,
+    steps: &mut Steps<L>,
+    query: Query,
+) -> Result<Vec<u8>, NoMemory>
+    requires held { IsSome calc.now.held }
+    requires settled { Holds (version_tree version) calc.now rounds }
+    ensures replies { IfOk result (λ reply. RepliesBy calc.now rounds (query_tree query) reply.items) }
+    ensures follows { IfOk result (λ reply. FollowsBy (version_tree version) calc.now rounds
+        (query_tree query) steps.old steps.new) }
 {
     match query {
         Query::Show(a) => show(alloc, calc, a),
@@ -88,6 +102,7 @@ fn settled_reply(alloc: Global, calc: &Calc, rounds: u32, query: Query) -> Resul
         Query::Calc => rounds_line(alloc, rounds),
         Query::Oracle => oracle(alloc, calc),
         Query::Why(a) => why(alloc, calc, a),
+        Query::Explain(a) => explain(alloc, calc, version, a, steps),
     }
 }
 

@@ -9,19 +9,6 @@ use gl_run::{Status, run};
 use std::io::{self, ErrorKind};
 use std::process::ExitCode;
 
-// The status that the process ends with.
-fn exit_status(status: Status) -> u8 {
-    match status {
-        Status::Done { refused: false } => 0,
-        Status::Done { refused: true } => 1,
-        Status::Usage => 2,
-        Status::NoMemory => 3,
-        Status::ReadFault => 4,
-        Status::WriteFault => 5,
-        Status::InputLimit => 6,
-    }
-}
-
 // The words behind the program's name.
 fn words(rt: &HostRuntime) -> io::Result<Vec<String>> {
     let mut all = std::env::args(rt)?;
@@ -33,10 +20,10 @@ fn main(rt: HostRuntime) -> ExitCode {
     let words = match words(&rt) {
         Ok(words) => words,
         Err(error) if error.kind() == ErrorKind::OutOfMemory => {
-            return ExitCode::from(exit_status(Status::NoMemory));
+            return ExitCode::from(Status::NoMemory.number());
         }
         // a word is no UTF-8
-        Err(_) => return ExitCode::from(exit_status(Status::Usage)),
+        Err(_) => return ExitCode::from(Status::Usage.number()),
     };
     let mut source = StdIn::new(rt.stdin());
     let mut sink = StdOut::new(rt.stdout());
@@ -50,5 +37,5 @@ fn main(rt: HostRuntime) -> ExitCode {
         &mut sink,
         &mut steps,
     );
-    ExitCode::from(exit_status(status))
+    ExitCode::from(status.number())
 }

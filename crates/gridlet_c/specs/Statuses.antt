@@ -7,16 +7,6 @@ use Rattle.gl_run.specs.Out.{WroteAll, WroteAllTelling, WroteSome, WroteCut, Fit
 use Rattle.gl_run.specs.declared.top.Status.{Status}
 use Rattle.gl_run.specs.declared.top.Status.TheVariants.{Done, Usage, NoMemory, ReadFault, WriteFault, InputLimit}
 
--- the number of a status, as the program's exit status
-abbrev pub number_of : Status → ℕ
-number_of (Done false) = 0
-number_of (Done true) = 1
-number_of Usage = 2
-number_of NoMemory = 3
-number_of ReadFault = 4
-number_of WriteFault = 5
-number_of InputLimit = 6
-
 -- no rule has this order, or there is no room for a reply
 abbrev pub is_unusable : (order room : ℕ) → Bool
 is_unusable order room = nat_lt 2 order || room == 0

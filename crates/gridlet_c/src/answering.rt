@@ -1,7 +1,8 @@
 // A script is answered into a sink.
 ghost use Rattle.std.specs.Prelude.{◌≡◌, ◌≢◌, ◌≤◌, ℕ, List, Option, map, string_bytes, IfOk, None};
 ghost use Rattle.gl_run.specs.Call.{words_call, input_of};
-ghost use Rattle.gridlet_c.specs.Statuses.{number_of, Leaves};
+ghost use Rattle.gl_run.specs.Status.{number_of};
+ghost use Rattle.gridlet_c.specs.Statuses.{Leaves};
 
 use gl_demand::{Silent, Steps};
 use gl_order::{Order, by_kind};
@@ -20,15 +21,7 @@ pub const MOST_ORDER: u32 = 2;
 pub fn number(status: Status) -> u32
     ensures { result ≡ number_of status }
 {
-    match status {
-        Status::Done { refused: false } => 0,
-        Status::Done { refused: true } => 1,
-        Status::Usage => 2,
-        Status::NoMemory => 3,
-        Status::ReadFault => 4,
-        Status::WriteFault => 5,
-        Status::InputLimit => 6,
-    }
+    u32::from(status.number())
 }
 
 // The words of a call in this order, which read a source.

@@ -5,7 +5,8 @@
 ghost use Rattle.std.specs.Prelude.{◌≡◌, ◌≢◌, ◌↔◌, ◌⊎◌, ◌≤◌, ℕ, [], take, drop, length, Some, IsTrue};
 ghost use Rattle.gl_language.specs.Text.{Bytes};
 ghost use Rattle.gl_run.specs.declared.top.Status.{Status as Ended};
-ghost use Rattle.gridlet_c.specs.Statuses.{number_of, is_unusable, Leaves, IsWhole};
+ghost use Rattle.gl_run.specs.Status.{number_of};
+ghost use Rattle.gridlet_c.specs.Statuses.{is_unusable, Leaves, IsWhole};
 
 mod answering;
 mod copying;

@@ -8,6 +8,10 @@ mod cuts;
 #[cfg(test)]
 mod edits;
 #[cfg(test)]
+mod explanations;
+#[cfg(test)]
+mod forecasts;
+#[cfg(test)]
 mod functions;
 #[cfg(test)]
 mod long;

@@ -82,7 +82,7 @@ struct Row {
     others: u64,
 }
 
-const ROWS: [Row; 4] = [
+const ROWS: [Row; 5] = [
     Row {
         lines: "calc\ncalc\n",
         replies: "settled 3\nsettled 3\n",
@@ -94,8 +94,8 @@ const ROWS: [Row; 4] = [
     },
     // queries between which nothing is edited calculate once
     Row {
-        lines: "show B3\nview A1:B3\noracle\nwhy A1\nget D1\nshow Z9\n",
-        replies: "6\n1 2\n2 4\n3 6\noracle 2\nA1 3x1 permitted\nB1 3x1 permitted\npermitted\n=1+1\n.\n",
+        lines: "flow\nshow B3\nview A1:B3\noracle\nwhy A1\nget D1\nshow Z9\nflow\n",
+        replies: "yes 2\n6\n1 2\n2 4\n3 6\noracle 2\nA1 3x1 permitted\nB1 3x1 permitted\npermitted\n=1+1\n.\nyes 2\n",
         status: DONE,
         least: 105,
         most: 107,
@@ -110,6 +110,16 @@ const ROWS: [Row; 4] = [
         least: 108,
         most: 110,
         first: 4,
+        others: 1,
+    },
+    // an explanation evaluates what it finds, and again what it checks
+    Row {
+        lines: "calc\nexplain D1\nexplain Z9\n",
+        replies: "settled 3\nexplain 1 0\nD1 2\nshown 2\naccepted\nexplain 0 0\nshown .\naccepted\n",
+        status: DONE,
+        least: 107,
+        most: 109,
+        first: 3,
         others: 1,
     },
     // an edit that is refused is none, nor are contents that nothing looks at

@@ -1,6 +1,8 @@
 use Rattle.std.specs.Prelude.{codes}
-use Rattle.std.proofs.Common.{refl}
+use Rattle.std.proofs.Common.{ℕ, Vec, Global, refl}
+use Rattle.std.proofs.lemmas.Result.{IfOk-weaker}
 use Rattle.gl_calculus.specs.Formula.{content}
+use Rattle.gl_protocol.specs.Acts.{Does}
 use Rattle.gl_protocol.specs.Commands as C
 use Rattle.gl_protocol.specs.Commands.{get_text, list_text}
 use Rattle.gl_protocol.specs.Tables.{line}
@@ -9,8 +11,10 @@ use Rattle.gl_cells.specs.Content.{content_tree}
 use Rattle.gl_cells.specs.Sheet.{sheet}
 use Rattle.gl_script.specs.Command.{edit_of}
 use Rattle.gl_script.specs.declared.requests.Request.TheVariants as r
+use Rattle.gl_csvin.specs.Import.{csv_records}
+use Rattle.gl_run.specs.Replies.{TellsForecast}
 use Rattle.gl_run.specs.Script.{known_of, script_of}
-use Rattle.gl_run.proofs.Asking.{answers_all, if_said, if_changed, if_merged, if_exported, nothing_done, get_done, list_done, quit_done, version_refused}
+use Rattle.gl_run.proofs.Asking.{answers_all, if_said, if_changed, if_merged, if_exported, if_done, nothing_done, get_done, list_done, flow_done, quit_done, version_refused}
 use Rattle.gl_run.proofs.Spending.{untouched_all, if_untouched, if_touched, if_refused}
 use Rattle.gl_run.proofs.answers.answer_other.Goals as goal
 
@@ -48,6 +52,16 @@ returns-in-List-clause-acts c =
     let s = script_of c.args.script.now in
     let T = sheet c.cells-in-List.result.now in
     if_said version s s c.args.request r.List C.Request.ListAll c.in-List.is (λ l h. h) c.list.result (list_text version T) (list_done version s T c.cells-in-List.ensures) c.list.ensures
+
+pub returns-in-Flow-clause-acts : goal.returns-in-Flow-clause-acts
+returns-in-Flow-clause-acts c =
+    let version = version_tree c.args.version in
+    let s = script_of c.args.script.now in
+    let T = sheet c.cells-in-Flow.result.now in
+    let P : Vec ℕ Global → Type 0 = λ reply. TellsForecast T reply.items in
+    let Q : Vec ℕ Global → Type 0 = λ reply. Does csv_records version s C.Request.Flow s reply.items in
+    if_done version s s c.args.request r.Flow C.Request.Flow c.in-Flow.is (λ l h. h) c.forecast.result
+    (IfOk-weaker c.forecast.result P Q (λ reply t. flow_done version s T reply.items c.cells-in-Flow.ensures t) c.forecast.ensures)
 
 pub returns-in-Version-clause-acts : goal.returns-in-Version-clause-acts
 returns-in-Version-clause-acts c =
@@ -123,6 +137,12 @@ returns-in-List-clause-spends c =
     let version = version_tree c.args.version in
     let K = known_of c.args.script.now in
     if_untouched version K c.args.request r.List C.Request.ListAll c.list.result c.in-List.is (λ l h. h) refl refl
+
+pub returns-in-Flow-clause-spends : goal.returns-in-Flow-clause-spends
+returns-in-Flow-clause-spends c =
+    let version = version_tree c.args.version in
+    let K = known_of c.args.script.now in
+    if_untouched version K c.args.request r.Flow C.Request.Flow c.forecast.result c.in-Flow.is (λ l h. h) refl refl
 
 pub returns-in-Import-clause-spends : goal.returns-in-Import-clause-spends
 returns-in-Import-clause-spends c =

@@ -20,7 +20,7 @@ returns-in-Some-clause-spends g c =
     let version = version_tree c.args.version in
     let K = known_of c.args.script.now in
     let x = query_tree c.in-Some.query in
-    if_calculated version K (known_of c.answer_query.new.script) c.args.request c.args.request x refl c.in-Some.ensures c.args.steps.now c.answer_query.new.steps c.answer_query.result (all_ask version K.script.sheet c.in-Some.query) c.answer_query.ensures.calculates
+    if_calculated version K (known_of c.answer_query.new.script) c.args.request c.args.request x refl c.in-Some.ensures c.args.steps.now c.answer_query.new.steps c.answer_query.result (all_ask version K.script.sheet c.in-Some.query) c.answer_query.ensures.spends
 
 pub returns-in-None-clause-spends : goal.returns-in-None-clause-spends
 returns-in-None-clause-spends g c =

@@ -8,8 +8,8 @@ use Rattle.gl_run.specs.Replies.{RepliesBy}
 use Rattle.gl_run.proofs.Querying.{calc_replies}
 use Rattle.gl_run.proofs.queries.settled_reply.Goals as goal
 
-pub returns-in-Calc : goal.returns-in-Calc
-returns-in-Calc c =
+pub returns-in-Calc-clause-replies : goal.returns-in-Calc-clause-replies
+returns-in-Calc-clause-replies g c =
     let P : Vec ℕ Global → Type 0 = λ reply. reply.items ≡ line (codes "settled " ++ decimal c.args.rounds) in
     let Q : Vec ℕ Global → Type 0 = λ reply. RepliesBy c.args.calc.now c.args.rounds C.Request.Calculate reply.items in
     rw c.in-Calc.is (IfOk-weaker c.rounds_line.result P Q (λ reply e. calc_replies c.args.calc.now reply.items c.args.rounds e) c.rounds_line.ensures)

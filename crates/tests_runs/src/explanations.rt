@@ -1,0 +1,93 @@
+//! Explanations of what addresses show.
+use crate::calls::{Row, holds};
+use std::test::Fail;
+
+/// Scripts with explanations.
+const ROWS: [Row<'static>; 13] = [
+    // arrays and what is read of them; an address that no key decides
+    Row {
+        script: b"set A1 =SEQUENCE(2,1)\nset B1 =A2+1\nexplain B1\nexplain Z9\n",
+        replies: b"ok\nok\nexplain 2 0\nA1 2x1\nB1 3\nshown 3\naccepted\nexplain 0 0\nshown .\naccepted\n",
+        refused: false,
+    },
+    // a circle
+    Row {
+        script: b"set A1 =B1\nset B1 =A1\nset C1 =IFERROR(A1,7)\nexplain C1\n",
+        replies: b"ok\nok\nok\nexplain 0 3\nC1 #CYCLE!\nA1 #CYCLE!\nB1 #CYCLE!\nshown #CYCLE!\naccepted\n",
+        refused: false,
+    },
+    // a copy that settles, and an address under an array
+    Row {
+        script: b"set A1 3\nset B1 4\nset C1 =A1*A1+B1*B1\nset E1 =G(A1:C1,A1,6)\nexplain E1\nexplain G1\n",
+        replies: b"ok\nok\nok\nok\nexplain 3 0\ncopy C1 52\nsettle A1:C1 0\nE1 1x3\nshown 6\naccepted\nexplain 3 0\ncopy C1 52\nsettle A1:C1 0\nE1 1x3\nshown 52\naccepted\n",
+        refused: false,
+    },
+    // a circle through a copy
+    Row {
+        script: b"set A1 1\nset B1 =C1+A1\nset C1 =G(A1:B1,A1,5)\nexplain C1\n",
+        replies: b"ok\nok\nok\nexplain 0 3\nC1 #CYCLE!\nsettle A1:B1 #CYCLE!\ncopy B1 #CYCLE!\nshown #CYCLE!\naccepted\n",
+        refused: false,
+    },
+    // constants
+    Row {
+        script: b"set A1 5\nset B1 \"a\"\nexplain A1\nexplain B1\n",
+        replies: b"ok\nok\nexplain 0 0\nshown 5\naccepted\nexplain 0 0\nshown \"a\"\naccepted\n",
+        refused: false,
+    },
+    // an array that is refused
+    Row {
+        script: b"set A1 =SEQUENCE(3,1)\nset A2 5\nexplain A1\nexplain A3\n",
+        replies: b"ok\nok\nexplain 1 0\nA1 3x1\nshown #SPILL!\naccepted\nexplain 0 0\nshown .\naccepted\n",
+        refused: false,
+    },
+    // an array of one cell, and a blank
+    Row {
+        script: b"set A1 =SEQUENCE(1,1)\nexplain A1\nset B1 =C1\nexplain B1\n",
+        replies: b"ok\nexplain 1 0\nA1 1x1\nshown 1\naccepted\nok\nexplain 1 0\nB1 .\nshown .\naccepted\n",
+        refused: false,
+    },
+    // a circle below a cell
+    Row {
+        script: b"set A1 =B1\nset B1 =C1\nset C1 =B1\nexplain A1\n",
+        replies: b"ok\nok\nok\nexplain 0 3\nA1 #CYCLE!\nB1 #CYCLE!\nC1 #CYCLE!\nshown #CYCLE!\naccepted\n",
+        refused: false,
+    },
+    // a note beside a circle
+    Row {
+        script: b"set A1 =1+1\nset B1 =A1+C1\nset C1 =B1\nexplain B1\n",
+        replies: b"ok\nok\nok\nexplain 1 2\nA1 2\nB1 #CYCLE!\nC1 #CYCLE!\nshown #CYCLE!\naccepted\n",
+        refused: false,
+    },
+    // a text that a table would cut
+    Row {
+        script: b"set A1 =\"abcdefghijklmnopqrstuvwxyz\"\nexplain A1\n",
+        replies: b"ok\nexplain 1 0\nA1 \"abcdefghijklmnopqrstuvwxyz\"\nshown \"abcdefghijklmnopqrstuvwxyz\"\naccepted\n",
+        refused: false,
+    },
+    // before an edit, and behind it
+    Row {
+        script: b"gridlet 2\nset B1 =A1+1\nexplain B1\nset A1 4\nexplain B1\n",
+        replies: b"ok\nok\nexplain 1 0\nB1 1\nshown 1\naccepted\nok\nexplain 1 0\nB1 5\nshown 5\naccepted\n",
+        refused: false,
+    },
+    // a calculation that is spent
+    Row {
+        script: b"set A1 =IF(C1=0,SEQUENCE(1,3),5)\nexplain A1\nexplain D1\n",
+        replies: b"ok\nspent rounds A1\nspent rounds A1\n",
+        refused: false,
+    },
+    // no place, more than one, and none of the grid
+    Row {
+        script: b"explain\nexplain \nexplain A1 B1\nexplain  A1\nEXPLAIN A1\nexplain A0\nexplain A1:A1\nexplain a1\n",
+        replies: b"error command\nerror command\nerror command\nerror command\nerror command\nerror address\nerror address\nerror address\n",
+        refused: true,
+    },
+];
+
+#[test]
+fn explanations(rt: HostRuntime) -> Result<(), Fail> {
+    for row in &ROWS {
+        assert!(rt; holds(rt.alloc(), row)?, "{:?}", row.script);
+    }
+    Ok(())
+}
