@@ -29,7 +29,7 @@ fn sequences(rt: HostRuntime) -> Result<(), Fail> {
 
 /// How many rows and columns a sequence has, where its first element is 1.
 fn outline(alloc: Global, rows: &str, cols: &str) -> Result<(u16, u16), Fail> {
-    match sequence(alloc, &value(alloc, rows)?, &value(alloc, cols)?)? {
+    match &sequence(alloc, &value(alloc, rows)?, &value(alloc, cols)?)? {
         Value::One(_) => Err(Fail::new("no array")),
         Value::Array(a) => {
             if a.item(0, 0) == Some(&Scalar::Int(1)) {
