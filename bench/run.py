@@ -137,20 +137,63 @@ def recursion64():
     return recursion(64)
 
 
+def totals():
+    """Three totals above 5,000 formulas each, one of which is edited once."""
+    rows = range(2, 5002)
+    lines = ['set %s1 =SUM(%s2:%s5001)' % (c, c, c) for c in 'ABC']
+    lines += ['set %s%d =%d' % (c, r, r) for c in 'ABC' for r in rows]
+    lines += ['show A1', 'set B7 1', 'show B1']
+    return [], '\n'.join(lines) + '\n'
+
+
+def explained_chain():
+    """A chain of 16,000 formulas, explained at its end."""
+    lines = ['set A1 =1'] + ['set A%d =A%d+1' % (i, i - 1) for i in range(2, 8001)]
+    lines += ['set B1 =A8000'] + ['set B%d =B%d+1' % (i, i - 1) for i in range(2, 8001)]
+    return [], '\n'.join(lines + ['explain B8000']) + '\n'
+
+
+def explained_total():
+    """A total above 10,000 formulas, explained."""
+    lines = ['set A1 =SUM(A2:B5001)']
+    lines += ['set %s%d =%d' % (c, r, r) for c in 'AB' for r in range(2, 5002)]
+    return [], '\n'.join(lines + ['explain A1']) + '\n'
+
+
+def flow_ranges():
+    """The forecast of 6,384 totals over a range of 10,000 formulas."""
+    lines = ['set %s%d =%d' % (c, r, r) for c in 'AB' for r in range(1, 5001)]
+    lines += ['set J%d =SUM(A1:B5000)' % r for r in range(1, 6385)]
+    return [], '\n'.join(lines + ['flow']) + '\n'
+
+
+def flow_arrays():
+    """The forecast of 16,384 arrays of unknown size."""
+    lines = ['set %s%d =SEQUENCE(A1,B1)' % (c, r) for c in 'CD' for r in range(1, 8193)]
+    return [], '\n'.join(lines + ['flow']) + '\n'
+
+
+def flow_column():
+    """The forecast of a column of 9,999 cells, each reading the one above."""
+    lines = ['set A1 1'] + ['set A%d =A%d+1' % (i, i - 1) for i in range(2, 10000)]
+    return [], '\n'.join(lines + ['flow']) + '\n'
+
+
 WORKLOADS = [generator, chain, sums, spills, copies, table, commands, asked_again, leaf_edits,
-             siblings, gridlets, recursion22, recursion26, recursion64]
+             siblings, gridlets, recursion22, recursion26, recursion64, totals, explained_chain,
+             explained_total, flow_ranges, flow_arrays, flow_column]
 
 
 def main():
     program, names = sys.argv[1], sys.argv[2:]
-    print('%-11s %10s %10s %6s %8s' % ('workload', 'in', 'out', 'status', 'seconds'))
+    print('%-15s %10s %10s %6s %8s' % ('workload', 'in', 'out', 'status', 'seconds'))
     for workload in WORKLOADS:
         if names and workload.__name__ not in names:
             continue
         words, script = workload()
         start = time.time()
         done = subprocess.run([program] + words, input=script.encode(), capture_output=True)
-        print('%-11s %10d %10d %6d %8.2f' % (workload.__name__, len(script), len(done.stdout), done.returncode, time.time() - start))
+        print('%-15s %10d %10d %6d %8.2f' % (workload.__name__, len(script), len(done.stdout), done.returncode, time.time() - start))
 
 
 if __name__ == '__main__':
