@@ -6,7 +6,7 @@ ghost use Rattle.gl_cells.specs.Sheet.{sheet};
 ghost use Rattle.gl_value.specs.View.{sheet_tree};
 ghost use Rattle.gl_demand.specs.Blocks.{has_content_in};
 
-use crate::places::{count, has_content, place};
+use crate::places::has_content;
 use gl_cells::Cells;
 use gl_grant::Blocks;
 use gl_plane::{Addr, Range};
@@ -58,8 +58,8 @@ impl Blocks for CopyBlocks<'_> {
     ghost held = { λ s a. has_content_in (sheet s.cells.now) (sheet_tree s.sheet.now) a };
 
     fn blocked(&self, root: Addr, area: &Range) -> Option<Addr> {
-        for i in 0..count(area) {
-            let a = place(area, i);
+        for i in 0..area.cells() {
+            let a = area.place(i);
             if self.is_other_content(root, a) {
                 return Some(a);
             }

@@ -16,7 +16,6 @@ ghost use Rattle.gl_demand.specs.Lacking.{IsPassing, IsNext};
 
 use crate::ahead::{Ahead, Reference};
 use crate::held::{Held, cover_in, held_at};
-use crate::places::{count, place};
 use crate::reading::sound_home;
 use crate::{Key, Known, Outcome};
 use gl_cells::Cells;
@@ -177,8 +176,8 @@ fn lacked_in_area<K: Known>(
 ) -> Result<Option<Lacked>, NoMemory>
     ensures { IfOk result (IsNext (K.outcomes known.now) (keys_from (sheet cells.now) w.now (Area (frame_tree x.now.env) x.now.range)) from) }
 {
-    for i in from..count(&x.range) {
-        match pass_address(cells, w, &x.env, place(&x.range, i), known) {
+    for i in from..x.range.cells() {
+        match pass_address(cells, w, &x.env, x.range.place(i), known) {
             Ok(passing) => match passing {
                 Passing::On => {}
                 Passing::Lacks(key) => return Ok(Some(Lacked { place: i, key })),
@@ -199,8 +198,8 @@ fn lacked_in_round<K: Known>(
 ) -> Result<Option<Lacked>, NoMemory>
     ensures { (w : Plain) → IfOk result (IsNext (K.outcomes known.now) (keys_from (sheet cells.now) w (Round (frame_tree x.now.env) x.now.range)) from) }
 {
-    for i in from..count(&x.range) {
-        match pass_own(cells, &x.env, place(&x.range, i), known) {
+    for i in from..x.range.cells() {
+        match pass_own(cells, &x.env, x.range.place(i), known) {
             Ok(passing) => match passing {
                 Passing::On => {}
                 Passing::Lacks(key) => return Ok(Some(Lacked { place: i, key })),

@@ -1,6 +1,5 @@
-//! The addresses of a range, and those of a sheet value's region that have content.
-ghost use Rattle.std.specs.Prelude.{◌≡◌, ◌<◌, ◌≤◌, ◌++◌, ◌∷◌, [], Some, IsTrue, IfOk, OnOk, if◌then◌else◌, length, slice_get, option_map};
-ghost use Rattle.gl_calculus.specs.Grid.{addresses};
+//! The addresses of a sheet value's region that have content.
+ghost use Rattle.std.specs.Prelude.{◌≡◌, ◌≤◌, ◌++◌, ◌∷◌, [], IsTrue, IfOk, OnOk, if◌then◌else◌, length, option_map};
 ghost use Rattle.gl_calculus.specs.Value.{In};
 ghost use Rattle.gl_calculus.specs.Formula.{content};
 ghost use Rattle.gl_calculus.specs.Reference.{own_content, content_in};
@@ -13,33 +12,9 @@ ghost use Rattle.gl_demand.specs.Places.{filled_places};
 
 use crate::held::{Held, content_in};
 use gl_cells::Cells;
-use gl_plane::{Addr, NoMemory, Range};
+use gl_plane::{Addr, NoMemory};
 use gl_value::SheetVal;
 use std::alloc::Global;
-
-/// An address of a range, by its place from 0 in row-major order.
-pub fn place(r: &Range, i: u32) -> Addr
-    requires { i < length (addresses r.now) }
-    ensures { Some result ≡ slice_get (addresses r.now) i }
-{
-    let first = r.first();
-    let last = r.last();
-    let cols = u32::from(last.col + 1 - first.col);
-    Addr {
-        row: first.row + (i / cols) as u16,
-        col: first.col + (i % cols) as u16,
-    }
-}
-
-/// How many addresses a range has.
-pub fn count(r: &Range) -> u32
-    ensures value { result ≡ length (addresses r.now) }
-    ensures few { result ≤ 7019298 }
-{
-    let first = r.first();
-    let last = r.last();
-    u32::from(last.row + 1 - first.row) * u32::from(last.col + 1 - first.col)
-}
 
 /// What an address holds in a frame of the sheet value.
 #[tactic(auto, using(gl_value::specs::Forms::trees))]
@@ -85,8 +60,8 @@ pub fn places(alloc: Global, cells: &Cells, s: &SheetVal) -> Result<Vec<Addr>, N
     ensures few { IfOk result (λ v. length v.items ≤ 7019298) }
 {
     let mut found = Vec::new(alloc);
-    for i in 0..count(&s.region) {
-        let a = place(&s.region, i);
+    for i in 0..s.region.cells() {
+        let a = s.region.place(i);
         match add(&mut found, a, has_content(cells, s, a)) {
             Ok(()) => {}
             Err(NoMemory) => return Err(NoMemory),

@@ -14,7 +14,6 @@ ghost use Rattle.gl_ahead.specs.Reading.{Area};
 ghost use Rattle.gl_demand.specs.declared.trail.Halt.{Halt};
 
 use crate::context::Context;
-use crate::places::{count, place};
 use crate::reading::deref;
 use crate::trail::{Halt, Trail};
 use crate::{Ahead, Known, Reference};
@@ -38,8 +37,8 @@ fn read_range<K: Known>(
 {
     let mut seen = IndexSet::new(ctx.alloc);
     let mut items = Vec::new(ctx.alloc);
-    for i in 0..count(r) {
-        match deref(ctx, env, place(r, i), &mut seen, trail) {
+    for i in 0..r.cells() {
+        match deref(ctx, env, r.place(i), &mut seen, trail) {
             Ok(x) => match items.push(x) {
                 Ok(()) => {}
                 Err(_) => return Err(Halt::NoMemory),

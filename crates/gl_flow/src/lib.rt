@@ -13,7 +13,6 @@ mod levels;
 mod making;
 mod network;
 mod places;
-mod ranges;
 mod reading;
 mod rivals;
 mod searching;

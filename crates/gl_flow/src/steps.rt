@@ -10,7 +10,6 @@ ghost use Rattle.gl_flow.specs.Plans.{plan};
 use crate::boxes::Area;
 use crate::network::Network;
 use crate::places::number_of;
-use crate::ranges::{count, place};
 use crate::reading::Piece;
 use crate::rivals::rival;
 use gl_graph::{Graph, Place};
@@ -49,8 +48,8 @@ impl Network {
         ensures none { IfNone result (piece_steps (plan self.now) (Fo.Reads r.now) from ≡ []) }
         ensures inside { IfSome result (λ s. s.0 < 2 * length self.now.places.items) }
     {
-        for i in from..count(r) {
-            let n = self.source(place(r, i));
+        for i in from..r.cells() {
+            let n = self.source(r.place(i));
             if n > 0 {
                 return Some((self.top(n as usize - 1), i + 1));
             }
