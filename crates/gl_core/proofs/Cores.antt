@@ -15,7 +15,7 @@ use Rattle.gl_demand.specs.View.{outcome_tree}
 use Rattle.gl_demand.specs.Sound.{IsSoundTable}
 use Rattle.gl_demand.specs.declared.outcome.Outcome.{Outcome}
 use Rattle.gl_core.specs.Statuses.{row_of, wake_each, count_idle}
-use Rattle.gl_core.specs.Marks.{mark_tree, mark_trees}
+use Rattle.gl_demand.specs.Marks.{mark_tree, mark_trees}
 use Rattle.gl_core.specs.State.{entries, state_by, status_tree, waits_for, IsSoundNote}
 use Rattle.gl_core.specs.Numbers.{Each, key_at, keys_at, named, row_notes, outcome_at}
 use Rattle.gl_core.specs.Ledger.{written, IsLedger}

@@ -15,7 +15,8 @@ use Rattle.gl_ahead.specs.Reading.{keys_from}
 use Rattle.gl_demand.specs.View.{key_tree}
 use Rattle.gl_demand.specs.Lacking.{IsNext}
 use Rattle.gl_demand.specs.declared.lacking.Lacked.{Lacked}
-use Rattle.gl_core.specs.Marks.{PlainMark, mark_tree, mark_trees, IsMark, MarksBy}
+use Rattle.gl_demand.specs.Marks.{PlainMark, mark_tree, mark_trees}
+use Rattle.gl_core.specs.Marks.{IsMark, MarksBy}
 use Rattle.gl_core.specs.State.{State}
 use Rattle.gl_core.specs.Table.{table_of, IsTable, IsCore}
 use Rattle.gl_core.specs.Noting.{Noting}

@@ -10,8 +10,9 @@ use Rattle.gl_ahead.specs.Demands.{is_value}
 use Rattle.gl_ahead.specs.Reading.{Ahead, Nothing, keys_from}
 use Rattle.gl_ahead.proofs.Onward.{ahead_onward}
 use Rattle.gl_demand.specs.Reading.{ahead_tree}
-use Rattle.gl_core.specs.Marks.{PlainMark, mark_tree, mark_trees, IsMark, MarksStay, MarksBy, TellNothing}
-use Rattle.gl_core.specs.declared.mark.Mark.{Mark}
+use Rattle.gl_demand.specs.Marks.{PlainMark, mark_tree, mark_trees}
+use Rattle.gl_core.specs.Marks.{IsMark, MarksStay, MarksBy, TellNothing}
+use Rattle.gl_demand.specs.declared.mark.Mark.{Mark}
 use Rattle.gl_core.proofs.Numbered.{map_push}
 
 -- ---- lists in which one item is put, or goes last
@@ -92,8 +93,8 @@ nothing_stays old new n s q m d = elim (s q m d) [
 pub nothing_told : (ms : List PlainMark) → ms ≡ [] → TellNothing ms
 nothing_told ms e q m d = let no : slice_get [] q ≡ Some m = ap (λ (xs : List PlainMark). slice_get xs q) (sym e) ∙ d in absurd (cc no)
 
-pub none_pushed : (ms : List Mark) (x : Mark) → ahead_tree x.ahead ≡ Nothing → x.place ≡ 0 → mark_trees (ms ++ x ∷ []) ≡ mark_trees ms ++ (Nothing, 0) ∷ []
-none_pushed ms x a b = map_push mark_tree ms x ∙ ap (λ (n : ℕ). mark_trees ms ++ (ahead_tree x.ahead, n) ∷ []) b ∙ ap (λ (y : Ahead). mark_trees ms ++ (y, 0) ∷ []) a
+pub none_pushed : (ms : List Mark) (x : Mark) → mark_tree x ≡ (Nothing, 0) → mark_trees (ms ++ x ∷ []) ≡ mark_trees ms ++ (Nothing, 0) ∷ []
+none_pushed ms x e = map_push mark_tree ms x ∙ ap (λ (m : PlainMark). mark_trees ms ++ m ∷ []) e
 
 pub same_marks : (ms ms' : List Mark) → ms' ≡ ms → MarksStay (mark_trees ms) (mark_trees ms')
 same_marks ms ms' e = all_stay (mark_trees ms) (mark_trees ms') (ap (λ (x : List Mark). mark_trees x) e)

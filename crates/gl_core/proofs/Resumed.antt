@@ -19,7 +19,8 @@ use Rattle.gl_calculus.proofs.Tests.{key_equality}
 use Rattle.gl_support.specs.Rows.{notes_of}
 use Rattle.gl_support.specs.declared.row.Row.{Row}
 use Rattle.gl_demand.specs.declared.outcome.Outcome.{Outcome}
-use Rattle.gl_core.specs.Marks.{mark_trees, TellNothing}
+use Rattle.gl_demand.specs.Marks.{mark_trees}
+use Rattle.gl_core.specs.Marks.{TellNothing}
 use Rattle.gl_core.specs.State.{entries, status_tree, first_keys, is_noted, IsFor}
 use Rattle.gl_core.specs.Numbers.{key_at, keys_at, named, row_notes, numbers_of, outcome_at}
 use Rattle.gl_core.specs.Ledger.{written}

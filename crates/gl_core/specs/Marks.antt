@@ -13,17 +13,7 @@ use Rattle.gl_ahead.specs.Ahead.{IsAhead}
 use Rattle.gl_ahead.specs.Demands.{is_value}
 use Rattle.gl_ahead.specs.Reading.{Ahead, Nothing, Area, Round, keys_from}
 use Rattle.gl_demand.specs.Reading.{ahead_tree}
-use Rattle.gl_core.specs.declared.mark.Mark.{Mark}
-
--- what was being read, and the place from which on its keys are ahead
-abbrev pub PlainMark : Type 0
-PlainMark = Ahead × ℕ
-
-abbrev pub mark_tree : Mark → PlainMark
-mark_tree m = (ahead_tree m.ahead, m.place)
-
-abbrev pub mark_trees : List Mark → List PlainMark
-mark_trees ms = map mark_tree ms
+use Rattle.gl_demand.specs.Marks.{PlainMark}
 
 -- the keys from there on are ahead of the query, over these outcomes
 abbrev pub IsMark : Cells → Oracle → Query K.Key K.Outcome Range K.Outcome → (K.Key → Option K.Outcome) → PlainMark → Type 0

@@ -5,15 +5,16 @@ ghost use Rattle.gl_calculus.specs.Limits.{max_demanded};
 ghost use Rattle.gl_core.specs.Numbers.{Each, IsIndex};
 ghost use Rattle.gl_core.specs.Ledger.{IsLedger};
 ghost use Rattle.gl_core.specs.Tree.{HasPlace};
-ghost use Rattle.gl_core.specs.Marks.{mark_trees, TellNothing};
+ghost use Rattle.gl_demand.specs.Marks.{mark_trees};
+ghost use Rattle.gl_core.specs.Marks.{TellNothing};
 ghost use Rattle.gl_core.specs.Statuses.{AreCounted};
 ghost use Rattle.gl_core.specs.Table.{IsCore, AreBegun, status_by};
 
 use crate::entries::Entries;
 use crate::index::put;
 use crate::ledger::Ledger;
-use crate::mark::Mark;
 use crate::statuses::Statuses;
+use gl_demand::Mark;
 use gl_plane::NoMemory;
 use std::alloc::Global;
 

@@ -22,7 +22,8 @@ ghost use Rattle.gl_demand.specs.Sound.{AreSoundKeys};
 ghost use Rattle.gl_core.specs.State.{state_of, seeds_of, notes_in, note_trees, is_noted, noted_after, HaveSoundParts, IsFor};
 ghost use Rattle.gl_query.specs.InOrder.{note_keys};
 ghost use Rattle.gl_core.specs.Table.{IsTable, AreIdle};
-ghost use Rattle.gl_core.specs.Marks.{mark_trees, TellNothing};
+ghost use Rattle.gl_demand.specs.Marks.{mark_trees};
+ghost use Rattle.gl_core.specs.Marks.{TellNothing};
 ghost use Rattle.gl_demand.specs.Steps.{AllowsDemanded};
 ghost use Rattle.gl_core.specs.Answers.{picked_tree, counted, AtMostCounted, AllowsKnown};
 
@@ -70,7 +71,8 @@ impl Model for Core {
     ghost use Rattle.std.specs.Coded.{codes};
     ghost use Rattle.gl_calculus.specs.Codes.{coded_key, coded_outcome, coded_note};
     ghost use Rattle.gl_core.specs.Held.{Held};
-    ghost use Rattle.gl_core.specs.Marks.{mark_trees, coded_mark};
+    ghost use Rattle.gl_demand.specs.Marks.{mark_trees};
+    ghost use Rattle.gl_core.specs.Marks.{coded_mark};
     ghost use Rattle.gl_core.specs.Ledger.{written};
     ghost use Rattle.gl_core.specs.Table.{table_of, IsCore};
 

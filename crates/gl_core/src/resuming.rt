@@ -12,7 +12,8 @@ ghost use Rattle.gl_support.specs.Rows.{notes_of};
 ghost use Rattle.gl_demand.specs.declared.outcome.Outcome.{Outcome};
 ghost use Rattle.gl_core.specs.Numbers.{Each, numbers_of, AreNumbers, Grows};
 ghost use Rattle.gl_core.specs.Ledger.{written, IsLedger};
-ghost use Rattle.gl_core.specs.Marks.{mark_trees, TellNothing};
+ghost use Rattle.gl_demand.specs.Marks.{mark_trees};
+ghost use Rattle.gl_core.specs.Marks.{TellNothing};
 ghost use Rattle.gl_core.specs.Table.{IsCore, AreBegun};
 ghost use Rattle.gl_core.specs.Resuming.{IsClosure, IsResumed};
 

@@ -8,6 +8,7 @@ pub mod Walk
 pub mod Walks
 pub mod Reading
 pub mod Lacking
+pub mod Marks
 pub mod Held
 pub mod Seen
 pub mod Scope

@@ -12,9 +12,10 @@ use Rattle.gl_ahead.specs.Ahead.{Extends, first_lacked, LackSame}
 use Rattle.gl_ahead.specs.Demands.{is_value}
 use Rattle.gl_ahead.specs.Reading.{Nothing, keys_from}
 use Rattle.gl_ahead.proofs.Onward.{ahead_stays, ahead_onward}
-use Rattle.gl_explain.specs.Marks.{PlainMark, mark_tree, mark_trees, IsMark, IsMarked, AreMarked, AreMarks}
+use Rattle.gl_demand.specs.Marks.{PlainMark, mark_tree, mark_trees}
+use Rattle.gl_explain.specs.Marks.{IsMark, IsMarked, AreMarked, AreMarks}
 use Rattle.gl_explain.specs.Putting.{IsTakenOff, IsPutOn, there, full, on}
-use Rattle.gl_explain.specs.declared.mark.Mark.{Mark}
+use Rattle.gl_demand.specs.declared.mark.Mark.{Mark}
 use Rattle.gl_explain.specs.declared.reading.Reached.{Reached}
 use Rattle.gl_explain.specs.declared.turning.Turned.{Turned}
 use Rattle.gl_explain.specs.declared.turning.Turned.TheVariants.{On}

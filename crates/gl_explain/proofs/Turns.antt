@@ -22,7 +22,7 @@ use Rattle.gl_explanation.proofs.Judging.{test_proper}
 use Rattle.gl_explanation.proofs.Going as Go
 use Rattle.gl_explanation.proofs.Spending as Sp
 use Rattle.gl_explanation.proofs.Walks as Wa
-use Rattle.gl_explain.specs.Marks.{PlainMark}
+use Rattle.gl_demand.specs.Marks.{PlainMark}
 use Rattle.gl_explain.specs.Walking.{IsWalking, HasEnded, IsTurned, left}
 use Rattle.gl_explain.specs.Putting.{IsTakenOff, IsPutOn, there, full, on}
 use Rattle.gl_explain.specs.declared.turning.Turned.{Turned}

@@ -12,18 +12,8 @@ use Rattle.gl_ahead.specs.Demands.{is_value}
 use Rattle.gl_ahead.specs.Reading.{Ahead, keys_from}
 use Rattle.gl_demand.specs.Reading.{ahead_tree}
 use Rattle.gl_demand.specs.View.{key_tree, outcome_tree}
-use Rattle.gl_explain.specs.declared.mark.Mark.{Mark}
+use Rattle.gl_demand.specs.Marks.{PlainMark, mark_tree, mark_trees}
 use Rattle.gl_explain.specs.declared.reading.Reached.{Reached}
-
--- what was being read, and the place from which on its keys are ahead
-abbrev pub PlainMark : Type 0
-PlainMark = Ahead × ℕ
-
-abbrev pub mark_tree : Mark → PlainMark
-mark_tree m = (ahead_tree m.ahead, m.place)
-
-abbrev pub mark_trees : List Mark → List PlainMark
-mark_trees ms = map mark_tree ms
 
 -- the keys from there on are ahead of the key, over these notes
 abbrev pub IsMark : Version → Cells → Oracle → List (Claim K.Key K.Outcome) → K.Key → PlainMark → Type 0

@@ -5,7 +5,7 @@ use Rattle.gl_calculus.specs.Limits.{max_demanded}
 use Rattle.gl_calculus.specs.Key.{Key, Outcome, same_key}
 use Rattle.gl_explanation.specs.Walk.{Claim}
 use Rattle.gl_ahead.specs.Reading.{Nothing}
-use Rattle.gl_explain.specs.Marks.{PlainMark}
+use Rattle.gl_demand.specs.Marks.{PlainMark}
 use Rattle.gl_explain.specs.declared.turning.Turned.{Turned}
 use Rattle.gl_explain.specs.declared.turning.Turned.TheVariants.{On, Ended, Full}
 

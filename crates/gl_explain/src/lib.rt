@@ -4,7 +4,6 @@
 mod ending;
 mod explained;
 mod explaining;
-mod mark;
 mod reading;
 mod turning;
 mod walking;

@@ -12,13 +12,13 @@ ghost use Rattle.gl_demand.specs.Sound.{IsSoundFound};
 ghost use Rattle.gl_demand.specs.Steps.{one_more};
 ghost use Rattle.gl_demand.specs.View.{key_tree, found_tree};
 ghost use Rattle.gl_cert.specs.Notes.{claims};
-ghost use Rattle.gl_explain.specs.Marks.{mark_tree, reached_tree, IsMark, IsMarked};
+ghost use Rattle.gl_demand.specs.Marks.{mark_tree};
+ghost use Rattle.gl_explain.specs.Marks.{reached_tree, IsMark, IsMarked};
 
-use crate::mark::Mark;
 use gl_ast::Version;
 use gl_cells::Cells;
 use gl_cert::Notes;
-use gl_demand::{Found, Key, Lacked, Outcome, Steps, Turn, Watch, next_lacked, step};
+use gl_demand::{Found, Key, Lacked, Mark, Outcome, Steps, Turn, Watch, next_lacked, step};
 use gl_plane::{NoMemory, Oracle};
 use std::alloc::Global;
 

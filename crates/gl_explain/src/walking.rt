@@ -6,15 +6,14 @@ ghost use Rattle.gl_ast.specs.View.{version_tree};
 ghost use Rattle.gl_cells.specs.Sheet.{sheet};
 ghost use Rattle.gl_demand.specs.View.{key_tree};
 ghost use Rattle.gl_ahead.specs.Reading.{Nothing};
-ghost use Rattle.gl_explain.specs.Marks.{mark_trees};
+ghost use Rattle.gl_demand.specs.Marks.{mark_trees};
 ghost use Rattle.gl_explain.specs.Walked.{IsFound};
 
-use crate::mark::Mark;
 use crate::turning::{Turned, turn};
 use gl_ast::Version;
 use gl_cells::Cells;
 use gl_cert::Notes;
-use gl_demand::{Key, Steps, Watch};
+use gl_demand::{Key, Mark, Steps, Watch};
 use gl_plane::{NoMemory, Oracle, Share};
 use indexmap::IndexSet;
 use std::alloc::Global;

@@ -1,6 +1,6 @@
 use Rattle.std.proofs.Common.{◌∙◌}
 use Rattle.gl_demand.specs.View.{key_tree}
-use Rattle.gl_core.specs.Marks.{mark_trees}
+use Rattle.gl_demand.specs.Marks.{mark_trees}
 use Rattle.gl_core.proofs.Cores.{the_key_at}
 use Rattle.gl_core.proofs.Turns.{table_stays}
 use Rattle.gl_core.proofs.Reading.{moved_by}

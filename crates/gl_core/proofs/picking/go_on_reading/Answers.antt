@@ -1,8 +1,7 @@
 use Rattle.std.proofs.Common.{◌≡◌, ℕ, set, ap, ◌∙◌}
-use Rattle.gl_ahead.specs.Reading.{Ahead}
 use Rattle.gl_demand.specs.View.{key_tree}
 use Rattle.gl_demand.specs.Reading.{ahead_tree}
-use Rattle.gl_core.specs.Marks.{PlainMark, mark_tree, mark_trees}
+use Rattle.gl_demand.specs.Marks.{PlainMark, mark_trees}
 use Rattle.gl_core.proofs.Cores.{the_key_at}
 use Rattle.gl_core.proofs.Turns.{table_stays}
 use Rattle.gl_core.proofs.Reading.{marked_by}
@@ -22,9 +21,8 @@ returns-in-Ok-clause-state c k ek = table_stays c.go_on.new.ledger c.go_on.new.e
 
 pub returns-in-Ok-clause-marks : goal.returns-in-Ok-clause-marks
 returns-in-Ok-clause-marks c =
-    let e : mark_tree c.at_start.result ≡ (ahead_tree c.args.ahead, 0) = ap (λ (n : ℕ). (ahead_tree c.at_start.result.ahead, n)) c.at_start.ensures.place ∙ ap (λ (a : Ahead). (a, 0)) c.at_start.ensures.ahead in
     marked_by c.args.p (ahead_tree c.args.ahead, 0) (mark_trees c.args.entries.now.marks.items) (mark_trees c.go_on.new.entries.marks.items) (mark_trees c.mark.new.self.marks.items) c.in-Ok.ensures.marks
-    (c.mark.ensures.marks ∙ ap (λ (m : PlainMark). set (mark_trees c.go_on.new.entries.marks.items) c.args.p m) e)
+    (c.mark.ensures.marks ∙ ap (λ (m : PlainMark). set (mark_trees c.go_on.new.entries.marks.items) c.args.p m) c.at_start.ensures)
 
 pub returns-in-Ok-clause-core : goal.returns-in-Ok-clause-core
 returns-in-Ok-clause-core c = marked_core c.go_on.new.ledger c.go_on.new.entries c.mark.new.self c.go_on.ensures.core c.mark.ensures.table c.mark.ensures.known c.mark.ensures.statuses c.mark.ensures.passed

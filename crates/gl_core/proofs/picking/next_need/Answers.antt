@@ -4,7 +4,7 @@ use Rattle.gl_calculus.specs.Key.{same_key}
 use Rattle.gl_cells.specs.Sheet.{sheet}
 use Rattle.gl_ahead.specs.Reading.{keys_from}
 use Rattle.gl_demand.specs.Lacking.{IsNext}
-use Rattle.gl_core.specs.Marks.{PlainMark, mark_tree}
+use Rattle.gl_demand.specs.Marks.{PlainMark, mark_tree}
 use Rattle.gl_core.specs.Table.{table_of}
 use Rattle.gl_core.proofs.Places.{if_ok}
 use Rattle.gl_core.proofs.Numbered.{get_map, item_at}

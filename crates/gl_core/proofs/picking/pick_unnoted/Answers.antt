@@ -9,7 +9,7 @@ use Rattle.gl_ahead.specs.Reading.{keys_from}
 use Rattle.gl_demand.specs.Lacking.{IsNext}
 use Rattle.gl_core.specs.Answers.{picked_tree}
 use Rattle.gl_core.specs.Ledger.{written}
-use Rattle.gl_core.specs.Marks.{mark_trees}
+use Rattle.gl_demand.specs.Marks.{mark_trees}
 use Rattle.gl_core.specs.Table.{table_of}
 use Rattle.gl_core.proofs.Places.{on_ok, if_ok}
 use Rattle.gl_core.proofs.Turns.{on_err}

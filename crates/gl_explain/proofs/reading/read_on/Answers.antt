@@ -8,7 +8,8 @@ use Rattle.gl_demand.specs.Lacking.{IsNext}
 use Rattle.gl_demand.specs.Reading.{ahead_tree}
 use Rattle.gl_demand.specs.View.{key_tree}
 use Rattle.gl_cert.specs.Notes.{claims}
-use Rattle.gl_explain.specs.Marks.{mark_tree, IsMark}
+use Rattle.gl_demand.specs.Marks.{mark_tree}
+use Rattle.gl_explain.specs.Marks.{IsMark}
 use Rattle.gl_explain.proofs.Marks.{marked_still, mark_onward}
 use Rattle.gl_explain.proofs.reading.read_on.Goals as goal
 

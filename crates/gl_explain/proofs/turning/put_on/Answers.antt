@@ -4,7 +4,7 @@ use Rattle.gl_calculus.specs.Limits.{max_demanded}
 use Rattle.gl_calculus.specs.Key.{same_key}
 use Rattle.gl_demand.specs.View.{key_tree}
 use Rattle.gl_cert.specs.Notes.{claims}
-use Rattle.gl_explain.specs.Marks.{mark_tree, mark_trees}
+use Rattle.gl_demand.specs.Marks.{mark_tree, mark_trees}
 use Rattle.gl_explain.specs.Putting.{IsPutOn, there, full, on}
 use Rattle.gl_explain.specs.declared.turning.Turned.TheVariants.{On}
 use Rattle.gl_explain.proofs.Marks.{two_pushed}

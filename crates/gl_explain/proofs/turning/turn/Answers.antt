@@ -11,7 +11,8 @@ use Rattle.gl_cells.specs.Sheet.{sheet}
 use Rattle.gl_demand.specs.Sound.{AreSoundKeys, IsSoundFound}
 use Rattle.gl_demand.specs.View.{key_tree, outcome_tree}
 use Rattle.gl_cert.specs.Notes.{claims}
-use Rattle.gl_explain.specs.Marks.{mark_tree, mark_trees, reached_tree, IsMark, IsMarked, AreMarks}
+use Rattle.gl_demand.specs.Marks.{mark_tree, mark_trees}
+use Rattle.gl_explain.specs.Marks.{reached_tree, IsMark, IsMarked, AreMarks}
 use Rattle.gl_explain.specs.Walking.{IsWalking, HasEnded, IsTurned, left}
 use Rattle.gl_explain.specs.Putting.{IsTakenOff, IsPutOn}
 use Rattle.gl_explain.specs.declared.turning.Turned.TheVariants.{On}

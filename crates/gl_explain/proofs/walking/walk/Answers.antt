@@ -4,7 +4,8 @@ use Rattle.gl_cells.specs.Sheet.{sheet}
 use Rattle.gl_demand.specs.Sound.{AreSoundKeys}
 use Rattle.gl_demand.specs.View.{key_tree}
 use Rattle.gl_cert.specs.Notes.{claims}
-use Rattle.gl_explain.specs.Marks.{mark_trees, AreMarks}
+use Rattle.gl_demand.specs.Marks.{mark_trees}
+use Rattle.gl_explain.specs.Marks.{AreMarks}
 use Rattle.gl_explain.specs.Walking.{IsWalking, IsTurned}
 use Rattle.gl_explain.proofs.Tops.{one_sound}
 use Rattle.gl_explain.proofs.Marks.{nothing_marks}

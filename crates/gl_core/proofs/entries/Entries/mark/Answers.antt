@@ -1,4 +1,4 @@
-use Rattle.gl_core.specs.Marks.{mark_tree}
+use Rattle.gl_demand.specs.Marks.{mark_tree}
 use Rattle.gl_core.proofs.Reading.{map_set}
 use Rattle.gl_core.proofs.entries.Entries.mark.Goals as goal
 

@@ -1,5 +1,5 @@
 use Rattle.std.proofs.Common.{◌≡◌, Some, set, sym, ap, ◌∙◌, arith}
-use Rattle.gl_core.specs.Marks.{PlainMark, mark_tree, mark_trees}
+use Rattle.gl_demand.specs.Marks.{PlainMark, mark_tree, mark_trees}
 use Rattle.gl_core.proofs.Numbered.{get_map, item_at}
 use Rattle.gl_core.proofs.Reading.{map_set}
 use Rattle.gl_core.proofs.entries.Entries.move_mark.Goals as goal

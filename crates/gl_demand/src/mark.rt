@@ -2,8 +2,9 @@
 ghost use Rattle.std.specs.Prelude.{◌≡◌};
 ghost use Rattle.gl_ahead.specs.Reading.{Nothing};
 ghost use Rattle.gl_demand.specs.Reading.{ahead_tree};
+ghost use Rattle.gl_demand.specs.Marks.{mark_tree};
 
-use gl_demand::Ahead;
+use crate::ahead::Ahead;
 
 /// What the last evaluation of a key was reading where it stopped, and the place in it from which
 /// on its keys may still be without outcome.
@@ -22,17 +23,23 @@ impl Drop for Mark {
 impl Mark {
     /// Nothing is known of what is needed next.
     pub fn none() -> Mark
-        ensures ahead { ahead_tree result.ahead ≡ Nothing }
-        ensures place { result.place ≡ 0 }
+        ensures { mark_tree result ≡ (Nothing, 0) }
     {
         Mark::at_start(Ahead::Nothing)
     }
 
     /// What is being read, from its start on.
     pub fn at_start(ahead: Ahead) -> Mark
-        ensures ahead { ahead_tree result.ahead ≡ ahead_tree ahead }
-        ensures place { result.place ≡ 0 }
+        ensures { mark_tree result ≡ (ahead_tree ahead, 0) }
     {
         Mark { ahead, place: 0 }
+    }
+
+    /// The same from another place on.
+    pub fn moved(self, place: u32) -> Mark
+        ensures { mark_tree result ≡ (ahead_tree self.ahead, place) }
+    {
+        let Mark { ahead, place: _ } = self;
+        Mark { ahead, place }
     }
 }
