@@ -20,5 +20,4 @@ pub use loops::is_among;
 pub use notes::Notes;
 pub use root::key_at;
 pub use saying::says;
-pub use stepping::level;
 pub use verdict::Verdict;
