@@ -4,23 +4,23 @@ use Rattle.gl_query.specs.Query.{Ready, Need, next, found}
 use Rattle.gl_query.specs.Evaluation.{LookAt, Demand, bind, given, then_found}
 use Rattle.gl_query.proofs.Forming.{found-bind}
 use Rattle.gl_calculus.specs.Grid.{Addr, same_addr, Range, single, extents}
-use Rattle.gl_calculus.specs.Formula.{Cells, Version, Formulas, Formula}
+use Rattle.gl_calculus.specs.Formula.{Cells}
 use Rattle.gl_calculus.specs.Value.{Oracle, Value, One, Array, Scalar, Blank, scalars, Frame}
 use Rattle.gl_calculus.specs.Oracle.{Sizes, Cover}
 use Rattle.gl_calculus.specs.Facts.{Fact, fact, facts, find_fact}
 use Rattle.gl_calculus.specs.Key.{Key, Cell, Outcome, Eval, give, on_result, own_value, ◌>>=◌}
 use Rattle.gl_calculus.specs.Reference.{Held, Given, Computed, home, own_content, status_in, cover_in, value_of, own, Reading, seen_or_looked, covered, shown, spilled, shown_by, deref, deref_all, at_address, at_range}
-use Rattle.gl_calculus.specs.Evaluation.{array_at, arrays, Bindings, all_values, arguments}
+use Rattle.gl_calculus.specs.Evaluation.{array_at, arrays}
 use Rattle.gl_calculus.proofs.Proper.{fact_at_single}
 use Rattle.gl_calculus.proofs.Tests.{addr_exact}
 use Rattle.gl_ahead.specs.Ahead.{first_lacked, AreThrough}
-use Rattle.gl_ahead.specs.Demands.{is_value, held_keys, own_keys, cover_keys, shown_keys, address_keys, range_keys, round_keys, written_keys}
-use Rattle.gl_ahead.specs.Laws.{RangeDemands, RoundDemands, OperandsDemand}
+use Rattle.gl_ahead.specs.Demands.{is_value, held_keys, own_keys, cover_keys, shown_keys, address_keys, range_keys, round_keys}
+use Rattle.gl_ahead.specs.Laws.{RangeDemands, RoundDemands}
 use Rattle.gl_ahead.proofs.Onward.{split, both_through}
 
 module _ (S : Cells) (w : Oracle) (g : Key → Option Outcome) where
   -- an evaluation needs the first of these keys without outcome, and with values of all comes to a result with the property
-  abbrev Follows : {R : Type 0} → List Key → Eval R → (R → Type 0) → Type 0
+  abbrev pub Follows : {R : Type 0} → List Key → Eval R → (R → Type 0) → Type 0
   Follows {R} ks p P = ((i : Key) → first_lacked is_value g ks ≡ Some i → found g (given (facts S w) p) ≡ Need i) × (AreThrough is_value g ks → (r : R) × (found g (given (facts S w) p) ≡ Ready (Ok r)) × P r)
 
   follows_give : {R : Type 0} {P : R → Type 0} (r : R) → P r → Follows [] (give r) P
@@ -42,7 +42,7 @@ module _ (S : Cells) (w : Oracle) (g : Key → Option Outcome) where
     λ t. let (r, e, q) = a.1 t in (h r, found-bind (facts S w) g (on_result (λ r. give (h r))) p ∙ ap (λ t. then_found t (λ r. found g (given (facts S w) (on_result (λ r. give (h r)) r)))) e, b r q),
   )
 
-  abbrev Any : {R : Type 0} → R → Type 0
+  abbrev pub Any : {R : Type 0} → R → Type 0
   Any r = Unit {0}
 
   -- ---- own values
@@ -147,34 +147,16 @@ module _ (S : Cells) (w : Oracle) (g : Key → Option Outcome) where
                   through (Outcome.Settled o) e u = absurd (cc u)
                   through (Outcome.Abort c) e u = absurd (cc u)
 
-  address_follows : (e : Frame) (a : Addr) → Follows {R = Value} (address_keys (fact S w) e (fact S w a)) (at_address e a) Any
+  pub address_follows : (e : Frame) (a : Addr) → Follows {R = Value} (address_keys (fact S w) e (fact S w a)) (at_address e a) Any
   address_follows e a =
       subst (λ y. Follows {R = Value} (address_keys (fact S w) e (fact S w a)) (LookAt (single a) (λ xs. deref e [] y >>= λ y. give (One y.0))) Any) (sym (fact_at_single S w a))
       (follows_end {P = Reads} (address_keys (fact S w) e (fact S w a)) (deref e [] (fact S w a)) (λ y. One y.0) (deref_follows e [] (fact S w a) (λ b x d. absurd (cc d))) (λ y u. tt))
 
-  area_follows : (e : Frame) (r : Range) → Follows {R = Value} (range_keys (fact S w) e (facts S w r)) (at_range e r) Any
+  pub area_follows : (e : Frame) (r : Range) → Follows {R = Value} (range_keys (fact S w) e (facts S w r)) (at_range e r) Any
   area_follows e r =
       let f : Follows {R = Value} (range_keys (fact S w) e (facts S w r)) (deref_all e [] (facts S w r) >>= λ ys. give (Array (extents r) (scalars ys))) Any =
       follows_end {P = Any} (range_keys (fact S w) e (facts S w r)) (deref_all e [] (facts S w r)) (λ ys. Array (extents r) (scalars ys)) (range_follows e [] (facts S w r) (λ b x d. absurd (cc d))) (λ ys u. tt) in
       f
-
-  abbrev Lacks : {R : Type 0} → List Key → Eval R → Type 0
-  Lacks ks p = (i : Key) → first_lacked is_value g ks ≡ Some i → found g (given (facts S w) p) ≡ Need i
-
-  -- one operand, and those behind it
-  lacks_then : (ks js : List Key) (p : Eval Value) (q : Eval (List Value)) → Follows {R = Value} ks p Any → Lacks js q → Lacks (ks ++ js) (p >>= λ v. q >>= λ vs. give (v ∷ vs))
-  lacks_then ks js p q a b i e =
-      elim (split is_value g ks js i e) [
-        | inl d ↦ found-bind (facts S w) g (on_result (λ v. q >>= λ vs. give (v ∷ vs))) p ∙ ap (λ t. then_found t (λ r. found g (given (facts S w) (on_result (λ v. q >>= λ vs. give (v ∷ vs)) r)))) (a.0 i d)
-        | inr d ↦ let (r, e', u) = a.1 d.0 in
-            found-bind (facts S w) g (on_result (λ v. q >>= λ vs. give (v ∷ vs))) p ∙ ap (λ t. then_found t (λ r. found g (given (facts S w) (on_result (λ v. q >>= λ vs. give (v ∷ vs)) r)))) e'
-            ∙ found-bind (facts S w) g (on_result (λ vs. give (r ∷ vs))) q ∙ ap (λ t. then_found t (λ z. found g (given (facts S w) (on_result (λ vs. give (r ∷ vs)) z)))) (b i d.1)
-      ]
-
-  operands_lack : (version : Version) (e : Frame) (bs : Bindings) (fs : Formulas) → Lacks (written_keys (fact S w) (facts S w) e fs) (all_values (arguments version e bs fs))
-  operands_lack version e bs (Formulas.formula_and (Formula.At a) fs) i d = lacks_then (address_keys (fact S w) e (fact S w a)) (written_keys (fact S w) (facts S w) e fs) (at_address e a) (all_values (arguments version e bs fs)) (address_follows e a) (λ j u. operands_lack version e bs fs j u) i d
-  operands_lack version e bs (Formulas.formula_and (Formula.Area r) fs) i d = lacks_then (range_keys (fact S w) e (facts S w r)) (written_keys (fact S w) (facts S w) e fs) (at_range e r) (all_values (arguments version e bs fs)) (area_follows e r) (λ j u. operands_lack version e bs fs j u) i d
-  operands_lack version e bs fs i d = absurd (cc d)
 
 pub range_demands : RangeDemands
 range_demands S w e r g = (
@@ -192,6 +174,3 @@ pub round_demands : RoundDemands
 round_demands S w e xs g =
     let a = round_follows S w g e xs in
     (a.0, λ t. let (zs, d, u) = a.1 t in (zs, d))
-
-pub operands_demand : OperandsDemand
-operands_demand version S w e bs fs g i d = operands_lack S w g version e bs fs i d

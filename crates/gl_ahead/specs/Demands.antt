@@ -1,7 +1,7 @@
--- The keys that a range and a round of a settling demand, by facts alone.
-use Rattle.std.specs.Prelude.{List, [], ◌∷◌, ◌++◌, Bool, true, false, Option, Some, None}
-use Rattle.gl_calculus.specs.Grid.{Addr, Range}
-use Rattle.gl_calculus.specs.Formula.{Formulas, Formula}
+-- The keys that a range, a round of a settling and a formula demand, by facts alone.
+use Rattle.std.specs.Prelude.{List, [], ◌∷◌, ◌++◌, map, Bool, true, false, Option, Some, None}
+use Rattle.gl_calculus.specs.Grid.{Addr, addresses}
+use Rattle.gl_calculus.specs.Formula.{Formulas, Formula, Operands, Fun}
 use Rattle.gl_calculus.specs.Value.{Frame}
 use Rattle.gl_calculus.specs.Oracle.{Cover}
 use Rattle.gl_calculus.specs.Facts.{Fact}
@@ -46,8 +46,47 @@ abbrev pub round_keys : Frame → List Fact → List Key
 round_keys e [] = []
 round_keys e (x ∷ xs) = own_keys e x ++ round_keys e xs
 
--- what the first operands of a call demand, as long as each is an address or a range
-abbrev pub written_keys : (Addr → Fact) → (Range → List Fact) → Frame → Formulas → List Key
-written_keys fact facts e (Formulas.formula_and (Formula.At a) fs) = address_keys fact e (fact a) ++ written_keys fact facts e fs
-written_keys fact facts e (Formulas.formula_and (Formula.Area r) fs) = range_keys fact e (facts r) ++ written_keys fact facts e fs
-written_keys fact facts e fs = []
+-- Of these functions the first argument alone is surely evaluated, or nothing is known; the others evaluate all.
+abbrev pub call_reads : Fun → (begun all : List Addr) → List Addr
+call_reads Fun.If begun all = begun
+call_reads Fun.IfError begun all = begun
+call_reads Fun.Update begun all = begun
+call_reads Fun.View begun all = begun
+call_reads Fun.Sheet begun all = []
+call_reads Fun.G begun all = []
+call_reads fun begun all = all
+
+-- Addresses that a formula reads one after another whatever they hold, the first ones. Where it surely comes to a value behind them, on with the given ones.
+abbrev mutual
+  pub first_reads : Formula → List Addr → List Addr
+  first_reads (Formula.At a) on = a ∷ on
+  first_reads (Formula.Area r) on = addresses r ++ on
+  first_reads (Formula.Spill a) on = []
+  first_reads (Formula.Neg f) on = first_reads f on
+  first_reads (Formula.Chain level f rest) on = first_reads f (operand_reads rest on)
+  first_reads (Formula.Compare op f h) on = first_reads f (first_reads h on)
+  first_reads (Formula.Call fun fs) on = call_reads fun (begun_reads fs) (argument_reads fs on)
+  first_reads (Formula.Let name f body) on = first_reads f (first_reads body on)
+  first_reads f on = on
+
+  -- of the first argument alone
+  pub begun_reads : Formulas → List Addr
+  begun_reads Formulas.no_formula = []
+  begun_reads (Formulas.formula_and f fs) = first_reads f []
+
+  pub operand_reads : Operands → List Addr → List Addr
+  operand_reads Operands.no_operand on = on
+  operand_reads (Operands.operand_and op f rest) on = first_reads f (operand_reads rest on)
+
+  pub argument_reads : Formulas → List Addr → List Addr
+  argument_reads Formulas.no_formula on = on
+  argument_reads (Formulas.formula_and f fs) on = first_reads f (argument_reads fs on)
+
+-- those of a formula that is held
+abbrev pub held_reads : Option Held → List Addr
+held_reads (Some (Computed f)) = first_reads f []
+held_reads h = []
+
+-- what addresses demand that are read one after another
+abbrev pub reads_keys : (Addr → Fact) → Frame → List Addr → List Key
+reads_keys fact e xs = range_keys fact e (map fact xs)

@@ -1,23 +1,24 @@
 -- The laws that public functions state.
-use Rattle.std.specs.Prelude.{◌≡◌, ℕ, ◌+◌, ◌≤◌, ◌<◌, ◌-◌, ◌^◌, List, ◌++◌, Bool, Option, Some, Ok}
+use Rattle.std.specs.Prelude.{◌≡◌, ℕ, ◌+◌, ◌≤◌, ◌<◌, ◌-◌, ◌^◌, List, [], ◌++◌, Bool, Option, Some, Ok}
 use Rattle.gl_query.specs.Lists.{AreDistinct, IsEquality}
 use Rattle.gl_query.specs.Query.{Query, Ready, Need, found}
 use Rattle.gl_query.specs.Evaluation.{Evaluation, bind, given}
 use Rattle.gl_query.specs.Machine.{Entry, at, table, idle_keys, keys, nth, need, turn, picks, pick, start, IsSound, need_answer, answer}
 use Rattle.gl_query.specs.Machine as Machine
 use Rattle.gl_query.specs.Costs.{answer_at, total, HaveRoom, Counted, unnoted, counted_keys, sum_reads, AreReads, settled}
-use Rattle.gl_calculus.specs.Grid.{Range}
-use Rattle.gl_calculus.specs.Formula.{Cells, Version, Formulas}
+use Rattle.gl_calculus.specs.Grid.{Addr, Range}
+use Rattle.gl_calculus.specs.Formula.{Cells, Version, Formula, Formulas}
 use Rattle.gl_calculus.specs.Value.{Oracle, Value, Frame}
 use Rattle.gl_calculus.specs.Oracle.{Sizes}
 use Rattle.gl_calculus.specs.Facts.{Fact, fact, facts}
-use Rattle.gl_calculus.specs.Key.{Key, Outcome}
+use Rattle.gl_calculus.specs.Key.{Key, Cell, Outcome}
 use Rattle.gl_calculus.specs.Reference.{at_range}
-use Rattle.gl_calculus.specs.Evaluation.{arrays, Bindings, all_values, arguments}
+use Rattle.gl_calculus.specs.Evaluation.{arrays, Bindings, eval, all_values, arguments, evaluation}
 use Rattle.gl_ahead.specs.Ahead.{Extends, first_lacked, AreThrough, IsAhead, LackSame}
 use Rattle.gl_ahead.specs.Spent.{Spent, counted, AtMostCounted}
 use Rattle.gl_ahead.specs.Keeping.{Kept, AreAhead, GoesAll}
-use Rattle.gl_ahead.specs.Demands.{is_value, range_keys, round_keys, written_keys}
+use Rattle.gl_ahead.specs.Demands.{is_value, range_keys, round_keys, first_reads, argument_reads, reads_keys}
+use Rattle.gl_ahead.specs.Reading.{Own, keys_from}
 
 -- What is ahead stays so over more outcomes.
 abbrev pub AheadStays : (K O A R : Type 0) → Type 0
@@ -85,8 +86,20 @@ BoundsStay K O A =
     AtMostCounted noted (nth (idle_keys st) i) m m' → (answer_at same limit program st (nth (idle_keys st) i) ≡ Machine.Picked.Resolved → m' ≡ counted noted (nth (idle_keys st) i) m) →
     (m' ≤ n + total same program noted (pick same limit program st i)) × (m' < 2 ^ 64 - 1 → n + settled noted (pick same limit program st i) ≤ m' + first)
 
--- The first operands of a call that are addresses or ranges are ahead together.
-abbrev pub OperandsDemand : Type 0
-OperandsDemand =
+-- What a formula reads first is ahead together: its evaluation needs the first key of it without outcome.
+abbrev pub FormulaDemands : Type 0
+FormulaDemands =
+    (version : Version) (S : Cells) (w : Oracle) (e : Frame) (bs : Bindings) (f : Formula) (g : Key → Option Outcome) (i : Key) →
+    first_lacked is_value g (reads_keys (fact S w) e (first_reads f [])) ≡ Some i → found g (given (facts S w) (eval version e bs f)) ≡ Need i
+
+-- So do the arguments of a call that evaluates all of them.
+abbrev pub ArgumentsDemand : Type 0
+ArgumentsDemand =
     (version : Version) (S : Cells) (w : Oracle) (e : Frame) (bs : Bindings) (fs : Formulas) (g : Key → Option Outcome) (i : Key) →
-    first_lacked is_value g (written_keys (fact S w) (facts S w) e fs) ≡ Some i → found g (given (facts S w) (all_values (arguments version e bs fs))) ≡ Need i
+    first_lacked is_value g (reads_keys (fact S w) e (argument_reads fs [])) ≡ Some i → found g (given (facts S w) (all_values (arguments version e bs fs))) ≡ Need i
+
+-- So does the key of a cell, whose formula has these reads.
+abbrev pub CellDemands : Type 0
+CellDemands =
+    (version : Version) (S : Cells) (w : Oracle) (e : Frame) (a : Addr) (g : Key → Option Outcome) (i : Key) →
+    first_lacked is_value g (keys_from S w (Own e a) 0) ≡ Some i → found g (given (facts S w) (evaluation version (Cell e a))) ≡ Need i

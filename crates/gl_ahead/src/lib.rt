@@ -2,7 +2,7 @@
 //! the contract of a function that does nothing.
 #![tactic(auto)]
 
-ghost use Rattle.gl_ahead.specs.Laws.{AheadStays, AheadOnward, AheadComposes, PickByAhead, PicksExtend, KeepingIsPicking, SpentWithin, BoundsStay, RangeDemands, RoundDemands, OperandsDemand};
+ghost use Rattle.gl_ahead.specs.Laws.{AheadStays, AheadOnward, AheadComposes, PickByAhead, PicksExtend, KeepingIsPicking, SpentWithin, BoundsStay, RangeDemands, RoundDemands, FormulaDemands, ArgumentsDemand, CellDemands};
 
 /// What is ahead of a query.
 pub fn ahead<K, O, A, R>()
@@ -24,9 +24,11 @@ pub fn picks_ahead<K, O, A>()
     ensures within { SpentWithin K O A }
 {}
 
-/// What references demand.
+/// What references and formulas demand.
 pub fn demands()
     ensures range { RangeDemands }
     ensures round { RoundDemands }
-    ensures operands { OperandsDemand }
+    ensures formula { FormulaDemands }
+    ensures arguments { ArgumentsDemand }
+    ensures cell { CellDemands }
 {}

@@ -4,14 +4,14 @@ use Rattle.std.proofs.Common.{inl, inr, refl}
 use base.Stored.{Coded, coded_unit, coded⊎, coded×, coded_ℕ}
 use Rattle.std.specs.Coded.{code_by}
 use Rattle.gl_query.specs.Query.{Query}
-use Rattle.gl_calculus.specs.Grid.{Range}
+use Rattle.gl_calculus.specs.Grid.{Addr, Range}
 use Rattle.gl_calculus.specs.Formula.{Cells}
 use Rattle.gl_calculus.specs.Value.{Oracle, Frame}
-use Rattle.gl_calculus.specs.Codes.{coded_frame, coded_range}
+use Rattle.gl_calculus.specs.Codes.{coded_frame, coded_range, coded_addr}
 use Rattle.gl_calculus.specs.Key as K
 use Rattle.gl_ahead.specs.Ahead.{IsAhead}
 use Rattle.gl_ahead.specs.Demands.{is_value}
-use Rattle.gl_ahead.specs.Reading.{Ahead, Nothing, Area, Round, keys_from}
+use Rattle.gl_ahead.specs.Reading.{Ahead, Nothing, Area, Round, Own, keys_from}
 use Rattle.gl_demand.specs.Reading.{ahead_tree}
 use Rattle.gl_demand.specs.Marks.{PlainMark}
 
@@ -34,22 +34,25 @@ TellNothing ms = (q : ℕ) (m : PlainMark) → slice_get ms q ≡ Some m → m.0
 -- ---- codes, by which values of models are told apart
 
 abbrev Parts : Type 0
-Parts = Unit {0} ⊎ (Frame × Range) ⊎ (Frame × Range)
+Parts = Unit {0} ⊎ (Frame × Range) ⊎ (Frame × Range) ⊎ (Frame × Addr)
 
 abbrev to_parts : Ahead → Parts
 to_parts Nothing = inl tt
 to_parts (Area e r) = inr (inl (e, r))
-to_parts (Round e r) = inr (inr (e, r))
+to_parts (Round e r) = inr (inr (inl (e, r)))
+to_parts (Own e a) = inr (inr (inr (e, a)))
 
 abbrev of_parts : Parts → Ahead
 of_parts (inl x) = Nothing
 of_parts (inr (inl x)) = Area x.0 x.1
-of_parts (inr (inr x)) = Round x.0 x.1
+of_parts (inr (inr (inl x))) = Round x.0 x.1
+of_parts (inr (inr (inr x))) = Own x.0 x.1
 
 pub back : (a : Ahead) → of_parts (to_parts a) ≡ a
 back Nothing = refl
 back (Area e r) = refl
 back (Round e r) = refl
+back (Own e a) = refl
 
 abbrev pub coded_mark : Coded PlainMark
-coded_mark = coded× (code_by Parts (coded⊎ coded_unit (coded⊎ (coded× coded_frame coded_range) (coded× coded_frame coded_range))) to_parts of_parts back) coded_ℕ
+coded_mark = coded× (code_by Parts (coded⊎ coded_unit (coded⊎ (coded× coded_frame coded_range) (coded⊎ (coded× coded_frame coded_range) (coded× coded_frame coded_addr)))) to_parts of_parts back) coded_ℕ

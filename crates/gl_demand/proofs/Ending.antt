@@ -1,5 +1,5 @@
 -- How the evaluation of a key ends, and what `step` says of it.
-use Rattle.std.proofs.Common.{◌≡◌, Bool, true, false, cond, List, [], ◌∷◌, ◌++◌, ◌||◌, Option, Some, None, Result, Ok, Err, inl, inr, IfOk, refl, ap, sym, subst, ◌∙◌}
+use Rattle.std.proofs.Common.{◌≡◌, ◌⊎◌, Bool, true, false, cond, List, [], ◌∷◌, ◌++◌, ◌||◌, Option, Some, None, Result, Ok, Err, inl, inr, IfOk, refl, ap, sym, subst, ◌∙◌}
 use Rattle.std.specs.List.{list_any}
 use Rattle.gl_query.specs.Lists.{Member, distinct}
 use Rattle.gl_query.specs.Query.{Found, Ready, Need, next, found, asked, looked}
@@ -24,6 +24,7 @@ use Rattle.gl_ahead.specs.Ahead.{IsAhead}
 use Rattle.gl_ahead.specs.Demands.{is_value}
 use Rattle.gl_ahead.specs.Reading as A
 use Rattle.gl_ahead.specs.Reading.{keys_from}
+use Rattle.gl_ahead.proofs.Formulas.{cell_demands}
 use Rattle.gl_demand.specs.Reading.{ahead_tree}
 use Rattle.gl_demand.specs.Walks.{IsAheadOf, Walks, trail_tree}
 use Rattle.gl_demand.specs.declared.ahead.Ahead.{Ahead}
@@ -131,6 +132,19 @@ module _ (version : Version) (w : World) (e : Frame) (a : Addr) (old new : Code.
   stopped_ahead (halt.Need k b) (Err n) m s = tt
   stopped_ahead (halt.Spent b) (Err n) m s = tt
   stopped_ahead halt.NoMemory (Err n) m s = tt
+
+-- what the formula of the address surely reads first is ahead
+pub own_ahead : (version : Version) (w : World) (e : Frame) (a : Addr) (b : Ahead) → ahead_tree b ≡ A.Own e a → IsAheadOf w (evaluation version (Cell e a)) b
+own_ahead version w e a b i =
+    subst (λ z. IsAhead is_value (given (facts w.cells w.oracle) (evaluation version (Cell e a))) w.known (keys_from w.cells w.oracle z 0)) (sym i)
+    (λ g m k d. cell_demands version w.cells w.oracle e a g k d)
+
+pub with_ahead : (version : Version) (w : World) (e : Frame) (a : Addr) (x : Ended) (r : Result Ended NoMemory) → IsAheadOf w (evaluation version (Cell e a)) x.ahead
+    → IfOk r (λ y. (ahead_tree y.ahead ≡ ahead_tree x.ahead) ⊎ (ahead_tree y.ahead ≡ A.Own e a)) → IfOk r (λ y. IsAheadOf w (evaluation version (Cell e a)) y.ahead)
+with_ahead version w e a x (Ok y) h (inl i) =
+    subst (λ z. IsAhead is_value (given (facts w.cells w.oracle) (evaluation version (Cell e a))) w.known (keys_from w.cells w.oracle z 0)) (sym i) h
+with_ahead version w e a x (Ok y) h (inr i) = own_ahead version w e a y.ahead i
+with_ahead version w e a x (Err n) h i = tt
 
 -- ---- the whole walk of a key
 

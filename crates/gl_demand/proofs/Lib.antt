@@ -23,3 +23,5 @@ pub mod Bindings
 pub mod IsFormula
 pub mod Calling
 pub mod Groups
+pub mod PassingOn
+pub mod FirstReads

@@ -28,7 +28,7 @@ module _ (f : K.Key → Option K.Outcome) where
   pub passes_no_more : (k : K.Key) (o : K.Outcome) → f k ≡ Some o → is_value o ≡ false → (js : List K.Key) → first_lacked is_value f (k ∷ [] ++ js) ≡ None
   passes_no_more k o e t js = ap (λ v. next (Some k) v (λ x. cond (is_value x) (first_lacked is_value f js) None)) e ∙ ap (λ b. cond b (first_lacked is_value f js) None) t
 
-  lacks_first : (k : K.Key) (js : List K.Key) → f k ≡ None → first_lacked is_value f (k ∷ js) ≡ Some k
+  pub lacks_first : (k : K.Key) (js : List K.Key) → f k ≡ None → first_lacked is_value f (k ∷ js) ≡ Some k
   lacks_first k js e = ap (λ v. next (Some k) v (λ x. cond (is_value x) (first_lacked is_value f js) None)) e
 
 -- ---- a root that covers

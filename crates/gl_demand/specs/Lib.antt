@@ -20,3 +20,4 @@ pub mod Viewing
 pub mod Arity
 pub mod Choices
 pub mod Values
+pub mod Passing

@@ -3,7 +3,7 @@ ghost use Rattle.std.specs.Prelude.{IsTrue};
 ghost use Rattle.gl_calculus.specs.Sound.{is_sound_frame};
 ghost use Rattle.gl_value.specs.View.{frame_tree};
 
-use gl_plane::Range;
+use gl_plane::{Addr, Range};
 use gl_value::Env;
 
 /// A range in a frame, which is sound.
@@ -11,6 +11,14 @@ use gl_value::Env;
 pub struct Reference {
     pub env: Env,
     pub range: Range,
+    ghost sound: { IsTrue (is_sound_frame (frame_tree env)) },
+}
+
+/// An address in a frame, which is sound.
+#[derive(Drop)]
+pub struct Place {
+    pub env: Env,
+    pub address: Addr,
     ghost sound: { IsTrue (is_sound_frame (frame_tree env)) },
 }
 
@@ -24,4 +32,6 @@ pub enum Ahead {
     Area(Reference),
     /// The formulas of a sheet value's region, in a round of its settling.
     Round(Reference),
+    /// What the formula of an address surely reads first, one reference after another.
+    Own(Place),
 }

@@ -1,5 +1,5 @@
 //! The evaluation of a key.
-ghost use Rattle.std.specs.Prelude.{◌≡◌, Some, IsTrue, IfOk};
+ghost use Rattle.std.specs.Prelude.{◌≡◌, ◌⊎◌, Some, IsTrue, IfOk};
 ghost use Rattle.gl_ast.specs.View.{version_tree};
 ghost use Rattle.gl_calculus.specs.Formula.{content};
 ghost use Rattle.gl_calculus.specs.Key.{Cell, Settle, Settled};
@@ -10,7 +10,9 @@ ghost use Rattle.gl_cells.specs.Sheet.{sheet};
 ghost use Rattle.gl_value.specs.View.{value_tree, frame_tree, sheet_tree};
 ghost use Rattle.gl_demand.specs.Held.{held_tree, IsSoundHeld};
 ghost use Rattle.gl_demand.specs.Sound.{IsSoundTable, IsSoundFound};
+ghost use Rattle.gl_ahead.specs.Reading.{Own};
 ghost use Rattle.gl_demand.specs.View.{key_tree, outcome_tree, found_tree};
+ghost use Rattle.gl_demand.specs.Reading.{ahead_tree};
 ghost use Rattle.gl_demand.specs.Walk.{world, walk};
 ghost use Rattle.gl_demand.specs.Walks.{Walks, trail_tree, IsAheadOf};
 ghost use Rattle.gl_demand.specs.Cells.{looked_cell};
@@ -20,14 +22,15 @@ use crate::context::Context;
 use crate::elements::{share_scalar, share_value};
 use crate::formulas::eval;
 use crate::held::{Held, held_at};
+use crate::own_reads::{Lookup, lacked_in_formula};
 use crate::reading::look_at;
 use crate::scope::Scope;
 use crate::settle::settle;
 use crate::trail::{Halt, Trail};
-use crate::{Ahead, Found, Key, Known, Outcome};
-use gl_ast::Version;
+use crate::{Ahead, Found, Key, Known, Outcome, Place};
+use gl_ast::{Formula, Version};
 use gl_cells::Cells;
-use gl_plane::{Addr, NoMemory, Oracle};
+use gl_plane::{Addr, NoMemory, Oracle, Share};
 use gl_value::{Env, Scalar, SheetVal, Value};
 use std::alloc::Global;
 use std::rc::Rc;
@@ -100,6 +103,81 @@ fn stopped(halt: Halt) -> Result<Ended, NoMemory>
     }
 }
 
+/// How many references stand in a formula, at most 2^32 - 1.
+#[cycle(references)]
+fn references(f: &Formula) -> u32 {
+    match f {
+        Formula::Int(_) | Formula::Text(_) | Formula::Bool(_) | Formula::Var(_) => 0,
+        Formula::At(_) | Formula::Spill(_) | Formula::Area(_) => 1,
+        Formula::Neg(g) => references(g),
+        Formula::Chain(_, g, rest) => {
+            let mut count = references(g);
+            for (_, h) in rest {
+                count = count.saturating_add(references(h));
+            }
+            count
+        }
+        Formula::Compare(_, g, h) => references(g).saturating_add(references(h)),
+        Formula::Call(_, xs) => references_among(xs),
+        Formula::Let(_, g, body) => references(g).saturating_add(references(body)),
+    }
+}
+
+/// The same for all of these formulas.
+#[cycle(references)]
+fn references_among(xs: &[Formula]) -> u32 {
+    let mut count = 0u32;
+    for x in xs {
+        count = count.saturating_add(references(x));
+    }
+    count
+}
+
+/// Two keys without outcome stand among the first reads of a formula, one behind the other.
+fn lacks_two<K: Known>(ctx: &Context<K>, f: &Formula) -> Result<bool, NoMemory> {
+    let lookup = Lookup {
+        cells: ctx.cells,
+        w: ctx.w,
+        env: ctx.env,
+        known: ctx.known,
+    };
+    match lacked_in_formula(&lookup, f, 0) {
+        Ok(Some(first)) => match lacked_in_formula(&lookup, f, first.place.saturating_add(1)) {
+            Ok(second) => Ok(second.is_some()),
+            Err(NoMemory) => Err(NoMemory),
+        },
+        Ok(None) => Ok(false),
+        Err(NoMemory) => Err(NoMemory),
+    }
+}
+
+/// The first reads of the formula of an address tell more than its next key.
+fn own_tells<K: Known>(ctx: &Context<K>, a: Addr) -> Result<bool, NoMemory> {
+    match held_at(ctx.cells, ctx.env, a) {
+        Some(Held::Formula(f)) if 1 < references(f) => lacks_two(ctx, f),
+        _ => Ok(false),
+    }
+}
+
+/// An evaluation that stops, with all that the formula of its address surely reads first, where
+/// that tells more.
+fn with_own<K: Known>(ctx: &Context<K>, a: Addr, ended: Ended) -> Result<Ended, NoMemory>
+    ensures found { IfOk result (λ x. found_tree x.found ≡ found_tree ended.found) }
+    ensures ahead { IfOk result (λ x. (ahead_tree x.ahead ≡ ahead_tree ended.ahead) ⊎ (ahead_tree x.ahead ≡ Own (frame_tree ctx.now.env.now) a)) }
+{
+    match own_tells(ctx, a) {
+        Ok(true) => match ctx.env.share() {
+            Ok(env) => Ok(Ended {
+                found: ended.found,
+                ahead: Ahead::Own(Place { env, address: a }),
+            }),
+            Err(NoMemory) => Err(NoMemory),
+        },
+        Ok(false) => Ok(ended),
+        Err(NoMemory) => Err(NoMemory),
+    }
+}
+
 /// How the evaluation of a cell ends.
 fn evaluate_cell<K: Known>(ctx: &Context<K>, a: Addr, trail: &mut Trail) -> Result<Ended, NoMemory>
     ensures walk { IfOk result (λ x. walk (world (sheet ctx.now.cells.now) ctx.now.w.now (K.outcomes ctx.now.known.now)) (E.evaluation (version_tree ctx.now.version) (Cell (frame_tree ctx.now.env.now) a)) (trail_tree trail.old) ≡ (found_tree x.found, trail_tree trail.new)) }
@@ -108,7 +186,10 @@ fn evaluate_cell<K: Known>(ctx: &Context<K>, a: Addr, trail: &mut Trail) -> Resu
 {
     match cell_at(ctx, a, trail) {
         Ok(v) => Ok(ready(Outcome::Value(v))),
-        Err(halt) => stopped(halt),
+        Err(halt) => match stopped(halt) {
+            Ok(ended) => with_own(ctx, a, ended),
+            Err(NoMemory) => Err(NoMemory),
+        },
     }
 }
 

@@ -16,6 +16,7 @@ ghost use Rattle.gl_demand.specs.Lacking.{IsPassing, IsNext};
 
 use crate::ahead::{Ahead, Reference};
 use crate::held::{Held, cover_in, held_at};
+use crate::own_reads::lacked_in_own;
 use crate::reading::sound_home;
 use crate::{Key, Known, Outcome};
 use gl_cells::Cells;
@@ -139,7 +140,7 @@ fn pass_by<K: Known>(known: &K, key: Option<Key>) -> Passing
 }
 
 /// What an address of a range says of those behind it.
-fn pass_address<K: Known>(
+pub fn pass_address<K: Known>(
     cells: &Cells,
     w: &Oracle,
     env: &Env,
@@ -227,5 +228,6 @@ pub fn next_lacked<K: Known>(
         Ahead::Nothing => Ok(None),
         Ahead::Area(x) => lacked_in_area(cells, w, x, from, known),
         Ahead::Round(x) => lacked_in_round(cells, x, from, known),
+        Ahead::Own(x) => lacked_in_own(cells, w, x, from, known),
     }
 }

@@ -21,6 +21,7 @@ mod mark;
 mod noting;
 mod operators;
 mod outcome;
+mod own_reads;
 mod places;
 mod properness;
 mod ranges;
@@ -35,7 +36,7 @@ mod steps;
 mod trail;
 mod viewing;
 
-pub use ahead::{Ahead, Reference};
+pub use ahead::{Ahead, Place, Reference};
 pub use blocks::{CopyBlocks, TopBlocks};
 pub use key::Key;
 pub use known::{Found, Known, Turn};

@@ -26,6 +26,8 @@ mod runs;
 #[cfg(test)]
 mod sheets;
 #[cfg(test)]
+mod sums;
+#[cfg(test)]
 mod table;
 #[cfg(test)]
 mod texts;

@@ -19,7 +19,7 @@ struct Sheet {
     sees: &'static [(&'static str, Sight)],
 }
 
-const SHEETS: [Sheet; 12] = [
+const SHEETS: [Sheet; 16] = [
     Sheet {
         lines: &["set A1 =B1+1", "set B1 =C1+1", "set C1 =1"],
         seeds: &["A1", "B1", "C1"],
@@ -44,6 +44,73 @@ const SHEETS: [Sheet; 12] = [
     Sheet {
         lines: &[
             "set A1 =SUM(B1:B4)",
+            "set B1 =1",
+            "set B2 =2",
+            "set B3 =B3",
+            "set B4 =4",
+        ],
+        seeds: &["A1"],
+        demanded: 4,
+        steps: [4, 4, 4],
+        sees: &[
+            ("A1", Sight::Loops),
+            ("B2", Sight::Number(2)),
+            ("B4", Sight::NotDemanded),
+        ],
+    },
+    // so it goes through all references that a formula surely reads
+    Sheet {
+        lines: &[
+            "set A1 =SUM(B1:B2,C1:C2,B3)",
+            "set B1 =1",
+            "set B2 =2",
+            "set B3 =3",
+            "set C1 =4",
+            "set C2 =5",
+        ],
+        seeds: &["A1"],
+        demanded: 6,
+        steps: [7, 7, 7],
+        sees: &[("A1", Sight::Number(15))],
+    },
+    Sheet {
+        lines: &[
+            "set A1 =ABS(B1-B2)*LET(x,B3,x+SUM(C1:C2,x))",
+            "set B1 =1",
+            "set B2 =2",
+            "set B3 =3",
+            "set C1 =4",
+            "set C2 =5",
+        ],
+        seeds: &["A1"],
+        demanded: 6,
+        steps: [7, 7, 7],
+        sees: &[("A1", Sight::Number(15))],
+    },
+    // what is chosen is known only behind the condition, and what is behind the choice with it
+    Sheet {
+        lines: &[
+            "set A1 =IF(B1<B2,C1+C2,B3)+B4",
+            "set B1 =1",
+            "set B2 =2",
+            "set B3 =3",
+            "set B4 =B4",
+            "set C1 =4",
+            "set C2 =5",
+        ],
+        seeds: &["A1"],
+        demanded: 6,
+        steps: [9, 9, 9],
+        sees: &[
+            ("A1", Sight::Loops),
+            ("C2", Sight::Number(5)),
+            ("B3", Sight::NotDemanded),
+        ],
+    },
+    // a reference that loops is the last that is demanded
+    Sheet {
+        lines: &[
+            "set A1 =B1+B2+B3+B4",
             "set B1 =1",
             "set B2 =2",
             "set B3 =B3",

@@ -1,4 +1,5 @@
-use Rattle.gl_ahead.proofs.Ranges.{range_demands, round_demands, operands_demand}
+use Rattle.gl_ahead.proofs.Ranges.{range_demands, round_demands}
+use Rattle.gl_ahead.proofs.Formulas.{formula_demands, arguments_demand, cell_demands}
 use Rattle.gl_ahead.proofs.demands.Goals as goal
 
 pub returns-clause-range : goal.returns-clause-range
@@ -7,5 +8,11 @@ returns-clause-range g = range_demands
 pub returns-clause-round : goal.returns-clause-round
 returns-clause-round g = round_demands
 
-pub returns-clause-operands : goal.returns-clause-operands
-returns-clause-operands g = operands_demand
+pub returns-clause-formula : goal.returns-clause-formula
+returns-clause-formula g = formula_demands
+
+pub returns-clause-arguments : goal.returns-clause-arguments
+returns-clause-arguments g = arguments_demand
+
+pub returns-clause-cell : goal.returns-clause-cell
+returns-clause-cell g = cell_demands
