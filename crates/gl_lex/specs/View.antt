@@ -1,5 +1,6 @@
 -- The tokens of the language that those of the code stand for.
 use Rattle.std.specs.Prelude.{◌≡◌, ℕ, ◌+◌, ◌^◌, ◌<◌, ◌≤◌, ℤ, pos, negsuc, List, [], ◌∷◌, map, slice_range, Result, Ok, Err, ⊤}
+use Rattle.std.specs.List.{AllByRecursion}
 use Rattle.std.specs.Rc.{rc_str_bytes}
 use Rattle.std.specs.declared.alloc.Global.{Global}
 use Rattle.std.specs.declared.rc.RcStr.{RcStr}
@@ -56,10 +57,14 @@ token_in text t = kind_token t.kind (span text t)
 abbrev pub tokens_in : Bytes → List Token → List T.Token
 tokens_in text ts = map (token_in text) ts
 
--- The spans lie in order between two places, and each has the bytes of its token.
+-- from one place up to another only spaces stand
+abbrev pub IsGap : Bytes → ℕ → ℕ → Type 0
+IsGap text from to = (from ≤ to) × AllByRecursion (λ b. b ≡ 32) (slice_range text from to)
+
+-- The spans lie in order between two places, each has the bytes of its token, and only spaces stand between them: so each is as long as its token.
 abbrev pub AreSpans : Bytes → ℕ → ℕ → List Token → Type 0
-AreSpans text from to [] = from ≤ to
-AreSpans text from to (t ∷ ts) = (from ≤ t.start) × (t.start < t.end) × T.Spells (token_in text t) (span text t) × AreSpans text t.end to ts
+AreSpans text from to [] = IsGap text from to
+AreSpans text from to (t ∷ ts) = IsGap text from t.start × (t.start < t.end) × T.Spells (token_in text t) (span text t) × AreSpans text t.end to ts
 
 -- The text has no tokens, and this is why.
 abbrev pub IsRefused : Bytes → LexFault → Type 0
