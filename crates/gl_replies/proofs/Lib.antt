@@ -3,6 +3,7 @@ pub mod Sizes
 pub mod Effects
 pub mod Once
 pub mod Outputs
+pub mod Fronts
 pub mod Refusals
 pub mod Beginnings
 pub mod Errors

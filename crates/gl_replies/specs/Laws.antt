@@ -1,5 +1,5 @@
 -- The laws of replies and of sheets that public functions state.
-use Rattle.std.specs.Prelude.{◌≡◌, ◌≤◌, length, List, [], IsTrue}
+use Rattle.std.specs.Prelude.{◌≡◌, ◌≤◌, length, List, [], ◌++◌, IsTrue}
 use Rattle.gl_calculus.specs.Limits.{max_formulas, max_contents}
 use Rattle.gl_calculus.specs.Formula.{Version, Cells, IsSheet, formula_addresses}
 use Rattle.gl_language.specs.Text.{Bytes}
@@ -7,12 +7,18 @@ use Rattle.gl_protocol.specs.Framing.{Item}
 use Rattle.gl_protocol.specs.Commands.{Word, error_line}
 use Rattle.gl_protocol.specs.Script.{Script, new_script}
 use Rattle.gl_protocol.specs.Acts.{Acts}
-use Rattle.gl_protocol.specs.Output.{is_refusal, IsOutput, Runs}
+use Rattle.gl_protocol.specs.Output.{is_refusal, AreReplies, IsOutput, Runs}
 use Rattle.gl_protocol.specs.Laws.{AreProper}
 
 -- Whatever picks were made, a list of items has one output.
 abbrev pub OneText : Type 0
 OneText = (records : Bytes → List (List Bytes)) (is : List Item) (out other : Bytes) → IsOutput records is out → IsOutput records is other → out ≡ other
+
+-- The replies to items begin with the replies to the first of them.
+abbrev pub FirstRepliesFirst : Type 0
+FirstRepliesFirst =
+    (records : Bytes → List (List Bytes)) (is more : List Item) (rs : List Bytes) → AreReplies records (is ++ more) rs →
+    (firsts behind : List Bytes) × AreReplies records is firsts × (rs ≡ firsts ++ behind)
 
 -- An `error` line begins as one, and no other reply does.
 abbrev pub ErrorsAreRefusals : Type 0

@@ -2,16 +2,18 @@
 #![tactic(auto)]
 
 ghost use Rattle.gl_protocol.specs.Laws.{OneAct, OneOutput, RefusalsLeave};
-ghost use Rattle.gl_replies.specs.Laws.{OneText, ErrorsAreRefusals, RefusalsAreErrors, ScriptsKeepSheets};
+ghost use Rattle.gl_replies.specs.Laws.{OneText, FirstRepliesFirst, ErrorsAreRefusals, RefusalsAreErrors, ScriptsKeepSheets};
 ghost use Rattle.gl_replies.specs.Rooms.{ActsKeepRooms};
 ghost use Rattle.gl_replies.specs.States.{ActsKeepStates, ScriptsKeepStates, UndoTakesBack};
 ghost use Rattle.gl_replies.specs.States.{ReplicasJoin, ReplicasAgree, SameSheetsReply};
 
-/// An item has one effect and one reply, and so a script has one output.
+/// An item has one effect and one reply, and so a script has one output, which begins with that of
+/// its first items.
 pub fn one_reply()
     ensures act { OneAct }
     ensures output { OneOutput }
     ensures written { OneText }
+    ensures first { FirstRepliesFirst }
 {}
 
 /// A refused item leaves the state.

@@ -7,6 +7,7 @@ use Rattle.gl_protocol.specs.Output.{is_within_limit, items_of}
 use Rattle.gl_protocol.specs.Framing.{Item}
 use Rattle.gl_run.specs.Out.{IsPrefix, WroteAll, WroteAllTelling, WroteSome, WroteCut, Fits}
 use Rattle.gl_run.specs.Status.{IfDone}
+use Rattle.gl_run.proofs.Fitting.{first_fits}
 use Rattle.gl_run.specs.declared.top.Status.{Status}
 use Rattle.gl_run.specs.declared.top.Status.TheVariants.{Done, Usage, NoMemory, ReadFault, WriteFault, InputLimit}
 use Rattle.gridlet_c.specs.Statuses.{Leaves}
@@ -47,7 +48,7 @@ module _ (script : Bytes) (taken : List ℕ) (n : ℕ) (short : n < length taken
   cut l part h =
       let size : n < length (concat h.0) = omega (arith, ap length (written h.2)) in (
         (l, part, (h.0, h.1, n, size, front_of n h.2)),
-        λ m le fits. absurd (omega (arith, fits l h.0 part h.1)),
+        λ m le fits. absurd (omega (arith, first_fits m l (items_of script) h.0 part h.1 fits)),
       )
 
   whole : IsPrefix (items_of script) (items_of script)

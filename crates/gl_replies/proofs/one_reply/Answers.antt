@@ -1,4 +1,5 @@
 use Rattle.gl_replies.proofs.Outputs.{one_act, one_output, one_text}
+use Rattle.gl_replies.proofs.Fronts.{first_replies_first}
 use Rattle.gl_replies.proofs.one_reply.Goals as goal
 
 pub returns-clause-act : goal.returns-clause-act
@@ -9,3 +10,6 @@ returns-clause-output g = one_output
 
 pub returns-clause-written : goal.returns-clause-written
 returns-clause-written g = one_text
+
+pub returns-clause-first : goal.returns-clause-first
+returns-clause-first g = first_replies_first
