@@ -1,6 +1,7 @@
 //! Rows without those that stand before.
 ghost use Rattle.std.specs.Prelude.{◌≡◌, ◌≤◌, [], IsTrue, IfOk, vec_len, map};
 ghost use Rattle.std.specs.List.{range_with_len};
+ghost use Rattle.gl_calculus.specs.Limits.{max_cells};
 ghost use Rattle.gl_calculus.specs.Lift as L;
 ghost use Rattle.gl_calculus.specs.Lift.{shape, from_rows};
 ghost use Rattle.gl_calculus.specs.Functions as F;
@@ -32,7 +33,7 @@ fn row_of(alloc: Global, v: &Value, i: u16) -> Result<Vec<Scalar>, NoMemory>
 /// The places, from 0, of the rows that equal no row before them. Each row is looked up by its hash.
 fn new_rows(alloc: Global, v: &Value) -> Result<Vec<u16>, NoMemory>
     requires { IsTrue (is_sound_value (value_tree v.now)) }
-    ensures few { IfOk result (λ ks. vec_len ks ≤ 10000) }
+    ensures few { IfOk result (λ ks. vec_len ks ≤ max_cells) }
     ensures some { IfOk result (λ ks. 1 ≤ vec_len ks) }
     ensures rows { IfOk result (λ ks. map (row (value_tree v.now)) ks.items ≡ F.new_rows [] (L.rows (value_tree v.now))) }
 {

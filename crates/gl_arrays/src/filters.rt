@@ -1,6 +1,7 @@
 //! Rows that a column of truths keeps.
 ghost use Rattle.std.specs.Prelude.{◌≡◌, ◌≤◌, IsTrue, IfOk, OnOk, Ok, vec_len, option_map, filter};
 ghost use Rattle.std.specs.List.{range_with_len};
+ghost use Rattle.gl_calculus.specs.Limits.{max_cells};
 ghost use Rattle.gl_calculus.specs.ErrKind as E;
 ghost use Rattle.gl_calculus.specs.Value.{elements};
 ghost use Rattle.gl_calculus.specs.Lift as L;
@@ -65,7 +66,7 @@ fn no_fault(keep: &Value) -> Result<(), ErrKind>
 /// The rows whose element is TRUE, from 0.
 fn kept_rows(alloc: Global, keep: &Value) -> Result<Vec<u16>, NoMemory>
     requires { IsTrue (is_sound_value (value_tree keep.now)) }
-    ensures few { IfOk result (λ ks. vec_len ks ≤ 10000) }
+    ensures few { IfOk result (λ ks. vec_len ks ≤ max_cells) }
     ensures rows { IfOk result (λ ks. ks.items ≡ filter (keeps_row (value_tree keep.now)) (range_with_len 0 (shape (value_tree keep.now)).rows)) }
 {
     let rows = extents(keep).0;

@@ -1,5 +1,6 @@
 //! Some of the rows of a value.
 ghost use Rattle.std.specs.Prelude.{◌≡◌, ◌≤◌, IsTrue, IfOk, length, map};
+ghost use Rattle.gl_calculus.specs.Limits.{max_cells};
 ghost use Rattle.gl_calculus.specs.Lift.{from_rows};
 ghost use Rattle.gl_calculus.specs.Sound.{is_sound_scalar, is_sound_value};
 ghost use Rattle.gl_value.specs.View.{scalar_tree, value_tree};
@@ -29,7 +30,7 @@ fn item_in(v: &Value, rows: &[u16], i: u16, j: u16) -> Result<Scalar, NoMemory>
 pub fn listed_rows(alloc: Global, v: &Value, rows: &[u16]) -> Result<Value, NoMemory>
     requires sound { IsTrue (is_sound_value (value_tree v.now)) }
     requires some { 1 ≤ length rows.now }
-    requires few { length rows.now ≤ 10000 }
+    requires few { length rows.now ≤ max_cells }
     ensures sound { IfOk result (λ r. IsTrue (is_sound_value (value_tree r))) }
     ensures value { IfOk result (λ r. value_tree r ≡ from_rows (map (row (value_tree v.now)) rows.now)) }
 {

@@ -1,5 +1,6 @@
 //! Numbered arrays, and arrays with rows and columns exchanged.
 ghost use Rattle.std.specs.Prelude.{◌≡◌, ◌≤◌, ◌<◌, ◌+◌, ◌*◌, pos, IsTrue, IfOk, IfSome, IfNone, Ok};
+ghost use Rattle.gl_calculus.specs.Limits.{max_cells};
 ghost use Rattle.gl_calculus.specs.Grid.{size};
 ghost use Rattle.gl_calculus.specs.Value as V;
 ghost use Rattle.gl_calculus.specs.Lift as L;
@@ -17,14 +18,14 @@ use gl_value::{ErrKind, Scalar, Value};
 use std::alloc::Global;
 
 /// The most cells that an array has.
-const MAX_CELLS: u64 = 10_000;
+const MAX_CELLS: u64 = gl_plane::MAX_CELLS as u64;
 
 /// The extents as small numbers: `None` only where an array of them would be too large.
 pub fn fitting(rows: u64, cols: u64) -> Option<(u16, u16)>
     requires some_rows { 1 ≤ rows }
     requires some_cols { 1 ≤ cols }
     ensures some { IfSome result (λ s. (s.0 ≡ rows) × (s.1 ≡ cols)) }
-    ensures none { IfNone result (10000 < rows * cols) }
+    ensures none { IfNone result (max_cells < rows * cols) }
 {
     if rows <= MAX_CELLS && cols <= MAX_CELLS {
         Some((rows as u16, cols as u16))

@@ -1,5 +1,6 @@
 //! Arrays one under the other, and side by side.
 ghost use Rattle.std.specs.Prelude.{◌≡◌, ◌≤◌, IsTrue, IfOk, All, length, map};
+ghost use Rattle.gl_calculus.specs.Limits.{max_arguments};
 ghost use Rattle.gl_calculus.specs.Functions as F;
 ghost use Rattle.gl_calculus.specs.Sound.{is_sound_scalar, is_sound_value};
 ghost use Rattle.gl_value.specs.View.{scalar_tree, value_tree};
@@ -14,7 +15,7 @@ use std::alloc::Global;
 
 /// How many rows the values have together.
 fn total_rows(parts: &[Value]) -> u64
-    requires { length parts.now ≤ 16 }
+    requires { length parts.now ≤ max_arguments }
     ensures { result ≡ S.total_rows (map value_tree parts.now) }
 {
     let mut total: u64 = 0;
@@ -26,7 +27,7 @@ fn total_rows(parts: &[Value]) -> u64
 
 /// How many columns the values have together.
 fn total_cols(parts: &[Value]) -> u64
-    requires { length parts.now ≤ 16 }
+    requires { length parts.now ≤ max_arguments }
     ensures { result ≡ S.total_cols (map value_tree parts.now) }
 {
     let mut total: u64 = 0;
@@ -103,7 +104,7 @@ fn beside(parts: &[Value], i: u16, j: u16) -> Result<Scalar, NoMemory>
 #[tactic(auto, using(gl_value::specs::Forms::trees))]
 pub fn vstack(alloc: Global, parts: &[Value]) -> Result<Value, NoMemory>
     requires some { 1 ≤ length parts.now }
-    requires few { length parts.now ≤ 16 }
+    requires few { length parts.now ≤ max_arguments }
     requires sound { All (λ v. IsTrue (is_sound_value (value_tree v))) parts.now }
     ensures sound { IfOk result (λ r. IsTrue (is_sound_value (value_tree r))) }
     ensures value { IfOk result (λ r. value_tree r ≡ F.vstack (map value_tree parts.now)) }
@@ -121,7 +122,7 @@ pub fn vstack(alloc: Global, parts: &[Value]) -> Result<Value, NoMemory>
 #[tactic(auto, using(gl_value::specs::Forms::trees))]
 pub fn hstack(alloc: Global, parts: &[Value]) -> Result<Value, NoMemory>
     requires some { 1 ≤ length parts.now }
-    requires few { length parts.now ≤ 16 }
+    requires few { length parts.now ≤ max_arguments }
     requires sound { All (λ v. IsTrue (is_sound_value (value_tree v))) parts.now }
     ensures sound { IfOk result (λ r. IsTrue (is_sound_value (value_tree r))) }
     ensures value { IfOk result (λ r. value_tree r ≡ F.hstack (map value_tree parts.now)) }

@@ -1,6 +1,7 @@
 //! The functions of formulas whose arguments are all evaluated.
 ghost use Rattle.std.specs.Prelude.{◌≡◌, ◌≤◌, IsTrue, IfOk, IfErr, false, [], ◌∷◌, length, map};
 ghost use Rattle.gl_ast.specs.View.{fun_tree};
+ghost use Rattle.gl_calculus.specs.Limits.{max_arguments};
 ghost use Rattle.gl_calculus.specs.ErrKind as E;
 ghost use Rattle.gl_calculus.specs.Functions as F;
 ghost use Rattle.gl_calculus.specs.Sound.{is_sound_value};
@@ -49,7 +50,7 @@ pub fn apply(alloc: Global, fun: Fun, values: &[Value]) -> Result<Value, Halt>
 /// The value of a function on at most `MAX_ARGUMENTS` arguments.
 #[tactic(auto, using(gl_value::specs::Forms::trees), unfolding(gl_calculus::specs::Functions::apply))]
 fn applied(alloc: Global, fun: Fun, values: &[Value]) -> Result<Value, NoMemory>
-    requires few { length values.now ≤ 16 }
+    requires few { length values.now ≤ max_arguments }
     requires sound { AreSound values.now }
     ensures value { IfOk result (λ v. value_tree v ≡ F.apply (fun_tree fun) (map value_tree values.now)) }
     ensures sound { IfOk result (λ v. IsTrue (is_sound_value (value_tree v))) }
@@ -69,7 +70,7 @@ fn applied(alloc: Global, fun: Fun, values: &[Value]) -> Result<Value, NoMemory>
 
 /// The values side by side. None at all, which would be an empty array, are refused.
 fn beside(alloc: Global, values: &[Value]) -> Result<Value, NoMemory>
-    requires few { length values.now ≤ 16 }
+    requires few { length values.now ≤ max_arguments }
     requires sound { AreSound values.now }
     ensures value { IfOk result (λ v. value_tree v ≡ F.hstack (map value_tree values.now)) }
     ensures sound { IfOk result (λ v. IsTrue (is_sound_value (value_tree v))) }
@@ -83,7 +84,7 @@ fn beside(alloc: Global, values: &[Value]) -> Result<Value, NoMemory>
 
 /// The values one under the other. None at all are refused.
 fn below(alloc: Global, values: &[Value]) -> Result<Value, NoMemory>
-    requires few { length values.now ≤ 16 }
+    requires few { length values.now ≤ max_arguments }
     requires sound { AreSound values.now }
     ensures value { IfOk result (λ v. value_tree v ≡ F.vstack (map value_tree values.now)) }
     ensures sound { IfOk result (λ v. IsTrue (is_sound_value (value_tree v))) }

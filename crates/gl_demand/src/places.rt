@@ -1,5 +1,6 @@
 //! The addresses of a sheet value's region that have content.
-ghost use Rattle.std.specs.Prelude.{◌≡◌, ◌≤◌, ◌++◌, ◌∷◌, [], IsTrue, IfOk, OnOk, if◌then◌else◌, length, option_map};
+ghost use Rattle.std.specs.Prelude.{◌≡◌, ◌*◌, ◌≤◌, ◌++◌, ◌∷◌, [], IsTrue, IfOk, OnOk, if◌then◌else◌, length, option_map};
+ghost use Rattle.gl_calculus.specs.Limits.{grid_rows, grid_cols};
 ghost use Rattle.gl_calculus.specs.Value.{In};
 ghost use Rattle.gl_calculus.specs.Formula.{content};
 ghost use Rattle.gl_calculus.specs.Reference.{own_content, content_in};
@@ -57,7 +58,7 @@ pub fn has_content(cells: &Cells, s: &SheetVal, a: Addr) -> bool
 pub fn places(alloc: Global, cells: &Cells, s: &SheetVal) -> Result<Vec<Addr>, NoMemory>
     requires { IsTrue (is_sound_sheet (sheet_tree s.now)) }
     ensures all { IfOk result (λ v. v.items ≡ filled_places (sheet cells.now) (sheet_tree s.now)) }
-    ensures few { IfOk result (λ v. length v.items ≤ 7019298) }
+    ensures few { IfOk result (λ v. length v.items ≤ grid_rows * grid_cols) }
 {
     let mut found = Vec::new(alloc);
     for i in 0..s.region.cells() {

@@ -1,6 +1,7 @@
 //! The settling of a copy.
-ghost use Rattle.std.specs.Prelude.{◌≡◌, ◌++◌, ◌∷◌, [], List, ◌<◌, ◌≤◌, IsTrue, IfOk, IfErr, OnOk, map, length, option_map};
+ghost use Rattle.std.specs.Prelude.{◌≡◌, ◌++◌, ◌∷◌, [], List, ◌<◌, ◌*◌, ◌≤◌, IsTrue, IfOk, IfErr, OnOk, map, length, option_map};
 ghost use Rattle.gl_query.specs.Evaluation.{LookAt};
+ghost use Rattle.gl_calculus.specs.Limits.{grid_rows, grid_cols};
 ghost use Rattle.gl_calculus.specs.Grid.{AreInOrder, Addr as PlainAddr, Size as PlainSize};
 ghost use Rattle.gl_calculus.specs.Value.{region, In, Oracle as Plain};
 ghost use Rattle.gl_calculus.specs.Oracle.{AreSizes};
@@ -73,7 +74,7 @@ fn settle_places<K: Known>(
 ) -> Result<Oracle, Halt>
     requires sound { IsTrue (is_sound_sheet (sheet_tree s.now.value)) }
     requires all { places.now ≡ filled_places (sheet ctx.now.cells.now) (sheet_tree s.now.value) }
-    requires few { length places.now ≤ 7019298 }
+    requires few { length places.now ≤ grid_rows * grid_cols }
     ensures { Walks (world (sheet ctx.now.cells.now) ctx.now.w.now (K.outcomes ctx.now.known.now)) (all_rounds (world (sheet ctx.now.cells.now) ctx.now.w.now (K.outcomes ctx.now.known.now)) (sheet_tree s.now.value)) (λ o. o) trail.old result trail.new }
 {
     let budget = copy_budget(ctx.cells, s, places);
@@ -108,7 +109,7 @@ fn halt_of(fault: IterFault<Halt>) -> Halt
 fn copy_budget(cells: &Cells, s: &SheetVal, places: &[Addr]) -> u32
     requires sound { IsTrue (is_sound_sheet (sheet_tree s.now)) }
     requires all { places.now ≡ filled_places (sheet cells.now) (sheet_tree s.now) }
-    requires few { length places.now ≤ 7019298 }
+    requires few { length places.now ≤ grid_rows * grid_cols }
     ensures { (w : Plain) → result ≡ copy_budget (sheet_tree s.now) (facts (sheet cells.now) w (region (sheet_tree s.now))) }
 {
     let mut count = 8;

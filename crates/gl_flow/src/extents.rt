@@ -8,7 +8,7 @@ use gl_plane::Range;
 use std::marker::Model;
 
 /// No array has more rows or columns than it may have cells.
-pub const MOST: u16 = 10000;
+pub const MOST: u16 = gl_plane::MAX_CELLS as u16;
 
 /// Rows and columns.
 #[derive(Clone, Copy, PartialEq, Eq, Debug)]

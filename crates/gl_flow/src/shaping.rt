@@ -7,7 +7,7 @@ ghost use Rattle.gl_ast.specs.View.{formula_tree, fun_tree, argument_trees, oper
 ghost use Rattle.gl_forecast.specs.Forecast as Fo;
 ghost use Rattle.gl_flow.specs.Shapes.{bindings_of, spilled_at, shape_of, turned, stacked, first_shape, full_first};
 
-use crate::extents::{Extents, any, below, extents_of, flipped, full, joined};
+use crate::extents::{Extents, MOST, any, below, extents_of, flipped, full, joined};
 use crate::places::number_of;
 use gl_ast::{Formula, Fun, Op};
 use gl_plane::{Addr, NoMemory};
@@ -143,7 +143,7 @@ fn written(f: &Formula) -> Option<u16>
 fn extent(n: i64) -> Option<u16>
     ensures { result ≡ Fo.written_extent (F.Formula.Int n) }
 {
-    if 0 < n && n <= 10000 {
+    if 0 < n && n <= i64::from(MOST) {
         Some(n as u16)
     } else {
         None

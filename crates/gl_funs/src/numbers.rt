@@ -1,5 +1,6 @@
 //! SUM, COUNT, MIN and MAX, and the functions on single numbers.
 ghost use Rattle.std.specs.Prelude.{◌≡◌, ◌≢◌, ◌≤◌, IsTrue, pos, length, [], ◌∷◌};
+ghost use Rattle.gl_calculus.specs.Limits.{max_arguments};
 ghost use Rattle.gl_calculus.specs.Functions as F;
 ghost use Rattle.gl_calculus.specs.Operators as O;
 ghost use Rattle.gl_calculus.specs.Sound.{is_sound_scalar};
@@ -18,7 +19,7 @@ use gl_value::{ErrKind, Scalar, Value};
 /// one. Blanks, truth values and texts are passed over.
 #[tactic(auto, using(gl_value::specs::Forms::trees))]
 pub fn sum(values: &[Value]) -> Scalar
-    requires few { length values.now ≤ 16 }
+    requires few { length values.now ≤ max_arguments }
     requires sound { AreSound values.now }
     ensures value { scalar_tree result ≡ F.total (elements_of values.now) }
     ensures sound { IsTrue (is_sound_scalar (scalar_tree result)) }
@@ -38,7 +39,7 @@ pub fn sum(values: &[Value]) -> Scalar
 /// How many of the elements are integers. All others are passed over, errors too.
 #[tactic(auto, using(gl_value::specs::Forms::trees))]
 pub fn count(values: &[Value]) -> Scalar
-    requires few { length values.now ≤ 16 }
+    requires few { length values.now ≤ max_arguments }
     requires sound { AreSound values.now }
     ensures value { scalar_tree result ≡ F.count (elements_of values.now) }
     ensures sound { IsTrue (is_sound_scalar (scalar_tree result)) }
@@ -55,7 +56,7 @@ pub fn count(values: &[Value]) -> Scalar
 /// The least integer among the elements, 0 where there is none. Errors are those of `sum`.
 #[tactic(auto, using(gl_value::specs::Forms::trees))]
 pub fn least(values: &[Value]) -> Scalar
-    requires few { length values.now ≤ 16 }
+    requires few { length values.now ≤ max_arguments }
     requires sound { AreSound values.now }
     ensures value { scalar_tree result ≡ F.extreme F.lesser (elements_of values.now) }
     ensures sound { IsTrue (is_sound_scalar (scalar_tree result)) }
@@ -75,7 +76,7 @@ pub fn least(values: &[Value]) -> Scalar
 /// The greatest integer among the elements, 0 where there is none. Errors are those of `sum`.
 #[tactic(auto, using(gl_value::specs::Forms::trees))]
 pub fn greatest(values: &[Value]) -> Scalar
-    requires few { length values.now ≤ 16 }
+    requires few { length values.now ≤ max_arguments }
     requires sound { AreSound values.now }
     ensures value { scalar_tree result ≡ F.extreme F.greater (elements_of values.now) }
     ensures sound { IsTrue (is_sound_scalar (scalar_tree result)) }

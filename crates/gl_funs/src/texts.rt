@@ -2,6 +2,7 @@
 ghost use Rattle.std.specs.Prelude.{◌≡◌, ◌≤◌, ◌<◌, ◌^◌, IsTrue, IfOk, take, length, chars, encode_utf8_all, string_bytes};
 ghost use Rattle.std.specs.Fmt.{decimal, signed_decimal};
 ghost use Rattle.std.specs.Rc.{rc_str_bytes};
+ghost use Rattle.gl_calculus.specs.Limits.{max_text};
 ghost use Rattle.gl_calculus.specs.Functions as F;
 ghost use Rattle.gl_calculus.specs.Operators as O;
 ghost use Rattle.gl_calculus.specs.Sound.{is_sound_scalar};
@@ -146,7 +147,7 @@ fn characters(text: &str) -> usize
 #[tactic(auto, using(gl_value::specs::Forms::trees))]
 fn plain(alloc: Global, x: &Scalar) -> Result<RcStr, NoMemory>
     ensures value { IfOk result (λ t. rc_str_bytes t ≡ O.plain (scalar_tree x.now)) }
-    ensures sound { IsTrue (is_sound_scalar (scalar_tree x.now)) → IfOk result (λ t. length (rc_str_bytes t) ≤ 4096) }
+    ensures sound { IsTrue (is_sound_scalar (scalar_tree x.now)) → IfOk result (λ t. length (rc_str_bytes t) ≤ max_text) }
 {
     match x {
         Scalar::Int(n) => integer_text(alloc, *n),
@@ -160,7 +161,7 @@ fn plain(alloc: Global, x: &Scalar) -> Result<RcStr, NoMemory>
 /// A number in decimal.
 fn integer_text(alloc: Global, n: i64) -> Result<RcStr, NoMemory>
     ensures value { IfOk result (λ t. rc_str_bytes t ≡ signed_decimal n) }
-    ensures short { IfOk result (λ t. length (rc_str_bytes t) ≤ 4096) }
+    ensures short { IfOk result (λ t. length (rc_str_bytes t) ≤ max_text) }
 {
     Ok(RcStr::from_string(n.to_string(alloc)?)?)
 }

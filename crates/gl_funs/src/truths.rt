@@ -1,5 +1,6 @@
 //! AND, OR and NOT, and the tests of one scalar.
 ghost use Rattle.std.specs.Prelude.{◌≡◌, ◌≤◌, IsTrue, length};
+ghost use Rattle.gl_calculus.specs.Limits.{max_arguments};
 ghost use Rattle.gl_calculus.specs.Functions as F;
 ghost use Rattle.gl_calculus.specs.Sound.{is_sound_scalar};
 ghost use Rattle.gl_value.specs.View.{scalar_tree};
@@ -15,7 +16,7 @@ use gl_value::{ErrKind, Scalar, Value};
 /// result where there is one. Blanks are passed over.
 #[tactic(auto, using(gl_value::specs::Forms::trees))]
 pub fn all(values: &[Value]) -> Scalar
-    requires few { length values.now ≤ 16 }
+    requires few { length values.now ≤ max_arguments }
     requires sound { AreSound values.now }
     ensures value { scalar_tree result ≡ F.verdict F.all_true (elements_of values.now) }
     ensures sound { IsTrue (is_sound_scalar (scalar_tree result)) }
@@ -35,7 +36,7 @@ pub fn all(values: &[Value]) -> Scalar
 /// Whether some truth value among the elements is TRUE. Errors are those of `all`.
 #[tactic(auto, using(gl_value::specs::Forms::trees))]
 pub fn any(values: &[Value]) -> Scalar
-    requires few { length values.now ≤ 16 }
+    requires few { length values.now ≤ max_arguments }
     requires sound { AreSound values.now }
     ensures value { scalar_tree result ≡ F.verdict F.some_true (elements_of values.now) }
     ensures sound { IsTrue (is_sound_scalar (scalar_tree result)) }

@@ -14,10 +14,8 @@ pub use lexer::tokens;
 use std::rc::RcStr;
 pub use whole::literal;
 
-/// The bytes of a formula's text, and of the text of a literal, are at most so many.
+/// The bytes of a formula's text are at most so many.
 pub const MAX_FORMULA: usize = 8192;
-
-pub const MAX_TEXT: usize = 4096;
 
 /// The signs between words, numbers and texts.
 #[derive(Clone, Copy, PartialEq, Eq, Hash, Debug)]

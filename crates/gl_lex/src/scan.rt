@@ -8,8 +8,8 @@ ghost use Rattle.gl_lex.specs.Front as front;
 ghost use Rattle.gl_lex.specs.Front.{Decides, DecidesText};
 
 use crate::quote::decode;
-use crate::{Kind, MAX_TEXT, Sign};
-use gl_plane::Addr;
+use crate::{Kind, Sign};
+use gl_plane::{Addr, MAX_TEXT};
 use std::alloc::{AllocError, Global};
 use std::rc::RcStr;
 

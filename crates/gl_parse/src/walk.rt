@@ -8,16 +8,13 @@ ghost use Rattle.gl_parse.specs.Faults as spec;
 use crate::arity::is_bad_call;
 use crate::raw::Raw;
 use gl_ast::Op;
-use gl_plane::{Addr, Range};
+use gl_plane::{Addr, MAX_CELLS, Range};
 
 #[derive(Clone, Copy)]
 pub enum FormFault {
     Range,
     Arity,
 }
-
-/// The greatest number of cells that a range has.
-const MAX_CELLS: u32 = 10000;
 
 fn is_bad_range(a: Addr, b: Addr) -> bool
     ensures { result ≡ G.is_bad_range (G.Raw.Corners a b) }

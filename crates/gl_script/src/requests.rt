@@ -84,7 +84,7 @@ pub enum CommandFault {
 }
 
 /// The most cells of a view.
-pub const MAX_VIEW: u32 = 10000;
+pub const MAX_VIEW: u32 = gl_plane::MAX_CELLS;
 
 impl From<NoMemory> for CommandFault {
     ghost use Rattle.std.specs.Prelude.{◌≡◌};

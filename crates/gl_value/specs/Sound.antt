@@ -25,8 +25,8 @@ pub record SheetFacts (r : Range) (os : Overrides) (e : Frame) (k w : ℕ) : Typ
   pub frame : is_sound_frame e ≡ true
   pub above_frame : frame_rank e < k
   pub above_values : overrides_rank os ≤ k
-  pub rank : k ≤ 96
-  pub light : w ≤ 65536
+  pub rank : k ≤ max_rank
+  pub light : w ≤ max_weight
   pub weighs : w ≡ 1 + overrides_weight os + frame_weight e
 
 -- a text of the code is UTF-8, so it is sound where it is short
@@ -70,10 +70,10 @@ facts_of r os e k w h =
 pub sheet_facts : (s : SheetVal) → IsTrue (is_sound_sheet (sheet_tree s)) → SheetFacts s.region (override_trees s.overrides.items) (frame_tree s.env) s.rank s.weight
 sheet_facts s h = facts_of s.region (override_trees s.overrides.items) (frame_tree s.env) s.rank s.weight (rw (sheet_tree_is s) at h)
 
-pub rank_most : (s : SheetVal) → IsTrue (is_sound_sheet (sheet_tree s)) → s.rank ≤ 96
+pub rank_most : (s : SheetVal) → IsTrue (is_sound_sheet (sheet_tree s)) → s.rank ≤ max_rank
 rank_most s h = (sheet_facts s h).rank
 
-pub weight_most : (s : SheetVal) → IsTrue (is_sound_sheet (sheet_tree s)) → s.weight ≤ 65536
+pub weight_most : (s : SheetVal) → IsTrue (is_sound_sheet (sheet_tree s)) → s.weight ≤ max_weight
 weight_most s h = (sheet_facts s h).light
 
 pub rank_is : (s : SheetVal) → rank (sheet_tree s) ≡ s.rank
@@ -106,7 +106,7 @@ array_items a h = (array_parts a h).1
 
 pub ruleset arrays = (array_count, array_items, array_tree_is)
 
-pub frame_rank_most : (e : Frame) → IsTrue (is_sound_frame e) → frame_rank e ≤ 96
+pub frame_rank_most : (e : Frame) → IsTrue (is_sound_frame e) → frame_rank e ≤ max_rank
 frame_rank_most Top h = omega arith
 frame_rank_most (In (sheet_value r os e k w) o) h = (facts_of r os e k w h).rank
 

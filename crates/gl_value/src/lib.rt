@@ -9,13 +9,11 @@ mod share;
 mod sheets;
 mod sound;
 
+pub use gl_plane::MAX_TEXT;
 use gl_plane::{Addr, Oracle, Range, Size};
 pub use laws::{structural_equality, structural_hashes};
 pub use sheets::{sheet, update};
 use std::rc::{Rc, RcStr};
-
-/// The most bytes that a text has.
-pub const MAX_TEXT: usize = 4096;
 
 /// The greatest rank of a sheet value.
 pub const MAX_RANK: u8 = 96;

@@ -1,6 +1,7 @@
 //! Ranks, weights, and what SHEET and UPDATE make.
 ghost use Rattle.std.specs.Prelude.{◌≡◌, ◌≤◌, ◌<◌, ◌^◌, ◌+◌, ◌∷◌, [], IsTrue, IfOk, length, option_map};
 ghost use Rattle.std.specs.Option.{option_copied};
+ghost use Rattle.gl_calculus.specs.Limits.{max_rank, max_weight, max_cells};
 ghost use Rattle.gl_calculus.specs.Value as V;
 ghost use Rattle.gl_calculus.specs.Value.{overrides, rank, sheet_value};
 ghost use Rattle.gl_calculus.specs.Sheet as S;
@@ -22,7 +23,7 @@ impl Env {
     pub fn rank(&self) -> u8
         requires { IsTrue (is_sound_frame (frame_tree self.now)) }
         ensures value { result ≡ frame_rank (frame_tree self.now) }
-        ensures most { result ≤ 96 }
+        ensures most { result ≤ max_rank }
     {
         match self {
             Env::Top => 0,
@@ -51,7 +52,7 @@ impl SheetVal {
     fn sound_rank(&self) -> u8
         requires { IsTrue (is_sound_sheet (sheet_tree self.now)) }
         ensures value { result ≡ rank (sheet_tree self.now) }
-        ensures most { result ≤ 96 }
+        ensures most { result ≤ max_rank }
     {
         self.rank
     }
@@ -71,7 +72,7 @@ impl SheetVal {
     fn weight(&self) -> u32
         requires { IsTrue (is_sound_sheet (sheet_tree self.now)) }
         ensures value { result ≡ weight (sheet_tree self.now) }
-        ensures most { result ≤ 65536 }
+        ensures most { result ≤ max_weight }
     {
         self.weight
     }
@@ -96,7 +97,7 @@ impl Scalar {
     fn weight(&self) -> u32
         requires { IsTrue (is_sound_scalar (scalar_tree self.now)) }
         ensures value { result ≡ scalar_weight (scalar_tree self.now) }
-        ensures most { result ≤ 65536 }
+        ensures most { result ≤ max_weight }
     {
         match self {
             Scalar::Sheet(sheet) => sheet.weight(),
@@ -108,7 +109,7 @@ impl Scalar {
 /// The sum of the items' weights.
 fn items_weight(items: &[Scalar]) -> u32
     requires sound { IsTrue (are_sound (item_trees items.now)) }
-    requires few { length items.now ≤ 10000 }
+    requires few { length items.now ≤ max_cells }
     ensures value { result ≡ scalars_weight (item_trees items.now) }
     ensures most { result ≤ 655360000 }
 {
