@@ -3,10 +3,36 @@ use Rattle.std.proofs.Common.{◌≡◌, ℕ, Option, Some, None, option_map, re
 use Rattle.gl_calculus.specs.Grid.{Addr, Range}
 use Rattle.gl_calculus.specs.Value as V
 use Rattle.gl_intern.specs.Tables.{Tables, Grows}
-use Rattle.gl_intern.specs.Places.{then_some, override_behind, sheet_of, value_in, overrides_in, sheet_in, frame_in}
+use Rattle.gl_intern.specs.Places.{then_some, item_behind, override_behind, sheet_of, scalar_in, value_in, items_in, overrides_in, sheet_in, frame_in}
+use Rattle.gl_intern.specs.declared.short.ShortScalar.{ShortScalar}
 use Rattle.gl_intern.specs.declared.short.ShortValue.{ShortValue}
 use Rattle.gl_intern.specs.declared.short.ShortOverride.{ShortOverride}
-use Rattle.gl_intern.proofs.Growing.{grows_same, grows_grows, value_stays, behind_stays, frame_stays}
+use Rattle.gl_intern.proofs.Growing.{grows_same, grows_grows, scalar_stays, item_stays, value_stays, behind_stays, frame_stays}
+
+-- the items but the rest are behind one another in the tables, however these grow
+pub record AreListed (old now : Tables) (last : Option ℕ) (rest all : V.Scalars) : Type 0 where
+  pub grew : Grows old now
+  pub same : (u : Tables) → Grows now u → items_in u last rest ≡ items_in u None all
+
+pub none_listed : (t : Tables) (all : V.Scalars) → AreListed t t None all all
+none_listed t all = record {
+  grew = grows_same t;
+  same = λ u g. refl;
+}
+
+pub one_listed : (old now t u : Tables) (last : Option ℕ) (x : V.Scalar) (rest all : V.Scalars) (k : ShortScalar) (next : ℕ) → AreListed old now last (V.scalar_and x rest) all → Grows now t → scalar_in t x ≡ Some k → Grows t u → item_behind u last k ≡ Some (Some next) → AreListed old u (Some next) rest all
+one_listed old now t u last x rest all k next h g scalar f behind = record {
+  grew = grows_grows old now u h.grew (grows_grows now t u g f);
+  same = λ w e.
+      let later = grows_grows t u w f e in
+      sym
+      (ap (then_some (λ k. then_some (λ o. items_in w o rest) (item_behind w last k))) (scalar_stays t w later x k scalar)
+      ∙ ap (then_some (λ o. items_in w o rest)) (item_stays u w e last k (Some next) behind))
+      ∙ h.same w (grows_grows now t w g later);
+}
+
+pub all_listed : (old now : Tables) (last : Option ℕ) (all : V.Scalars) → AreListed old now last V.no_scalar all → items_in now None all ≡ Some last
+all_listed old now last all h = sym (h.same now (grows_same now))
 
 -- the overrides but the rest are behind one another in the tables, however these grow
 pub record AreAdded (old now : Tables) (last : Option ShortOverride) (rest all : V.Overrides) : Type 0 where

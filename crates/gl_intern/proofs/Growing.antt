@@ -1,17 +1,19 @@
 -- Short forms and places stay while the tables grow.
-use Rattle.std.proofs.Common.{◌≡◌, Bool, List, [], ◌++◌, Option, Some, None, option_map, position, sym, ap, subst, ◌∙◌, append_assoc}
+use Rattle.std.proofs.Common.{◌≡◌, ℕ, Bool, true, false, List, [], ◌++◌, Option, Some, None, option_map, position, sym, ap, subst, ◌∙◌, append_assoc}
 use Rattle.std.proofs.lemmas.List.{append-nil}
 use Rattle.gl_calculus.specs.Grid.{Addr}
 use Rattle.gl_calculus.specs.Value as V
 use Rattle.gl_calculus.specs.Same.{same_scalar, same_value, same_oracle}
 use Rattle.gl_intern.specs.Growth.{IsLonger}
 use Rattle.gl_intern.specs.Tables.{Tables, Grows}
-use Rattle.gl_intern.specs.Places.{then_some, plain_in, array_in, override_link, override_behind, sheet_of, place_of_sheet, frame_of, place_of_frame, scalar_in, value_in, overrides_in, sheet_in, frame_in, sheet_place}
+use Rattle.gl_intern.specs.Places.{then_some, holds_sheets, plain_in, whole_in, item_behind, items_of, array_by, override_link, override_behind, sheet_of, place_of_sheet, frame_of, place_of_frame, scalar_in, value_in, items_in, overrides_in, sheet_in, frame_in, sheet_place}
+use Rattle.gl_intern.specs.declared.short.ShortScalar.{ShortScalar}
 use Rattle.gl_intern.specs.declared.short.ShortValue.{ShortValue}
 use Rattle.gl_intern.specs.declared.short.ShortOverride.{ShortOverride}
 use Rattle.gl_intern.specs.declared.short.ShortSheet.{ShortSheet}
 use Rattle.gl_intern.specs.declared.short.ShortScalar.TheVariants.{Plain, Sheet}
 use Rattle.gl_intern.specs.declared.short.ShortValue.TheVariants.{One, Array}
+use Rattle.gl_intern.specs.contracts.short.ShortItemPartialEq.TheImpl.{ghosts as item}
 use Rattle.gl_intern.specs.contracts.short.ShortOverridePartialEq.TheImpl.{ghosts as override}
 use Rattle.gl_intern.specs.contracts.short.ShortSheetPartialEq.TheImpl.{ghosts as sheet}
 use Rattle.gl_intern.specs.contracts.short.ShortFramePartialEq.TheImpl.{ghosts as frame}
@@ -28,6 +30,7 @@ pub grows_same : (t : Tables) → Grows t t
 grows_same t = record {
   scalars = longer_same t.scalars;
   arrays = longer_same t.arrays;
+  items = longer_same t.items;
   oracles = longer_same t.oracles;
   overrides = longer_same t.overrides;
   sheets = longer_same t.sheets;
@@ -38,6 +41,7 @@ pub grows_grows : (t u v : Tables) → Grows t u → Grows u v → Grows t v
 grows_grows t u v a b = record {
   scalars = longer_longer t.scalars u.scalars v.scalars a.scalars b.scalars;
   arrays = longer_longer t.arrays u.arrays v.arrays a.arrays b.arrays;
+  items = longer_longer t.items u.items v.items a.items b.items;
   oracles = longer_longer t.oracles u.oracles v.oracles a.oracles b.oracles;
   overrides = longer_longer t.overrides u.overrides v.overrides a.overrides b.overrides;
   sheets = longer_longer t.sheets u.sheets v.sheets a.sheets b.sheets;
@@ -51,8 +55,17 @@ module _ (t u : Tables) (g : Grows t u) where
   pub plain_stays : (x : V.Scalar) → Stays (plain_in t x) (plain_in u x)
   plain_stays x = map_stays Plain (position (same_scalar x) t.scalars) (position (same_scalar x) u.scalars) (place_stays (same_scalar x) t.scalars u.scalars g.scalars)
 
-  pub array_stays : (v : V.Value) → Stays (array_in t v) (array_in u v)
-  array_stays v = map_stays Array (position (same_value v) t.arrays) (position (same_value v) u.arrays) (place_stays (same_value v) t.arrays u.arrays g.arrays)
+  pub whole_stays : (v : V.Value) → Stays (whole_in t v) (whole_in u v)
+  whole_stays v = map_stays Array (position (same_value v) t.arrays) (position (same_value v) u.arrays) (place_stays (same_value v) t.arrays u.arrays g.arrays)
+
+  pub item_stays : (last : Option ℕ) (x : ShortScalar) → Stays (item_behind t last x) (item_behind u last x)
+  item_stays last x =
+      map_stays Some (position (item.eq (record { before = last; item = x })) t.items) (position (item.eq (record { before = last; item = x })) u.items)
+      (place_stays (item.eq (record { before = last; item = x })) t.items u.items g.items)
+
+  array_stays : (v : V.Value) (x y : Option ShortValue) → Stays x y → (b : Bool) → Stays (array_by t v x b) (array_by u v y b)
+  array_stays v x y h true = h
+  array_stays v x y h false = whole_stays v
 
   pub link_stays : (last : Option ShortOverride) → Stays (override_link t last) (override_link u last)
   link_stays None = λ b h. h
@@ -83,7 +96,15 @@ module _ (t u : Tables) (g : Grows t u) where
 
     pub value_stays : (v : V.Value) → Stays (value_in t v) (value_in u v)
     value_stays (V.Value.One x) = map_stays One (scalar_in t x) (scalar_in u x) (scalar_stays x)
-    value_stays (V.Value.Array s xs) = array_stays (V.Value.Array s xs)
+    value_stays (V.Value.Array s xs) =
+        array_stays (V.Value.Array s xs) (option_map (items_of s) (items_in t None xs)) (option_map (items_of s) (items_in u None xs))
+        (map_stays (items_of s) (items_in t None xs) (items_in u None xs) (items_stay xs None)) (holds_sheets xs)
+
+    pub items_stay : (xs : V.Scalars) (last : Option ℕ) → Stays (items_in t last xs) (items_in u last xs)
+    items_stay V.no_scalar last = λ a h. h
+    items_stay (V.scalar_and x xs) last =
+        then_stays (λ k. then_some (λ o. items_in t o xs) (item_behind t last k)) (λ k. then_some (λ o. items_in u o xs) (item_behind u last k)) (scalar_in t x) (scalar_in u x) (scalar_stays x)
+        (λ k. then_stays (λ o. items_in t o xs) (λ o. items_in u o xs) (item_behind t last k) (item_behind u last k) (item_stays last k) (items_stay xs))
 
     pub overrides_stay : (os : V.Overrides) (last : Option ShortOverride) → Stays (overrides_in t last os) (overrides_in u last os)
     overrides_stay V.no_override last = λ a h. h

@@ -2,6 +2,7 @@ pub mod Options
 pub mod Positions
 pub mod Growing
 pub mod Chains
+pub mod Sizes
 pub mod Trees
 pub mod Numbers
 pub mod Keys

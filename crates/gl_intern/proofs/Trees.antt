@@ -1,24 +1,26 @@
 -- Equal short forms and equal places are of equal values.
-use Rattle.std.proofs.Common.{◌≡◌, ℕ, ℤ, List, [], ◌∷◌, Option, Some, None, option_map, position, slice_get, refl, sym, ap, subst, ◌∙◌}
-use Rattle.gl_calculus.specs.Grid.{Addr}
+use Rattle.std.proofs.Common.{◌≡◌, ℕ, ℤ, Bool, true, false, List, [], ◌∷◌, Option, Some, None, option_map, position, slice_get, refl, sym, ap, subst, ◌∙◌}
+use Rattle.gl_calculus.specs.Grid.{Addr, Size}
 use Rattle.gl_calculus.specs.Value as V
 use Rattle.gl_calculus.specs.Same.{same_scalar, same_value, same_oracle}
 use Rattle.gl_calculus.proofs.Tests.{scalar_equality, value_equality, oracle_equality}
 use Rattle.gl_intern.specs.Tables.{Tables}
-use Rattle.gl_intern.specs.Places.{then_some, plain_in, override_link, override_behind, sheet_of, place_of_sheet, frame_of, place_of_frame, scalar_in, value_in, overrides_in, sheet_in, frame_in, sheet_place}
+use Rattle.gl_intern.specs.Places.{then_some, holds_sheets, plain_in, item_behind, items_of, array_by, override_link, override_behind, sheet_of, place_of_sheet, frame_of, place_of_frame, scalar_in, value_in, items_in, overrides_in, sheet_in, frame_in, sheet_place}
 use Rattle.gl_intern.specs.declared.short.ShortScalar.{ShortScalar}
 use Rattle.gl_intern.specs.declared.short.ShortScalar.TheVariants.{Int, Plain, Sheet}
 use Rattle.gl_intern.specs.declared.short.ShortValue.{ShortValue}
 use Rattle.gl_intern.specs.declared.short.ShortValue.TheVariants.{One, Array}
+use Rattle.gl_intern.specs.declared.short.ShortItem.{ShortItem}
 use Rattle.gl_intern.specs.declared.short.ShortOverride.{ShortOverride}
 use Rattle.gl_intern.specs.declared.short.ShortSheet.{ShortSheet}
+use Rattle.gl_intern.specs.contracts.short.ShortItemPartialEq.TheImpl.{ghosts as item}
 use Rattle.gl_intern.specs.contracts.short.ShortOverridePartialEq.TheImpl.{ghosts as override}
 use Rattle.gl_intern.specs.contracts.short.ShortSheetPartialEq.TheImpl.{ghosts as sheet}
 use Rattle.gl_intern.specs.contracts.short.ShortFramePartialEq.TheImpl.{ghosts as frame}
 use Rattle.gl_intern.proofs.Options.{some_exact, map_some, then_some_is}
 use Rattle.gl_intern.proofs.Positions.{found_at, same_place}
 use Rattle.gl_intern.proofs.Chains.{chain, chain_exact}
-use Rattle.gl_intern.specs.Exact.{override_equality, sheet_equality, frame_equality}
+use Rattle.gl_intern.specs.Exact.{item_equality, override_equality, sheet_equality, frame_equality}
 
 module _ (t : Tables) where
   link_exact : (a b : Option ShortOverride) (n : Option ℕ) → override_link t a ≡ Some n → override_link t b ≡ Some n → a ≡ b
@@ -52,6 +54,74 @@ module _ (t : Tables) where
 
   behind_some : (a : Option ShortOverride) (k : Addr × ShortValue) → override_behind t a k ≡ Some None → ⊥
   behind_some a k h = let m = map_some (linked k) (override_link t a) None h in cc m.2
+
+  abbrev after : Option ℕ → ShortScalar → ShortItem
+  after a x = record { before = a; item = x }
+
+  item_exact : (a b : Option ℕ) (x y : ShortScalar) (n : Option ℕ) → item_behind t a x ≡ Some n → item_behind t b y ≡ Some n → (a ≡ b) × (x ≡ y)
+  item_exact a b x y n h g =
+      let m = map_some Some (position (item.eq (after a x)) t.items) n h in
+      let k = map_some Some (position (item.eq (after b y)) t.items) n g in
+      let place : m.0 ≡ k.0 = some_exact m.0 k.0 (sym m.2 ∙ k.2) in
+      let same = same_place item.eq item_equality (after a x) (after b y) t.items k.0 (m.1 ∙ ap Some place) k.1 in
+      (ap (λ r. r.before) same, ap (λ r. r.item) same)
+
+  item_some : (a : Option ℕ) (x : ShortScalar) → item_behind t a x ≡ Some None → ⊥
+  item_some a x h = let m = map_some Some (position (item.eq (after a x)) t.items) None h in cc m.2
+
+  -- the short forms of items, in order
+  abbrev AreItems : V.Scalars → List ShortScalar → Type 0
+  AreItems V.no_scalar [] = Unit {0}
+  AreItems V.no_scalar (k ∷ ks) = ⊥
+  AreItems (V.scalar_and x xs) [] = ⊥
+  AreItems (V.scalar_and x xs) (k ∷ ks) = (scalar_in t x ≡ Some k) × AreItems xs ks
+
+  listed_of : (xs : V.Scalars) (last n : Option ℕ) → items_in t last xs ≡ Some n → (ks : List ShortScalar) × AreItems xs ks × (chain (item_behind t) item_exact item_some last ks ≡ Some n)
+  listed_of V.no_scalar last n h = ([], tt, h)
+  listed_of (V.scalar_and x xs) last n h =
+      let (k, at, rest) = then_some_is (λ k. then_some (λ o. items_in t o xs) (item_behind t last k)) (scalar_in t x) n h in
+      let (o, behind, more) = then_some_is (λ o. items_in t o xs) (item_behind t last k) n rest in
+      let (ks, items, chained) = listed_of xs o n more in
+      (k ∷ ks, (at, items), ap (then_some (λ o. chain (item_behind t) item_exact item_some o ks)) behind ∙ chained)
+
+  -- equal places of last items are of equal items
+  listed_exact : (xs ys : V.Scalars) (n : Option ℕ) → ((ks : List ShortScalar) → AreItems xs ks → AreItems ys ks → xs ≡ ys) → items_in t None xs ≡ Some n → items_in t None ys ≡ Some n → xs ≡ ys
+  listed_exact xs ys n same h g =
+      let (ks, these, chained) = listed_of xs None n h in
+      let (ls, those, others) = listed_of ys None n g in
+      let equal = chain_exact (item_behind t) item_exact item_some ks ls n chained others in
+      same ls (subst (AreItems xs) equal these) those
+
+  abbrev by_items : Size → V.Scalars → Option ShortValue
+  by_items s xs = option_map (items_of s) (items_in t None xs)
+
+  array_exact : (s r : Size) (xs ys : V.Scalars) (k : ShortValue) → ((ks : List ShortScalar) → AreItems xs ks → AreItems ys ks → xs ≡ ys) → (b c : Bool) → array_by t (V.Value.Array s xs) (by_items s xs) b ≡ Some k → array_by t (V.Value.Array r ys) (by_items r ys) c ≡ Some k → V.Value.Array s xs ≡ V.Value.Array r ys
+  array_exact s r xs ys k rest true true h g =
+      let m = map_some (items_of s) (items_in t None xs) k h in
+      let n = map_some (items_of r) (items_in t None ys) k g in
+      let same : items_of s m.0 ≡ items_of r n.0 = sym m.2 ∙ n.2 in
+      let rows : s.rows ≡ r.rows = cc same in
+      let cols : s.cols ≡ r.cols = cc same in
+      let last : m.0 ≡ n.0 = cc same in
+      let items = listed_exact xs ys n.0 rest (m.1 ∙ ap Some last) n.1 in
+      λ i. V.Value.Array (record { rows = rows i; cols = cols i }) (items i)
+  array_exact s r xs ys k rest true false h g =
+      let m = map_some (items_of s) (items_in t None xs) k h in
+      let n = map_some Array (position (same_value (V.Value.Array r ys)) t.arrays) k g in
+      absurd (cc (m.2, n.2))
+  array_exact s r xs ys k rest false true h g =
+      let m = map_some Array (position (same_value (V.Value.Array s xs)) t.arrays) k h in
+      let n = map_some (items_of r) (items_in t None ys) k g in
+      absurd (cc (m.2, n.2))
+  array_exact s r xs ys k rest false false h g =
+      let m = map_some Array (position (same_value (V.Value.Array s xs)) t.arrays) k h in
+      let n = map_some Array (position (same_value (V.Value.Array r ys)) t.arrays) k g in
+      let same : m.0 ≡ n.0 = cc (m.2, n.2) in
+      same_place same_value value_equality (V.Value.Array s xs) (V.Value.Array r ys) t.arrays n.0 (m.1 ∙ ap Some same) n.1
+
+  not_array : (s : Size) (xs : V.Scalars) (x : ShortScalar) (b : Bool) {P : Type 0} → array_by t (V.Value.Array s xs) (by_items s xs) b ≡ Some (One x) → P
+  not_array s xs x true h = let m = map_some (items_of s) (items_in t None xs) (One x) h in absurd (cc m.2)
+  not_array s xs x false h = let m = map_some Array (position (same_value (V.Value.Array s xs)) t.arrays) (One x) h in absurd (cc m.2)
 
   -- the short forms of overrides, in order
   abbrev AreShorts : V.Overrides → List (Addr × ShortValue) → Type 0
@@ -161,17 +231,23 @@ module _ (t : Tables) where
         ap V.Value.One (scalar_exact x y n.0 (m.1 ∙ ap Some same) n.1)
     value_exact (V.Value.One x) (V.Value.Array s xs) k h g =
         let m = map_some One (scalar_in t x) k h in
-        let n = map_some Array (position (same_value (V.Value.Array s xs)) t.arrays) k g in
-        absurd (cc (m.2, n.2))
+        not_array s xs m.0 (holds_sheets xs) (g ∙ ap Some m.2)
     value_exact (V.Value.Array s xs) (V.Value.One y) k h g =
-        let m = map_some Array (position (same_value (V.Value.Array s xs)) t.arrays) k h in
         let n = map_some One (scalar_in t y) k g in
-        absurd (cc (m.2, n.2))
-    value_exact (V.Value.Array s xs) (V.Value.Array r ys) k h g =
-        let m = map_some Array (position (same_value (V.Value.Array s xs)) t.arrays) k h in
-        let n = map_some Array (position (same_value (V.Value.Array r ys)) t.arrays) k g in
-        let same : m.0 ≡ n.0 = cc (m.2, n.2) in
-        same_place same_value value_equality (V.Value.Array s xs) (V.Value.Array r ys) t.arrays n.0 (m.1 ∙ ap Some same) n.1
+        not_array s xs n.0 (holds_sheets xs) (h ∙ ap Some n.2)
+    value_exact (V.Value.Array s xs) (V.Value.Array r ys) k h g = array_exact s r xs ys k (scalars_exact xs ys) (holds_sheets xs) (holds_sheets ys) h g
+
+    scalars_exact : (xs ys : V.Scalars) (ks : List ShortScalar) → AreItems xs ks → AreItems ys ks → xs ≡ ys
+    scalars_exact V.no_scalar V.no_scalar ks h g = refl
+    scalars_exact V.no_scalar (V.scalar_and y ys) [] h g = absurd g
+    scalars_exact V.no_scalar (V.scalar_and y ys) (k ∷ ks) h g = absurd h
+    scalars_exact (V.scalar_and x xs) V.no_scalar [] h g = absurd h
+    scalars_exact (V.scalar_and x xs) V.no_scalar (k ∷ ks) h g = absurd g
+    scalars_exact (V.scalar_and x xs) (V.scalar_and y ys) [] h g = absurd h
+    scalars_exact (V.scalar_and x xs) (V.scalar_and y ys) (k ∷ ks) h g =
+        let this = scalar_exact x y k h.0 g.0 in
+        let rest = scalars_exact xs ys ks h.1 g.1 in
+        λ i. V.scalar_and (this i) (rest i)
 
     shorts_exact : (os ps : V.Overrides) (ks : List (Addr × ShortValue)) → AreShorts os ks → AreShorts ps ks → os ≡ ps
     shorts_exact V.no_override V.no_override ks h g = refl

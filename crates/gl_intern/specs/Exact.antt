@@ -9,12 +9,14 @@ use Rattle.gl_query.specs.Lists.{IsEquality}
 use Rattle.gl_intern.specs.declared.short.ShortScalar.{ShortScalar}
 use Rattle.gl_intern.specs.declared.short.ShortScalar.TheVariants.{Int, Plain, Sheet}
 use Rattle.gl_intern.specs.declared.short.ShortValue.{ShortValue}
-use Rattle.gl_intern.specs.declared.short.ShortValue.TheVariants.{One, Array}
+use Rattle.gl_intern.specs.declared.short.ShortValue.TheVariants.{One, Array, Items}
+use Rattle.gl_intern.specs.declared.short.ShortItem.{ShortItem}
 use Rattle.gl_intern.specs.declared.short.ShortOverride.{ShortOverride}
 use Rattle.gl_intern.specs.declared.short.ShortSheet.{ShortSheet}
 use Rattle.gl_intern.specs.declared.short.ShortFrame.{ShortFrame}
 use Rattle.gl_intern.specs.contracts.short.ShortScalarPartialEq.TheImpl.{ghosts as scalar}
 use Rattle.gl_intern.specs.contracts.short.ShortValuePartialEq.TheImpl.{ghosts as value}
+use Rattle.gl_intern.specs.contracts.short.ShortItemPartialEq.TheImpl.{ghosts as item}
 use Rattle.gl_intern.specs.contracts.short.ShortOverridePartialEq.TheImpl.{ghosts as override}
 use Rattle.gl_intern.specs.contracts.short.ShortSheetPartialEq.TheImpl.{ghosts as sheet}
 use Rattle.gl_intern.specs.contracts.short.ShortFramePartialEq.TheImpl.{ghosts as frame}
@@ -53,11 +55,29 @@ scalar_same (Sheet m) = same_nat m
 value_exact : (x y : ShortValue) → value.eq x y ≡ true → x ≡ y
 value_exact (One x) (One y) e = ap One (scalar_exact x y e)
 value_exact (Array m) (Array n) e = ap Array (eqb-true m n e)
+value_exact (Items m n a) (Items k l b) e =
+    let (m_k, rest) = both (eqb m k) (eqb n l && option_eq eqb a b) e in
+    let (n_l, a_b) = both (eqb n l) (option_eq eqb a b) rest in
+    let rows = eqb-true m k m_k in
+    let cols = eqb-true n l n_l in
+    let last = link_exact a b a_b in
+    λ i. Items (rows i) (cols i) (last i)
 value_exact _ _ e = absurd (cc e)
 
 value_same : (x : ShortValue) → value.eq x x ≡ true
 value_same (One x) = scalar_same x
 value_same (Array m) = same_nat m
+value_same (Items m n a) = and_true (eqb m m) (eqb n n && option_eq eqb a a) (same_nat m) (and_true (eqb n n) (option_eq eqb a a) (same_nat n) (link_same a))
+
+item_exact : (x y : ShortItem) → item.eq x y ≡ true → x ≡ y
+item_exact x y e =
+    let (b, r) = both (option_eq eqb x.before y.before) (scalar.eq x.item y.item) e in
+    let before = link_exact x.before y.before b in
+    let this = scalar_exact x.item y.item r in
+    λ i. record { before = before i; item = this i }
+
+item_same : (x : ShortItem) → item.eq x x ≡ true
+item_same x = and_true (option_eq eqb x.before x.before) (scalar.eq x.item x.item) (link_same x.before) (scalar_same x.item)
 
 override_exact : (x y : ShortOverride) → override.eq x y ≡ true → x ≡ y
 override_exact x y e =
@@ -102,6 +122,9 @@ frame_exact x y e =
 
 frame_same : (x : ShortFrame) → frame.eq x x ≡ true
 frame_same x = and_true (eqb x.oracle x.oracle) (sheet.eq x.sheet x.sheet) (same_nat x.oracle) (sheet_same x.sheet)
+
+pub item_equality : IsEquality item.eq
+item_equality = (item_exact, item_same)
 
 pub override_equality : IsEquality override.eq
 override_equality = (override_exact, override_same)

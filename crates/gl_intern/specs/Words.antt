@@ -1,11 +1,12 @@
 -- Short forms as words, by which they are hashed.
-use Rattle.std.specs.Prelude.{ℕ, ℤ, pos, ◌+◌, ◌*◌, ◌-◌, ◌^◌, Option, Some, None}
+use Rattle.std.specs.Prelude.{ℕ, ℤ, pos, ◌-◌, ◌^◌, Option, Some, None}
 use Rattle.gl_calculus.specs.Grid.{Range}
 use Rattle.gl_plane.specs.Digest.{mixed, address_word}
 use Rattle.gl_intern.specs.declared.short.ShortScalar.{ShortScalar}
 use Rattle.gl_intern.specs.declared.short.ShortScalar.TheVariants.{Int, Plain, Sheet}
 use Rattle.gl_intern.specs.declared.short.ShortValue.{ShortValue}
-use Rattle.gl_intern.specs.declared.short.ShortValue.TheVariants.{One, Array}
+use Rattle.gl_intern.specs.declared.short.ShortValue.TheVariants.{One, Array, Items}
+use Rattle.gl_intern.specs.declared.short.ShortItem.{ShortItem}
 use Rattle.gl_intern.specs.declared.short.ShortOverride.{ShortOverride}
 use Rattle.gl_intern.specs.declared.short.ShortSheet.{ShortSheet}
 use Rattle.gl_intern.specs.declared.short.ShortFrame.{ShortFrame}
@@ -15,18 +16,32 @@ place_word None = 2 ^ 64 - 1
 place_word (Some n) = n
 
 -- of an integer its kind alone
-abbrev pub value_word : ShortValue → ℕ
-value_word (One (Int n)) = 0
-value_word (One (Plain n)) = mixed 1 n
-value_word (One (Sheet n)) = mixed 2 n
-value_word (Array n) = mixed 3 n
+abbrev pub scalar_word : ShortScalar → ℕ
+scalar_word (Int n) = 0
+scalar_word (Plain n) = mixed 1 n
+scalar_word (Sheet n) = mixed 2 n
 
--- the integer that a value is, or 0
+-- the integer that a scalar is, or 0
+abbrev pub scalar_int : ShortScalar → ℤ
+scalar_int (Int n) = n
+scalar_int (Plain n) = pos 0
+scalar_int (Sheet n) = pos 0
+
+abbrev pub items_word : (rows cols : ℕ) → Option ℕ → ℕ
+items_word m n last = mixed (mixed m n) (place_word last)
+
+abbrev pub value_word : ShortValue → ℕ
+value_word (One x) = scalar_word x
+value_word (Array n) = mixed 3 n
+value_word (Items m n last) = items_word m n last
+
 abbrev pub value_int : ShortValue → ℤ
-value_int (One (Int n)) = n
-value_int (One (Plain n)) = pos 0
-value_int (One (Sheet n)) = pos 0
+value_int (One x) = scalar_int x
 value_int (Array n) = pos 0
+value_int (Items m n last) = pos 0
+
+abbrev pub item_word : ShortItem → ℕ
+item_word i = mixed (place_word i.before) (scalar_word i.item)
 
 abbrev pub override_word : ShortOverride → ℕ
 override_word o = mixed (mixed (place_word o.before) (address_word o.at)) (value_word o.value)

@@ -1,12 +1,13 @@
 //! The short forms of values, with each part put into its table where it is new.
 ghost use Rattle.std.specs.Prelude.{◌≡◌, IfOk};
 ghost use Rattle.gl_calculus.specs.Value as V;
-ghost use Rattle.gl_value.specs.View.{scalar_tree, value_tree, array_tree, sheet_tree, frame_tree, override_trees};
+ghost use Rattle.gl_value.specs.View.{scalar_tree, value_tree, array_tree, item_trees, sheet_tree, frame_tree, override_trees};
 ghost use Rattle.gl_intern.specs.Tables.{tables, Grows};
-ghost use Rattle.gl_intern.specs.Places.{plain_in, scalar_in, array_in, value_in, override_link, override_behind, overrides_in, sheet_in, sheet_place, place_of_sheet, place_of_frame, frame_in};
+ghost use Rattle.gl_intern.specs.Places.{plain_in, scalar_in, whole_in, item_behind, items_in, value_in, override_link, override_behind, overrides_in, sheet_in, sheet_place, place_of_sheet, place_of_frame, frame_in};
 
+use crate::items::holds_sheets;
 use crate::parts::{Parts, place, place_array, place_oracle, place_scalar};
-use crate::short::{ShortFrame, ShortOverride, ShortScalar, ShortSheet, ShortValue};
+use crate::short::{ShortFrame, ShortItem, ShortOverride, ShortScalar, ShortSheet, ShortValue};
 use gl_plane::{Addr, NoMemory, Oracle};
 use gl_value::{Array, Env, Scalar, SheetVal, Value};
 use std::rc::Rc;
@@ -40,13 +41,58 @@ impl Parts {
         }
     }
 
-    fn add_array(&mut self, a: &Rc<Array>) -> Result<ShortValue, NoMemory>
+    /// An array without sheet values.
+    fn add_whole(&mut self, a: &Rc<Array>) -> Result<ShortValue, NoMemory>
         ensures grows { Grows (tables self.old) (tables self.new) }
         ensures ok { IfOk result
-            (λ k. array_in (tables self.new) (array_tree a.now.value) ≡ Some k) }
+            (λ k. whole_in (tables self.new) (array_tree a.now.value) ≡ Some k) }
     {
         let i = place_array(&mut self.arrays, a)?;
         Ok(ShortValue::Array(i))
+    }
+
+    /// The place of an item behind others.
+    fn add_item(&mut self, before: Option<usize>, item: ShortScalar) -> Result<usize, NoMemory>
+        ensures grows { Grows (tables self.old) (tables self.new) }
+        ensures ok { IfOk result
+            (λ n. item_behind (tables self.new) before item ≡ Some (Some n)) }
+    {
+        place(&mut self.items, ShortItem { before, item })
+    }
+
+    /// The place of the last item.
+    #[cycle(add)]
+    fn add_items(&mut self, items: &[Scalar]) -> Result<Option<usize>, NoMemory>
+        ensures grows { Grows (tables self.old) (tables self.new) }
+        ensures ok { IfOk result
+            (λ k. items_in (tables self.new) None (item_trees items.now) ≡ Some k) }
+    {
+        let mut last: Option<usize> = None;
+        for x in items {
+            let short = match self.add_scalar(x) {
+                Ok(short) => short,
+                Err(e) => return Err(e),
+            };
+            match self.add_item(last, short) {
+                Ok(i) => last = Some(i),
+                Err(e) => return Err(e),
+            }
+        }
+        Ok(last)
+    }
+
+    #[cycle(add)]
+    fn add_array(&mut self, a: &Rc<Array>) -> Result<ShortValue, NoMemory>
+        ensures grows { Grows (tables self.old) (tables self.new) }
+        ensures ok { IfOk result
+            (λ k. value_in (tables self.new) (array_tree a.now.value) ≡ Some k) }
+    {
+        if !holds_sheets(a.items()) {
+            return self.add_whole(a);
+        }
+        let size = a.size();
+        let last = self.add_items(a.items())?;
+        Ok(ShortValue::Items(size.rows(), size.cols(), last))
     }
 
     #[cycle(add)]

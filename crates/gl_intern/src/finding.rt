@@ -1,12 +1,13 @@
 //! The short forms of values whose parts are all there. It takes no memory.
 ghost use Rattle.std.specs.Prelude.{◌≡◌};
 ghost use Rattle.gl_calculus.specs.Value as V;
-ghost use Rattle.gl_value.specs.View.{scalar_tree, value_tree, array_tree, sheet_tree, frame_tree, override_trees};
+ghost use Rattle.gl_value.specs.View.{scalar_tree, value_tree, array_tree, item_trees, sheet_tree, frame_tree, override_trees};
 ghost use Rattle.gl_intern.specs.Tables.{tables};
-ghost use Rattle.gl_intern.specs.Places.{plain_in, scalar_in, array_in, value_in, override_link, override_behind, overrides_in, sheet_in, sheet_place, place_of_frame, frame_in};
+ghost use Rattle.gl_intern.specs.Places.{plain_in, scalar_in, whole_in, item_behind, items_in, value_in, override_link, override_behind, overrides_in, sheet_in, sheet_place, place_of_frame, frame_in};
 
+use crate::items::holds_sheets;
 use crate::parts::Parts;
-use crate::short::{ShortFrame, ShortOverride, ShortScalar, ShortSheet, ShortValue};
+use crate::short::{ShortFrame, ShortItem, ShortOverride, ShortScalar, ShortSheet, ShortValue};
 use gl_plane::{Addr, Oracle};
 use gl_value::{Array, Env, Scalar, SheetVal, Value};
 use std::rc::Rc;
@@ -41,11 +42,54 @@ impl Parts {
         }
     }
 
-    fn find_array(&self, a: &Rc<Array>) -> Option<ShortValue>
-        ensures { result ≡ array_in (tables self.now) (array_tree a.now.value) }
+    /// An array without sheet values.
+    fn find_whole(&self, a: &Rc<Array>) -> Option<ShortValue>
+        ensures { result ≡ whole_in (tables self.now) (array_tree a.now.value) }
     {
         match self.arrays.get_index_of(a) {
             Some(i) => Some(ShortValue::Array(i)),
+            None => None,
+        }
+    }
+
+    /// The place of an item behind others.
+    fn find_item(&self, before: Option<usize>, item: ShortScalar) -> Option<Option<usize>>
+        ensures { result ≡ item_behind (tables self.now) before item }
+    {
+        match self.items.get_index_of(&ShortItem { before, item }) {
+            Some(i) => Some(Some(i)),
+            None => None,
+        }
+    }
+
+    /// The place of the last item.
+    #[cycle(find)]
+    fn find_items(&self, items: &[Scalar]) -> Option<Option<usize>>
+        ensures { result ≡ items_in (tables self.now) None (item_trees items.now) }
+    {
+        let mut last: Option<usize> = None;
+        for x in items {
+            let Some(short) = self.find_scalar(x) else {
+                return None;
+            };
+            let Some(next) = self.find_item(last, short) else {
+                return None;
+            };
+            last = next;
+        }
+        Some(last)
+    }
+
+    #[cycle(find)]
+    fn find_array(&self, a: &Rc<Array>) -> Option<ShortValue>
+        ensures { result ≡ value_in (tables self.now) (array_tree a.now.value) }
+    {
+        if !holds_sheets(a.items()) {
+            return self.find_whole(a);
+        }
+        let size = a.size();
+        match self.find_items(a.items()) {
+            Some(last) => Some(ShortValue::Items(size.rows(), size.cols(), last)),
             None => None,
         }
     }

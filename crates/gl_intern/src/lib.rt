@@ -8,6 +8,7 @@
 mod adding;
 mod finding;
 mod interner;
+mod items;
 mod laws;
 mod numbering;
 mod parts;

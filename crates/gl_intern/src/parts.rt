@@ -4,7 +4,7 @@ ghost use Rattle.gl_calculus.specs.Same.{same_scalar, same_value, same_oracle};
 ghost use Rattle.gl_value.specs.View.{scalar_tree, array_tree};
 ghost use Rattle.gl_intern.specs.Growth.{IsLonger};
 
-use crate::short::{ShortFrame, ShortOverride, ShortSheet};
+use crate::short::{ShortFrame, ShortItem, ShortOverride, ShortSheet};
 use gl_plane::{NoMemory, Oracle, Share};
 use gl_value::{Array, Scalar};
 use indexmap::IndexSet;
@@ -17,7 +17,10 @@ use std::rc::Rc;
 pub struct Parts {
     /// scalars that are neither integers nor sheet values
     pub scalars: IndexSet<Scalar>,
+    /// arrays without sheet values
     pub arrays: IndexSet<Rc<Array>>,
+    /// items of the other arrays
+    pub items: IndexSet<ShortItem>,
     pub oracles: IndexSet<Rc<Oracle>>,
     pub overrides: IndexSet<ShortOverride>,
     pub sheets: IndexSet<ShortSheet>,
@@ -30,6 +33,7 @@ impl Drop for Parts {
         let Parts {
             scalars: _,
             arrays: _,
+            items: _,
             oracles: _,
             overrides: _,
             sheets: _,
@@ -44,6 +48,7 @@ impl Parts {
         Parts {
             scalars: IndexSet::new(alloc),
             arrays: IndexSet::new(alloc),
+            items: IndexSet::new(alloc),
             oracles: IndexSet::new(alloc),
             overrides: IndexSet::new(alloc),
             sheets: IndexSet::new(alloc),

@@ -10,11 +10,20 @@ pub enum ShortScalar {
     Sheet(usize),
 }
 
-/// A value: a scalar, or the place of an array.
+/// A value: a scalar, the place of an array without sheet values, or how many rows and columns
+/// another array has, and the place of its last item.
 #[derive(Clone, Copy, PartialEq, Eq, Debug)]
 pub enum ShortValue {
     One(ShortScalar),
     Array(usize),
+    Items(u16, u16, Option<usize>),
+}
+
+/// An item of an array behind those before it, which end at a place.
+#[derive(Clone, Copy, PartialEq, Eq, Debug)]
+pub struct ShortItem {
+    pub before: Option<usize>,
+    pub item: ShortScalar,
 }
 
 /// An override behind those before it, which end at a place.

@@ -1,8 +1,8 @@
 //! Short forms are hashed by one word and one integer, however many parts they have.
 ghost use Rattle.std.specs.Prelude.{◌≡◌};
-ghost use Rattle.gl_intern.specs.Words.{place_word, value_word, value_int, override_word, last_word, last_int, range_word, sheet_word, frame_word};
+ghost use Rattle.gl_intern.specs.Words.{place_word, scalar_word, scalar_int, value_word, value_int, items_word, item_word, override_word, last_word, last_int, range_word, sheet_word, frame_word};
 
-use crate::short::{ShortFrame, ShortOverride, ShortScalar, ShortSheet, ShortValue};
+use crate::short::{ShortFrame, ShortItem, ShortOverride, ShortScalar, ShortSheet, ShortValue};
 use gl_plane::{Range, address_word, mixed};
 use std::hash::{Hash, Hasher};
 
@@ -15,14 +15,39 @@ fn place_word(place: Option<usize>) -> u64
     }
 }
 
+fn scalar_word(scalar: ShortScalar) -> u64
+    ensures { result ≡ scalar_word scalar }
+{
+    match scalar {
+        ShortScalar::Int(_) => 0,
+        ShortScalar::Plain(n) => mixed(1, n as u64),
+        ShortScalar::Sheet(n) => mixed(2, n as u64),
+    }
+}
+
+fn scalar_int(scalar: ShortScalar) -> i64
+    ensures { result ≡ scalar_int scalar }
+{
+    match scalar {
+        ShortScalar::Int(n) => n,
+        ShortScalar::Plain(_) => 0,
+        ShortScalar::Sheet(_) => 0,
+    }
+}
+
+fn items_word(rows: u16, cols: u16, last: Option<usize>) -> u64
+    ensures { result ≡ items_word rows cols last }
+{
+    mixed(mixed(u64::from(rows), u64::from(cols)), place_word(last))
+}
+
 fn value_word(value: ShortValue) -> u64
     ensures { result ≡ value_word value }
 {
     match value {
-        ShortValue::One(ShortScalar::Int(_)) => 0,
-        ShortValue::One(ShortScalar::Plain(n)) => mixed(1, n as u64),
-        ShortValue::One(ShortScalar::Sheet(n)) => mixed(2, n as u64),
+        ShortValue::One(scalar) => scalar_word(scalar),
         ShortValue::Array(n) => mixed(3, n as u64),
+        ShortValue::Items(rows, cols, last) => items_word(rows, cols, last),
     }
 }
 
@@ -30,11 +55,16 @@ fn value_int(value: ShortValue) -> i64
     ensures { result ≡ value_int value }
 {
     match value {
-        ShortValue::One(ShortScalar::Int(n)) => n,
-        ShortValue::One(ShortScalar::Plain(_)) => 0,
-        ShortValue::One(ShortScalar::Sheet(_)) => 0,
+        ShortValue::One(scalar) => scalar_int(scalar),
         ShortValue::Array(_) => 0,
+        ShortValue::Items(_, _, _) => 0,
     }
+}
+
+fn item_word(i: &ShortItem) -> u64
+    ensures { result ≡ item_word i.now }
+{
+    mixed(place_word(i.before), scalar_word(i.item))
 }
 
 fn override_word(o: &ShortOverride) -> u64
@@ -83,6 +113,24 @@ fn frame_word(f: &ShortFrame) -> u64
     ensures { result ≡ frame_word f.now }
 {
     mixed(sheet_word(&f.sheet), f.oracle as u64)
+}
+
+impl Hash for ShortItem {
+    ghost use Rattle.std.specs.Hash as fed;
+    ghost use Rattle.std.specs.Prelude.{◌++◌};
+    ghost use Rattle.std.proofs.Common.{ap};
+    ghost use Rattle.gl_intern.specs.Exact.{item_equality};
+    ghost use Rattle.gl_intern.specs.Words.{item_word, scalar_int};
+
+    ghost hash_input = { λ i. fed.u64 (item_word i) ++ fed.i64 (scalar_int i.item) };
+
+    ghost respects_eq = { λ a b h. ap (λ i. fed.u64 (item_word i) ++ fed.i64 (scalar_int i.item))
+        (item_equality.0 a b h) };
+
+    fn hash<H: Hasher>(&self, state: &mut H) {
+        item_word(self).hash(state);
+        scalar_int(self.item).hash(state);
+    }
 }
 
 impl Hash for ShortOverride {

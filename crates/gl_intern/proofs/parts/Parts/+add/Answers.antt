@@ -1,12 +1,14 @@
-use Rattle.std.proofs.Common.{◌≡◌, ◌+◌, Some, None, drop, arith, ap, subst, ◌∙◌}
+use Rattle.std.proofs.Common.{◌≡◌, ◌+◌, ◌<◌, Some, None, drop, arith, ap, subst, ◌∙◌}
 use Rattle.std.proofs.lemmas.Result.{IfOk-weaker}
-use Rattle.gl_value.specs.View.{value_tree, frame_tree, sheet_tree, override_trees}
+use Rattle.gl_value.specs.View.{scalar_tree, value_tree, frame_tree, sheet_tree, item_trees, override_trees}
 use Rattle.gl_value.specs.Forms.{sheet_tree_is, frame_tree-In}
 use Rattle.gl_value.proofs.Puts.{override_trees-drop}
+use Rattle.gl_value.proofs.Steps.{item_trees-drop}
 use Rattle.gl_intern.specs.Tables.{tables}
 use Rattle.gl_intern.specs.Places.{then_some, sheet_of, sheet_place, place_of_sheet, place_of_frame, overrides_in, sheet_in, frame_in}
-use Rattle.gl_intern.proofs.Additions.{AreAdded, one_added, sheet_added}
-use Rattle.gl_intern.proofs.Growing.{sheet_stays}
+use Rattle.gl_intern.proofs.Additions.{AreListed, one_listed, AreAdded, one_added, sheet_added}
+use Rattle.gl_intern.proofs.Growing.{grows_grows, sheet_stays}
+use Rattle.gl_intern.proofs.Sizes.{scalar_size, value_size, item_less, override_less}
 use Rattle.gl_intern.proofs.parts.Parts.+add.Goals as goal
 
 pub add_short_sheet-returns-clause-ok : goal.add_short_sheet-returns-clause-ok
@@ -55,3 +57,32 @@ add_overrides-loop-at-preserved t c =
     let next = override_trees-drop xs i x (omega arith) c.loop-at-item.is in
     let added = subst (λ rest. AreAdded before at last rest all) next c.loop-at.invariant in
     one_added before at (tables c.add_value.new.self) (tables c.add_behind.new.self) last x.0 (value_tree x.1) (override_trees (drop (i + 1) xs)) all c.in-Ok.short c.in-Ok-add_behind.next added c.in-Ok.ensures.grows c.in-Ok.ensures.ok c.in-Ok-add_behind.ensures.grows c.in-Ok-add_behind.ensures.ok
+
+pub add_short_sheet-returns-clause-grows : goal.add_short_sheet-returns-clause-grows
+add_short_sheet-returns-clause-grows t c =
+    grows_grows (tables c.args.self.now) (tables c.add_frame.new.self) (tables c.add_overrides.new.self) c.in_ok-parent.ensures.grows c.in_ok-last.ensures.grows
+
+pub add_items-add_scalar-requires : goal.add_items-add_scalar-requires
+add_items-add_scalar-requires t c =
+    let x = c.x-item.result in
+    let less = item_less c.args.items.now c.loop-x.x-index x (omega arith) c.x-item.is in
+    (subst (λ n. scalar_size (scalar_tree x) < n) c.decreases less, tt)
+
+pub add_items-loop-x-preserved : goal.add_items-loop-x-preserved
+add_items-loop-x-preserved t c =
+    let xs = c.args.items.now in
+    let i = c.loop-x.x-index in
+    let x = c.x-item.result in
+    let before = tables c.args.self.now in
+    let at = tables c.loop-x.self in
+    let last = c.loop-x.last in
+    let all = item_trees xs in
+    let next = item_trees-drop xs i x (omega arith) c.x-item.is in
+    let listed = subst (λ rest. AreListed before at last rest all) next c.loop-x.invariant in
+    one_listed before at (tables c.add_scalar.new.self) (tables c.add_item.new.self) last (scalar_tree x) (item_trees (drop (i + 1) xs)) all c.in-Ok.short c.in-Ok-add_item.i listed c.in-Ok.ensures.grows c.in-Ok.ensures.ok c.in-Ok-add_item.ensures.grows c.in-Ok-add_item.ensures.ok
+
+pub add_overrides-add_value-requires : goal.add_overrides-add_value-requires
+add_overrides-add_value-requires t c =
+    let o = c.loop-at-item.result in
+    let less = override_less c.args.overrides.now c.loop-at.at-index o (omega arith) c.loop-at-item.is in
+    (subst (λ n. 1 + value_size (value_tree o.1) < n) c.decreases less, tt)
