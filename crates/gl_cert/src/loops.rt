@@ -14,8 +14,8 @@ ghost use Rattle.gl_demand.specs.Sound.{AreSoundKeys};
 ghost use Rattle.gl_demand.specs.View.{key_tree, found_tree};
 ghost use Rattle.gl_cert.specs.Notes.{claims};
 
-use crate::stepping::is_proper;
-use crate::{Notes, level};
+use crate::Notes;
+use crate::stepping::{is_proper, level};
 use gl_ast::Version;
 use gl_cells::Cells;
 use gl_demand::{Found, Key, Steps, Watch};
