@@ -37,3 +37,4 @@ pub mod Rooms
 pub mod Starts
 pub mod Reading
 pub mod Marking
+pub mod Facts
