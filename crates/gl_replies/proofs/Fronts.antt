@@ -22,7 +22,7 @@ module _ (records : Bytes → List (List Bytes)) where
   split version {s = s} [] more {rs = rs} p = record { between = s; firsts = []; behind = rs; runs = O.Runs.no_more; whole = refl }
   split version (x ∷ is) more (O.Runs.item {reply = r} h p) =
       let next = split version is more p in
-      record { between = next.between; firsts = r ∷ next.firsts; behind = next.behind; runs = O.Runs.item h next.runs; whole = ap (λ (bs : List Bytes). r ∷ bs) next.is }
+      record { between = next.between; firsts = r ∷ next.firsts; behind = next.behind; runs = O.Runs.item h next.runs; whole = ap (λ (bs : List Bytes). r ∷ bs) next.whole }
 
   firsts_of : (is more : List Item) {rs : List Bytes} → AreReplies records (is ++ more) rs → (firsts behind : List Bytes) × AreReplies records is firsts × (rs ≡ firsts ++ behind)
   firsts_of [] more {rs = rs} p = ([], rs, O.AreReplies.empty, refl)
