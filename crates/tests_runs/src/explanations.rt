@@ -1,9 +1,10 @@
 //! Explanations of what addresses show.
 use crate::calls::{Row, holds};
+use crate::long::{Long, Part, long_holds};
 use std::test::Fail;
 
 /// Scripts with explanations.
-const ROWS: [Row<'static>; 13] = [
+const ROWS: [Row<'static>; 20] = [
     // arrays and what is read of them; an address that no key decides
     Row {
         script: b"set A1 =SEQUENCE(2,1)\nset B1 =A2+1\nexplain B1\nexplain Z9\n",
@@ -76,6 +77,47 @@ const ROWS: [Row<'static>; 13] = [
         replies: b"ok\nspent rounds A1\nspent rounds A1\n",
         refused: false,
     },
+    // a note that none of the keys that wait needs
+    Row {
+        script: b"set A1 =B1+C1\nset B1 =D1+1\nset C1 =C1\nset D1 =2*3\nexplain A1\n",
+        replies: b"ok\nok\nok\nok\nexplain 2 2\nD1 6\nB1 7\nA1 #CYCLE!\nC1 #CYCLE!\nshown #CYCLE!\naccepted\n",
+        refused: false,
+    },
+    // what is not chosen is not read
+    Row {
+        script: b"set A1 =IF(TRUE,1,B1)\nset B1 =A1\nexplain A1\nexplain B1\n",
+        replies: b"ok\nok\nexplain 1 0\nA1 1\nshown 1\naccepted\nexplain 2 0\nA1 1\nB1 1\nshown 1\naccepted\n",
+        refused: false,
+    },
+    // an array in a copy, by each of its rounds
+    Row {
+        script: b"set A1 =SEQUENCE(2,1)*B1\nset D1 =VIEW(UPDATE(SHEET(A1:B3),B1,5),A2)\nexplain D1\n",
+        replies: b"ok\nok\nexplain 4 0\ncopy A1 2x1\ncopy A1 2x1\nsettle A1:B3 1\nD1 10\nshown 10\naccepted\n",
+        refused: false,
+    },
+    // an error, a sheet value, a truth value, and a range row by row
+    Row {
+        script: b"set A1 =1/0\nset B1 =SHEET(A1:A1)\nset A2 =1=1\nset B2 =\"b\"\nset C1 =COUNT(A1:B2)\nexplain C1\nexplain B1\n",
+        replies: b"ok\nok\nok\nok\nok\nexplain 5 0\nA1 #DIV/0!\nB1 sheet(A1:A1)\nA2 TRUE\nB2 \"b\"\nC1 0\nshown 0\naccepted\nexplain 1 0\nB1 sheet(A1:A1)\nshown sheet(A1:A1)\naccepted\n",
+        refused: false,
+    },
+    // an array past the grid
+    Row {
+        script: b"set A9999 =SEQUENCE(2,1)\nexplain A9999\n",
+        replies: b"ok\nexplain 1 0\nA9999 2x1\nshown #SPILL!\naccepted\n",
+        refused: false,
+    },
+    // in version 1 an array chooses nothing, and in version 2 both
+    Row {
+        script: b"set A1 =IF(SEQUENCE(1,2)>0,1,A1)\nexplain A1\n",
+        replies: b"ok\nexplain 1 0\nA1 #VALUE!\nshown #VALUE!\naccepted\n",
+        refused: false,
+    },
+    Row {
+        script: b"gridlet 2\nset A1 =IF(SEQUENCE(1,2)>0,1,A1)\nexplain A1\n",
+        replies: b"ok\nok\nexplain 0 1\nA1 #CYCLE!\nshown #CYCLE!\naccepted\n",
+        refused: false,
+    },
     // no place, more than one, and none of the grid
     Row {
         script: b"explain\nexplain \nexplain A1 B1\nexplain  A1\nEXPLAIN A1\nexplain A0\nexplain A1:A1\nexplain a1\n",
@@ -89,5 +131,26 @@ fn explanations(rt: HostRuntime) -> Result<(), Fail> {
     for row in &ROWS {
         assert!(rt; holds(rt.alloc(), row)?, "{:?}", row.script);
     }
+    Ok(())
+}
+
+/// A total of 300 formulas: their notes stand in the order in which it needs them.
+const TOTAL: Long = Long {
+    script: &[
+        Part::Lines("set A", 300, " =1+2"),
+        Part::Once(b"set B1 =SUM(A1:A300)\nexplain B1\n"),
+    ],
+    replies: &[
+        Part::Times(b"ok\n", 301),
+        Part::Once(b"explain 301 0\n"),
+        Part::Lines("A", 300, " 3"),
+        Part::Once(b"B1 900\nshown 900\naccepted\n"),
+    ],
+    refused: false,
+};
+
+#[test]
+fn a_total_is_explained(rt: HostRuntime) -> Result<(), Fail> {
+    assert!(rt; long_holds(rt.alloc(), &TOTAL)?);
     Ok(())
 }

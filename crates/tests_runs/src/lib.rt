@@ -22,6 +22,8 @@ mod replicas;
 #[cfg(test)]
 mod scripts;
 #[cfg(test)]
+mod settling;
+#[cfg(test)]
 mod sheets;
 #[cfg(test)]
 mod steps;
