@@ -20,7 +20,7 @@ pub struct Long {
     pub refused: bool,
 }
 
-const LINES: [Long; 9] = [
+const LINES: [Long; 10] = [
     Long {
         script: &[Part::Times(b"a", 32769), Part::Once(b"\n")],
         replies: &[Part::Once(b"error line\n")],
@@ -86,6 +86,16 @@ const LINES: [Long; 9] = [
         replies: &[Part::Once(b"error deep\n")],
         refused: true,
     },
+    // the longest payload, as one field
+    Long {
+        script: &[
+            Part::Once(b"import A1 1048576\n\""),
+            Part::Times(b"a", 1_048_574),
+            Part::Once(b"\"list\n"),
+        ],
+        replies: &[Part::Once(b"error field\nlist 0\n")],
+        refused: true,
+    },
     // the largest table, and one that is larger
     Long {
         script: &[Part::Once(b"view A1:B5000\nview A1:B5001\n")],
@@ -95,7 +105,7 @@ const LINES: [Long; 9] = [
 ];
 
 /// Texts at their limits, and sheets of many formulas.
-const TEXTS_AND_SHEETS: [Long; 5] = [
+const TEXTS_AND_SHEETS: [Long; 6] = [
     Long {
         script: &[
             Part::Once(b"set A1 "),
@@ -161,6 +171,19 @@ const TEXTS_AND_SHEETS: [Long; 5] = [
         ],
         replies: &[Part::Times(b"ok\n", 5000), Part::Once(b"settled 1\n")],
         refused: false,
+    },
+    // as many formulas as a sheet has, and one more
+    Long {
+        script: &[
+            Part::Lines("set A", 8192, " =1"),
+            Part::Lines("set B", 8192, " =1"),
+            Part::Once(b"set C1 =1\nset A1 =2\nset B1 1\nset C1 =1\nset D1 =1\n"),
+        ],
+        replies: &[
+            Part::Times(b"ok\n", 16384),
+            Part::Once(b"error formulas\nok\nok\nok\nerror formulas\n"),
+        ],
+        refused: true,
     },
 ];
 
