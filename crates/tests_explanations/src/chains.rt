@@ -1,6 +1,4 @@
 //! Certificates of long chains and long ranges.
-ghost use Rattle.std.specs.Prelude.{◌<◌};
-
 use crate::settings::{Setting, found, verdict_on};
 use gl_ast::{Version, put, put_number};
 use gl_cells::Cells;
@@ -12,22 +10,20 @@ use std::test::Fail;
 use tests_common::{put_line, sheet_of};
 
 /// The formula that adds 1 to the cell below, in this row of the first column.
-fn put_link(alloc: Global, cells: &mut Cells, row: usize) -> Result<(), Fail>
-    requires { row < 9999 }
-{
+fn put_link(alloc: Global, cells: &mut Cells, row: usize) -> Result<(), Fail> {
     let mut line = String::new(alloc);
     put(&mut line, "set A")?;
     put_number(alloc, &mut line, row)?;
     put(&mut line, " =A")?;
-    put_number(alloc, &mut line, row + 1)?;
+    put_number(alloc, &mut line, row.saturating_add(1))?;
     put(&mut line, "+1")?;
     put_line(alloc, cells, line.as_str())
 }
 
-/// A chain of 3,000 formulas and a number.
-fn chain(alloc: Global) -> Result<Cells, Fail> {
-    let mut cells = sheet_of(alloc, &["set A3001 7"])?;
-    for row in 1..3001usize {
+/// A chain of so many formulas over a blank.
+fn chain(alloc: Global, length: usize) -> Result<Cells, Fail> {
+    let mut cells = Cells::new(alloc);
+    for row in 1..=length {
         put_link(alloc, &mut cells, row)?;
     }
     Ok(cells)
@@ -45,18 +41,24 @@ fn counts(at: Setting<'_>) -> Result<(usize, u64, u64), Fail> {
     }
 }
 
+/// Lengths of chains, and how many steps the walks take: at least one for each cell, and at most two
+/// for each but the last.
+const LENGTHS: [(usize, u64); 5] = [(1, 1), (2, 3), (3, 5), (50, 99), (3_000, 5_999)];
+
 #[test]
-fn a_chain_is_explained(rt: HostRuntime) -> Result<(), Fail> {
-    let alloc = rt.alloc();
-    let cells = chain(alloc)?;
-    let w = Oracle::new(alloc);
-    let at = Setting {
-        alloc,
-        cells: &cells,
-        w: &w,
-        version: Version::One,
-    };
-    assert_eq!(rt; counts(at)?, (3_000, 5_999, 3_000));
+fn chains_are_explained(rt: HostRuntime) -> Result<(), Fail> {
+    for (length, steps) in &LENGTHS {
+        let alloc = rt.alloc();
+        let cells = chain(alloc, *length)?;
+        let w = Oracle::new(alloc);
+        let at = Setting {
+            alloc,
+            cells: &cells,
+            w: &w,
+            version: Version::One,
+        };
+        assert_eq!(rt; counts(at)?, (*length, *steps, *length as u64));
+    }
     Ok(())
 }
 

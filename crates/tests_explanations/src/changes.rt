@@ -120,7 +120,12 @@ fn said(at: Setting<'_>, name: &str, change: &Change) -> Result<Verdict, Fail> {
         shown: change.2,
     };
     let changed = of_parts(at.alloc, &whole, &parts)?;
-    verdict_on(at, name, &changed, &mut Steps::new(Silent))
+    let mut steps = Steps::new(Silent);
+    let verdict = verdict_on(at, name, &changed, &mut steps)?;
+    if steps.done() > change.0.len().saturating_add(change.1.len()) as u64 {
+        return Err("more steps than notes and loops".into());
+    }
+    Ok(verdict)
 }
 
 #[test]
@@ -188,5 +193,63 @@ fn changed_loops(rt: HostRuntime) -> Result<(), Fail> {
     for (i, change) in CHANGED_LOOPS.iter().enumerate() {
         assert_eq!(rt; said(at, "C1", change)?, change.3, "row {i}");
     }
+    Ok(())
+}
+
+/// Of two notes, and of a loop that reads both.
+const CHANGED_BOTH: [Change; 6] = [
+    (&[(0, Own), (1, Own)], &["C1"], None, Verdict::Accepted),
+    (&[(0, Own)], &["C1"], None, Verdict::Loop { at: 0 }),
+    (&[], &["C1"], None, Verdict::Loop { at: 0 }),
+    (
+        &[(0, Own), (1, Own)],
+        &["C1", "A1"],
+        None,
+        Verdict::Loop { at: 1 },
+    ),
+    (&[(0, Own), (1, Own)], &[], None, Verdict::Wrong),
+    (
+        &[(0, Own), (1, Number(4))],
+        &[],
+        None,
+        Verdict::Note { at: 1 },
+    ),
+];
+
+#[test]
+fn changed_notes_and_loops(rt: HostRuntime) -> Result<(), Fail> {
+    let alloc = rt.alloc();
+    let cells = sheet_of(
+        alloc,
+        &["set A1 =1+1", "set B1 =A1+1", "set C1 =IF(B1=3,A1+C1,0)"],
+    )?;
+    let w = Oracle::new(alloc);
+    let at = Setting {
+        alloc,
+        cells: &cells,
+        w: &w,
+        version: Version::One,
+    };
+    for (i, change) in CHANGED_BOTH.iter().enumerate() {
+        assert_eq!(rt; said(at, "C1", change)?, change.3, "row {i}");
+    }
+    Ok(())
+}
+
+#[test]
+fn steps_of_a_check(rt: HostRuntime) -> Result<(), Fail> {
+    let alloc = rt.alloc();
+    let cells = sheet_of(alloc, &["set A1 =1+1", "set B1 =A1+1", "set C1 =B1+C1"])?;
+    let w = Oracle::new(alloc);
+    let at = Setting {
+        alloc,
+        cells: &cells,
+        w: &w,
+        version: Version::One,
+    };
+    let c = found(at, "C1", &mut Steps::new(Silent))?;
+    let mut steps = Steps::new(Silent);
+    assert_eq!(rt; verdict_on(at, "C1", &c, &mut steps)?, Verdict::Accepted);
+    assert_eq!(rt; (c.notes.len(), c.loops.len(), steps.done()), (2, 1, 3));
     Ok(())
 }

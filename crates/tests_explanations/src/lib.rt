@@ -6,6 +6,8 @@ mod chains;
 #[cfg(test)]
 mod changes;
 #[cfg(test)]
+mod large;
+#[cfg(test)]
 mod others;
 #[cfg(test)]
 mod parts;

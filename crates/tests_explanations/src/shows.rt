@@ -98,11 +98,31 @@ fn what_is_found_is_accepted(rt: HostRuntime) -> Result<(), Fail> {
     Ok(())
 }
 
-const COPIES: [&str; 4] = [
+/// Copies of copies, down to a number of them.
+const DEEP: [&str; 4] = [
     "set A1 0",
     "set B1 =IF(A1=0,0,A1+VIEW(UPDATE(SHEET(A1:B1),A1,A1-1),B1))",
     "set D1 =VIEW(UPDATE(SHEET(A1:B1),A1,95),B1)",
     "set E1 =VIEW(UPDATE(SHEET(A1:B1),A1,96),B1)",
+];
+
+/// A copy that never settles, and what reads it.
+const TURNING: [&str; 6] = [
+    "set D1 0",
+    "set A2 =SEQUENCE(1,3)",
+    "set B1 =IF(D1=0,1,IF(ISERROR(ROWS(A2#)),1,SEQUENCE(3,1)))",
+    "set F1 =G(A1:D3,D1,1)",
+    "set F9 =IFERROR(F1,1)",
+    "set G9 =IF(TRUE,2,F1)",
+];
+
+/// A sheet, an address, and the budget that explains it, if one does.
+const BUDGETS: [(&[&str], &str, Option<Budget>); 5] = [
+    (&DEEP, "D1", None),
+    (&DEEP, "E1", Some(Budget::Depth)),
+    (&TURNING, "F1", Some(Budget::CopyRounds)),
+    (&TURNING, "F9", Some(Budget::CopyRounds)),
+    (&TURNING, "G9", None),
 ];
 
 /// The budget that explains an address, if one does.
@@ -115,9 +135,32 @@ fn spent(at: Setting<'_>, name: &str) -> Result<Option<Budget>, Fail> {
 }
 
 #[test]
-fn copies_of_copies(rt: HostRuntime) -> Result<(), Fail> {
+fn copies_that_spend_a_budget(rt: HostRuntime) -> Result<(), Fail> {
+    for (lines, name, budget) in &BUDGETS {
+        let alloc = rt.alloc();
+        let cells = sheet_of(alloc, lines)?;
+        let w = Oracle::new(alloc);
+        let at = Setting {
+            alloc,
+            cells: &cells,
+            w: &w,
+            version: Version::One,
+        };
+        assert_eq!(rt; spent(at, name)?, *budget, "{name}");
+    }
+    Ok(())
+}
+
+/// Copies that each make two, 1,023 times.
+const TREE: [&str; 2] = [
+    "set A1 1",
+    "set B1 =IF(A1>=1024,1,VIEW(UPDATE(SHEET(A1:B1),A1,2*A1),B1)+VIEW(UPDATE(SHEET(A1:B1),A1,2*A1+1),B1))",
+];
+
+#[test]
+fn copies_that_each_make_two(rt: HostRuntime) -> Result<(), Fail> {
     let alloc = rt.alloc();
-    let cells = sheet_of(alloc, &COPIES)?;
+    let cells = sheet_of(alloc, &TREE)?;
     let w = Oracle::new(alloc);
     let at = Setting {
         alloc,
@@ -125,7 +168,18 @@ fn copies_of_copies(rt: HostRuntime) -> Result<(), Fail> {
         w: &w,
         version: Version::One,
     };
-    assert_eq!(rt; spent(at, "D1")?, None);
-    assert_eq!(rt; spent(at, "E1")?, Some(Budget::Depth));
+    let mut steps = Steps::new(Silent);
+    let c = found(at, "B1", &mut steps)?;
+    // a cell and a settling for each copy; a cell that makes two is evaluated three times, and each
+    // settling twice
+    assert_eq!(rt;
+        (c.notes.len(), c.loops.len(), steps.done()),
+        (4_093, 0, 8_185)
+    );
+    assert_eq!(rt;
+        verdict_on(at, "B1", &c, &mut Steps::new(Silent))?,
+        Verdict::Accepted
+    );
+    assert_eq!(rt; shown_text(alloc, &c.shown)?.as_str(), "1024");
     Ok(())
 }
