@@ -10,7 +10,7 @@ use tests_common::{
 };
 
 /// The sheet value had no number, gets this one, and is the last one then.
-fn is_new(interner: &mut Interner, s: &Rc<SheetVal>, n: usize) -> Result<bool, Fail> {
+pub fn is_new(interner: &mut Interner, s: &Rc<SheetVal>, n: usize) -> Result<bool, Fail> {
     let was_unknown = interner.find_sheet(&**s).is_none() && interner.sheet_at(n).is_none();
     let given = interner.sheet(s)?;
     let found = interner.find_sheet(&**s);
@@ -24,7 +24,7 @@ fn is_new(interner: &mut Interner, s: &Rc<SheetVal>, n: usize) -> Result<bool, F
 }
 
 /// The sheet value, which was not put in itself, has this number, and gets it.
-fn is_known(interner: &mut Interner, s: &Rc<SheetVal>, n: usize) -> Result<bool, Fail> {
+pub fn is_known(interner: &mut Interner, s: &Rc<SheetVal>, n: usize) -> Result<bool, Fail> {
     let found = interner.find_sheet(&**s);
     let given = interner.sheet(s)?;
     Ok(found == Some(n) && given == n && interner.sheet_at(n) == Some(s))
