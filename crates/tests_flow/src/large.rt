@@ -170,17 +170,33 @@ fn holds(alloc: Global, large: &Large) -> Result<bool, Fail> {
 }
 
 #[test]
-fn full_sheets(rt: HostRuntime) -> Result<(), Fail> {
-    for (i, large) in FULL.iter().enumerate() {
+fn a_full_sheet_of_sums(rt: HostRuntime) -> Result<(), Fail> {
+    assert!(rt; holds(rt.alloc(), &FULL[0])?);
+    Ok(())
+}
+
+#[test]
+fn a_full_sheet_of_arrays(rt: HostRuntime) -> Result<(), Fail> {
+    assert!(rt; holds(rt.alloc(), &FULL[1])?);
+    Ok(())
+}
+
+#[test]
+fn chains_of_numbers(rt: HostRuntime) -> Result<(), Fail> {
+    for (i, large) in CHAINS[..2].iter().enumerate() {
         assert!(rt; holds(rt.alloc(), large)?, "sheet {i}");
     }
     Ok(())
 }
 
 #[test]
-fn chains(rt: HostRuntime) -> Result<(), Fail> {
-    for (i, large) in CHAINS.iter().enumerate() {
-        assert!(rt; holds(rt.alloc(), large)?, "sheet {i}");
-    }
+fn an_array_for_each_above(rt: HostRuntime) -> Result<(), Fail> {
+    assert!(rt; holds(rt.alloc(), &CHAINS[2])?);
+    Ok(())
+}
+
+#[test]
+fn an_array_for_each_below(rt: HostRuntime) -> Result<(), Fail> {
+    assert!(rt; holds(rt.alloc(), &CHAINS[3])?);
     Ok(())
 }
