@@ -5,6 +5,7 @@ use Rattle.std.proofs.lemmas.Map.Entries.{sum_by-insert_entry, sum_by-remove_ent
 use Rattle.std.proofs.lemmas.List.Sums.{sum_by-cons}
 use Rattle.std.proofs.lemmas.Map.Lookups.{CmpEqualImpliesEq, exact_pairs, exact_unsigned}
 use Rattle.std.proofs.lemmas.Map.Keys.{sorted_head, sorted_tail}
+use Rattle.std.proofs.lemmas.Map.Views.{All-keys-insert_entry, All-map-remove_entry}
 use Rattle.std.proofs.lemmas.Cmp.{on_total, then_total}
 use Rattle.std.specs.BTreeMap.{insert_entry, is_at}
 use Rattle.std.specs.Cmp.{IsTotalOrder, nat_cmp_total}
@@ -18,6 +19,7 @@ use Rattle.gl_calculus.specs.Formula as F
 use Rattle.gl_calculus.specs.Formula.{IsSheet, content, formula_addresses}
 use Rattle.gl_calculus.specs.Limits.{max_formulas, max_contents}
 use Rattle.gl_language.specs.Content.{IsProperContent}
+use Rattle.gl_plane.specs.Parts.{IsAddr}
 use Rattle.gl_protocol.specs.Commands.{with_content, with_contents, without}
 use Rattle.gl_cells.specs.declared.content.Content.{Content}
 use Rattle.gl_cells.specs.declared.content.Content.TheVariants.{Const, Form}
@@ -147,11 +149,12 @@ pub count_take : (es : Table) (a : Addr) → sum_by (λ c. form_weight (content_
 count_take es a = sum_by-remove_entry (λ c. form_weight (content_tree c)) (is_at (addr_cmp a)) es
 
 -- the table after a content is put, with the count that the code reckons
-pub table_put : (es fs : Table) (forms new : ℕ) (a : Addr) (c : Content) → IsTable es forms → IsProperContent (content_tree c) → fs ≡ insert_entry addr_cmp es a c → IsStrictlySortedBy addr_cmp (keys_of fs) → new + unwrap_or (option_map (λ c. form_weight (content_tree c)) (lookup (is_at (addr_cmp a)) es)) 0 ≡ forms + form_weight (content_tree c) → IsTable fs new
-table_put es fs forms new a c h p is sorted n = record {
+pub table_put : (es fs : Table) (forms new : ℕ) (a : Addr) (c : Content) → IsTable es forms → IsProperContent (content_tree c) → IsAddr a → fs ≡ insert_entry addr_cmp es a c → IsStrictlySortedBy addr_cmp (keys_of fs) → new + unwrap_or (option_map (λ c. form_weight (content_tree c)) (lookup (is_at (addr_cmp a)) es)) 0 ≡ forms + form_weight (content_tree c) → IsTable fs new
+table_put es fs forms new a c h p g is sorted n = record {
   ordered = sorted;
   counted = rw is (omega (arith, count_put es a c h.ordered, h.counted));
   proper = rw is (proper_insert es a c h.proper p);
+  placed = rw is (All-keys-insert_entry addr_cmp a c IsAddr es h.placed g);
 }
 
 pub table_take : (es fs : Table) (forms new : ℕ) (a : Addr) → IsTable es forms → fs ≡ remove_entry (is_at (addr_cmp a)) es → IsStrictlySortedBy addr_cmp (keys_of fs) → new + unwrap_or (option_map (λ c. form_weight (content_tree c)) (lookup (is_at (addr_cmp a)) es)) 0 ≡ forms → IsTable fs new
@@ -159,6 +162,7 @@ table_take es fs forms new a h is sorted n = record {
   ordered = sorted;
   counted = rw is (omega (arith, count_take es a, h.counted));
   proper = rw is (proper_remove (is_at (addr_cmp a)) es h.proper);
+  placed = rw is (All-map-remove_entry (is_at (addr_cmp a)) (λ e. e.0) IsAddr es h.placed);
 }
 
 -- within the limits, by the sheet alone

@@ -1,7 +1,7 @@
 -- The table of contents by address, and the sheet of the calculus that it stands for.
 use Rattle.std.specs.Prelude.{◌≡◌, ℕ, ◌≤◌, ◌<◌, List, [], ◌∷◌, map, length, sum_by, Option, Some, None, IsSome, Result, Ok, Err}
 use Rattle.std.specs.BTreeMap.{insert_entry, is_at}
-use Rattle.std.specs.List.{AllByRecursion}
+use Rattle.std.specs.List.{All, AllByRecursion}
 use Rattle.std.specs.List.Sorted.{IsStrictlySortedBy}
 use Rattle.std.specs.Map.{keys_of, values_of, lookup, remove_entry}
 use Rattle.std.specs.Ordering.{nat_cmp, ordering_then}
@@ -11,6 +11,7 @@ use Rattle.gl_calculus.specs.Formula as F
 use Rattle.gl_calculus.specs.Formula.{formula_addresses}
 use Rattle.gl_calculus.specs.Limits.{max_formulas, max_contents}
 use Rattle.gl_language.specs.Content.{IsProperContent}
+use Rattle.gl_plane.specs.Parts.{IsAddr}
 use Rattle.gl_cells.specs.Content.{content_tree, form_weight}
 use Rattle.gl_cells.specs.declared.content.Content.{Content}
 use Rattle.gl_cells.specs.declared.fault.PutFault.{PutFault}
@@ -32,11 +33,16 @@ addr_cmp a b = ordering_then (nat_cmp a.row b.row) (nat_cmp a.col b.col)
 abbrev pub AreProper : Table → Type 0
 AreProper es = AllByRecursion (λ e. IsProperContent (content_tree e.1)) es
 
+-- each content is at an address of the grid
+abbrev pub ArePlaced : Table → Type 0
+ArePlaced es = All IsAddr (keys_of es)
+
 -- what a table and its count of formulas keep
 pub record IsTable (es : Table) (forms : ℕ) : Type 0 where
   pub ordered : IsStrictlySortedBy addr_cmp (keys_of es)
   pub counted : forms ≡ sum_by (λ c. form_weight (content_tree c)) (values_of es)
   pub proper : AreProper es
+  pub placed : ArePlaced es
 
 -- the same within the limits of a sheet
 pub record IsWithin (es : Table) (forms : ℕ) : Type 0 where

@@ -3,7 +3,8 @@ ghost use Rattle.std.specs.Prelude.{◌≡◌, ◌≤◌, ◌+◌, OnOk, OnErr, 
 ghost use Rattle.gl_language.specs.Content.{IsProperContent};
 ghost use Rattle.gl_protocol.specs.Commands.{with_content, with_contents};
 ghost use Rattle.gl_cells.specs.Content.{content_tree};
-ghost use Rattle.gl_cells.specs.Sheet.{sheet, put_each, undo_all, CanUndo, AreProper, IsTable, Answers};
+ghost use Rattle.gl_cells.specs.Sheet.{sheet, put_each, undo_all, CanUndo, AreProper, IsTable};
+ghost use Rattle.gl_cells.specs.Sheet.{Answers};
 
 use crate::table::{put_in, restore};
 use crate::{Content, MAX_CONTENTS, MAX_FORMULAS, PutFault};
@@ -23,7 +24,8 @@ fn put_each_in(
     requires room { vec_len undo.old + vec_len list ≤ vec_capacity undo.old }
     requires can { CanUndo undo.old.items map.old.entries }
     ensures ok { OnOk result (map.new.entries ≡ put_each list.items map.old.entries) }
-    ensures back { undo_all undo.new.items map.new.entries ≡ undo_all undo.old.items map.old.entries }
+    ensures back { undo_all undo.new.items map.new.entries
+        ≡ undo_all undo.old.items map.old.entries }
     ensures can { CanUndo undo.new.items map.new.entries }
     ensures table { IsTable map.new.entries forms.new }
 {
@@ -59,7 +61,8 @@ pub fn put_list(
 ) -> Result<(), PutFault>
     requires table { IsTable map.old.entries forms.old }
     requires proper { AreProper list.items }
-    ensures answers { Answers result (sheet map.old.entries) (with_contents (sheet map.old.entries) (sheet list.items)) (sheet map.new.entries) }
+    ensures answers { Answers result (sheet map.old.entries)
+        (with_contents (sheet map.old.entries) (sheet list.items)) (sheet map.new.entries) }
     ensures table { IsTable map.new.entries forms.new }
 {
     let Ok(mut undo) = Vec::with_capacity(alloc, list.len()) else {
@@ -90,7 +93,8 @@ pub fn put_one(
 ) -> Result<(), PutFault>
     requires table { IsTable map.old.entries forms.old }
     requires proper { IsProperContent (content_tree c) }
-    ensures answers { Answers result (sheet map.old.entries) (with_content (sheet map.old.entries) a (content_tree c)) (sheet map.new.entries) }
+    ensures answers { Answers result (sheet map.old.entries)
+        (with_content (sheet map.old.entries) a (content_tree c)) (sheet map.new.entries) }
     ensures table { IsTable map.new.entries forms.new }
 {
     let Ok(was) = put_in(map, forms, a, c) else {

@@ -7,7 +7,7 @@ ghost use Rattle.gl_language.specs.Content.{IsProperContent};
 ghost use Rattle.gl_protocol.specs.Commands.{with_content, with_contents, without};
 ghost use Rattle.gl_cells.specs.Content.{content_tree};
 ghost use Rattle.gl_cells.specs.Search.{is_in_play};
-ghost use Rattle.gl_cells.specs.Sheet.{sheet, AreProper, Answers};
+ghost use Rattle.gl_cells.specs.Sheet.{sheet, AreProper, ArePlaced, Answers};
 
 use crate::batch::{put_list, put_one};
 use crate::clear::clear_in;
@@ -19,7 +19,7 @@ use std::alloc::Global;
 use std::collections::BTreeMap;
 use std::marker::Model;
 
-/// The contents by address, all proper and within the limits of a sheet.
+/// The contents by address, all proper, on the grid and within the limits of a sheet.
 pub struct Cells {
     map: BTreeMap<Addr, Content>,
     forms: usize,
@@ -60,7 +60,8 @@ impl Cells {
 
     /// The content of an address. It is proper.
     pub fn content(&self, a: Addr) -> Option<&Content>
-        ensures found { option_map content_tree (option_copied result) ≡ content (sheet self.now) a }
+        ensures found { option_map content_tree (option_copied result)
+            ≡ content (sheet self.now) a }
         ensures proper { IfSome result (λ c. IsProperContent (content_tree c.now)) }
     {
         self.map.get(&a)
@@ -84,12 +85,13 @@ impl Cells {
         formulas_in(alloc, &self.map)
     }
 
-    /// How many contents there are. All are proper.
+    /// How many contents there are. All are proper and on the grid.
     pub fn contents(&self) -> u32
         ensures count { result ≡ length (sheet self.now) }
         ensures few { result ≤ max_contents }
         ensures ordered { IsSheet (sheet self.now) }
         ensures proper { AreProper self.now }
+        ensures placed { ArePlaced self.now }
     {
         self.map.len() as u32
     }
@@ -106,7 +108,8 @@ impl Cells {
     /// where more than `MAX_CONTENTS` contents would be. A refusal leaves the sheet.
     pub fn put(&mut self, a: Addr, c: Content) -> Result<(), PutFault>
         requires { IsProperContent (content_tree c) }
-        ensures { Answers result (sheet self.old) (with_content (sheet self.old) a (content_tree c)) (sheet self.new) }
+        ensures { Answers result (sheet self.old) (with_content (sheet self.old) a (content_tree c))
+            (sheet self.new) }
     {
         put_one(&mut self.map, &mut self.forms, a, c)
     }
@@ -115,7 +118,8 @@ impl Cells {
     /// leaves the sheet.
     pub fn put_all(&mut self, alloc: Global, list: Vec<(Addr, Content)>) -> Result<(), PutFault>
         requires { AreProper list.items }
-        ensures { Answers result (sheet self.old) (with_contents (sheet self.old) (sheet list.items)) (sheet self.new) }
+        ensures { Answers result (sheet self.old)
+            (with_contents (sheet self.old) (sheet list.items)) (sheet self.new) }
     {
         put_list(alloc, &mut self.map, &mut self.forms, list)
     }

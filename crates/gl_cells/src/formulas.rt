@@ -11,7 +11,8 @@ use std::collections::BTreeMap;
 
 /// Appends the address, if it holds a formula.
 fn push_formula(places: &mut Vec<Addr>, a: Addr, c: &Content) -> Result<(), NoMemory>
-    ensures { OnOk result (places.new.items ≡ places.old.items ++ formula_addresses ((a, content_tree c.now) ∷ [])) }
+    ensures { OnOk result (
+        places.new.items ≡ places.old.items ++ formula_addresses ((a, content_tree c.now) ∷ [])) }
 {
     match c {
         Content::Const(_) => Ok(()),

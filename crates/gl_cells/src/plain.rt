@@ -1,5 +1,6 @@
 //! The scalar of a text that is neither a formula nor a literal.
-ghost use Rattle.std.specs.Prelude.{◌≡◌, pos, neg_ℤ, ◌+◌, ◌-◌, ◌*◌, ◌^◌, ◌<◌, ◌≤◌, length, IsTrue, IfOk, SomeIff};
+ghost use Rattle.std.specs.Prelude.{◌≡◌, pos, neg_ℤ, ◌+◌, ◌-◌, ◌*◌, ◌^◌, ◌<◌, ◌≤◌, length, IsTrue};
+ghost use Rattle.std.specs.Prelude.{IfOk, SomeIff};
 ghost use Rattle.gl_calculus.specs.Formula.{Const};
 ghost use Rattle.gl_calculus.specs.Limits.{max_text};
 ghost use Rattle.gl_calculus.specs.Operators.{exact};
@@ -19,7 +20,8 @@ use std::rc::RcStr;
 /// than `gl_value::MAX_TEXT` bytes is no proper content, which callers test.
 pub fn plain_scalar(alloc: Global, text: &str) -> Result<Scalar, NoMemory>
     ensures value { IfOk result (λ x. scalar_tree x ≡ plain_scalar text.now) }
-    ensures proper { IfOk result (λ x. length text.now ≤ max_text → IsProperContent (Const (scalar_tree x))) }
+    ensures proper { IfOk result (λ x.
+        length text.now ≤ max_text → IsProperContent (Const (scalar_tree x))) }
 {
     match read_number(text.as_bytes()) {
         Some(n) => Ok(Scalar::Int(n)),
@@ -31,7 +33,8 @@ pub fn plain_scalar(alloc: Global, text: &str) -> Result<Scalar, NoMemory>
 fn word_or_text(alloc: Global, text: &str) -> Result<Scalar, NoMemory>
     requires { number_of text.now ≡ None }
     ensures value { IfOk result (λ x. scalar_tree x ≡ plain_scalar text.now) }
-    ensures proper { IfOk result (λ x. length text.now ≤ max_text → IsProperContent (Const (scalar_tree x))) }
+    ensures proper { IfOk result (λ x.
+        length text.now ≤ max_text → IsProperContent (Const (scalar_tree x))) }
 {
     match text {
         "TRUE" => Ok(Scalar::Bool(true)),
@@ -93,7 +96,8 @@ fn read_digits(bytes: &[u8]) -> Option<u64>
 
 /// One more digit behind a number.
 fn push_digit(n: u64, b: u8) -> Option<u64>
-    ensures { SomeIff result (IsTrue (is_digit b) × (10 * n + (b - 48) < 2 ^ 64)) (10 * n + (b - 48)) }
+    ensures { SomeIff result (IsTrue (is_digit b) × (10 * n + (b - 48) < 2 ^ 64))
+        (10 * n + (b - 48)) }
 {
     if b < b'0' || b'9' < b {
         return None;

@@ -14,8 +14,10 @@ use std::collections::BTreeMap;
 #[tactic(auto, using(crate::proofs::Order::orders))]
 fn first_from(map: &BTreeMap<Addr, Content>, from: Addr) -> Option<Addr>
     ensures found { IfSome result (λ a. AtOrAfter from a × IsSome (tree.get addr_cmp map.now a)) }
-    ensures least { IfSome result (λ a. (q : Plain) → AtOrAfter from q → IsSome (tree.get addr_cmp map.now q) → AtOrAfter a q) }
-    ensures none { IfNone result ((q : Plain) → AtOrAfter from q → tree.get addr_cmp map.now q ≡ None) }
+    ensures least { IfSome result (λ a.
+        (q : Plain) → AtOrAfter from q → IsSome (tree.get addr_cmp map.now q) → AtOrAfter a q) }
+    ensures none { IfNone result
+        ((q : Plain) → AtOrAfter from q → tree.get addr_cmp map.now q ≡ None) }
 {
     let mut rest = map.range(from..);
     match rest.next() {
@@ -28,7 +30,8 @@ fn first_from(map: &BTreeMap<Addr, Content>, from: Addr) -> Option<Addr>
 fn step(r: &Range, after: Option<Addr>) -> Option<Addr>
     ensures inside { IfSome result (λ b. InPlay r.now.first r.now.last after b) }
     ensures on_grid { IfSome result IsAddr }
-    ensures least { IfSome result (λ b. (q : Plain) → InPlay r.now.first r.now.last after q → AtOrAfter b q) }
+    ensures least { IfSome result (λ b.
+        (q : Plain) → InPlay r.now.first r.now.last after q → AtOrAfter b q) }
     ensures none { IfNone result ((q : Plain) → ¬ (InPlay r.now.first r.now.last after q)) }
 {
     let first = r.first();
@@ -63,9 +66,15 @@ fn step(r: &Range, after: Option<Addr>) -> Option<Addr>
 /// The first address of the range with content, after the one that is given. Each step passes at
 /// least one content, and then all of its row that is outside the range.
 pub fn next_in(map: &BTreeMap<Addr, Content>, r: &Range, after: Option<Addr>) -> Option<Addr>
-    ensures found { IfSome result (λ a. InPlay r.now.first r.now.last after a × IsSome (tree.get addr_cmp map.now a)) }
-    ensures least { IfSome result (λ a. (q : Plain) → InPlay r.now.first r.now.last after q → IsSome (tree.get addr_cmp map.now q) → AtOrAfter a q) }
-    ensures none { IfNone result ((q : Plain) → InPlay r.now.first r.now.last after q → tree.get addr_cmp map.now q ≡ None) }
+    ensures found { IfSome result (λ a.
+        InPlay r.now.first r.now.last after a × IsSome (tree.get addr_cmp map.now a)) }
+    ensures least { IfSome result (λ a.
+        (q : Plain)
+        → InPlay r.now.first r.now.last after q
+        → IsSome (tree.get addr_cmp map.now q)
+        → AtOrAfter a q) }
+    ensures none { IfNone result
+        ((q : Plain) → InPlay r.now.first r.now.last after q → tree.get addr_cmp map.now q ≡ None) }
 {
     let mut at = step(r, after);
     while let Some(from) = at {

@@ -1,5 +1,6 @@
 //! Edits of the table that stands for a sheet.
-ghost use Rattle.std.specs.Prelude.{◌≡◌, ◌≤◌, ◌<◌, None, IfSome, IfOk, IsSome, OnOk, OnErr, option_map, unwrap_or, is_some, ◌+◌, if◌then◌else◌};
+ghost use Rattle.std.specs.Prelude.{◌≡◌, ◌≤◌, ◌<◌, None, IfSome, IfOk, IsSome, OnOk, OnErr};
+ghost use Rattle.std.specs.Prelude.{option_map, unwrap_or, is_some, ◌+◌, if◌then◌else◌};
 ghost use Rattle.std.specs.BTreeMap.{btree_map_len, insert_entry, is_at};
 ghost use Rattle.std.specs.BTreeMap as tree;
 ghost use Rattle.std.specs.Map.{lookup, remove_entry};
@@ -31,12 +32,16 @@ pub fn put_in(
     requires table { IsTable map.old.entries forms.old }
     requires proper { IsProperContent (content_tree c) }
     ensures ok { OnOk result (map.new.entries ≡ insert_entry addr_cmp map.old.entries a c) }
-    ensures was { IfOk result (λ was. (was ≡ lookup (is_at (addr_cmp a)) map.old.entries) × IfSome was (λ x. IsProperContent (content_tree x))) }
+    ensures was { IfOk result (λ was.
+        (was ≡ lookup (is_at (addr_cmp a)) map.old.entries)
+        × IfSome was (λ x. IsProperContent (content_tree x))) }
     ensures absent { OnErr result (lookup (is_at (addr_cmp a)) map.old.entries ≡ None) }
     ensures err { OnErr result (map.new.entries ≡ map.old.entries) }
     ensures table { IsTable map.new.entries forms.new }
 {
+    // that the entries are few, and that the address is on the grid
     let _len = map.len();
+    let _row = a.row();
     let weight = c.weight();
     match map.insert(a, c) {
         Ok(was) => {
@@ -54,8 +59,11 @@ pub fn remove_in(map: &mut BTreeMap<Addr, Content>, forms: &mut usize, a: Addr) 
     ensures was { result ≡ lookup (is_at (addr_cmp a)) map.old.entries }
     ensures fewer { forms.new ≤ forms.old }
     ensures present { is_some result ≡ is_some (tree.get addr_cmp map.old a) }
-    ensures others { (q : Plain) → tree.get addr_cmp map.new q ≡ (if is_at (addr_cmp a) q then None else tree.get addr_cmp map.old q) }
-    ensures len { btree_map_len map.new + (if is_some result then 1 else 0) ≡ btree_map_len map.old }
+    ensures others { (q : Plain)
+        → tree.get addr_cmp map.new q
+        ≡ (if is_at (addr_cmp a) q then None else tree.get addr_cmp map.old q) }
+    ensures len { btree_map_len map.new + (if is_some result then 1 else 0)
+        ≡ btree_map_len map.old }
     ensures table { IsTable map.new.entries forms.new }
 {
     let was = map.remove(&a);

@@ -23,5 +23,5 @@ returns-in-Ok-clause-was c = (
 pub returns-in-Ok-clause-table : goal.returns-in-Ok-clause-table
 returns-in-Ok-clause-table c =
     let e = ap (λ (o : Option Content). unwrap_or (option_map (λ x. form_weight (content_tree x)) o) 0) c.in-Ok.ensures.old in
-    table_put c.args.map.now.entries c.insert.new.self.entries c.args.forms.now _ c.args.a c.args.c c.requires.table c.requires.proper c.in-Ok.ensures.entries c.insert.ensures.ordered
+    table_put c.args.map.now.entries c.insert.new.self.entries c.args.forms.now _ c.args.a c.args.c c.requires.table c.requires.proper c.row-row.ensures.sound c.in-Ok.ensures.entries c.insert.ensures.ordered
     (omega (arith, count_put c.args.map.now.entries c.args.a c.args.c c.requires.table.ordered, c.requires.table.counted, e, c.weight_of.ensures))
