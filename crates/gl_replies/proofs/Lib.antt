@@ -17,3 +17,11 @@ pub mod SameReplies
 pub mod Counts
 pub mod Rooms
 pub mod Roomy
+pub mod Carried
+pub mod Clean
+pub mod Spelled
+pub mod Listed
+pub mod Sources
+pub mod Framed
+pub mod Refilled
+pub mod Lists

@@ -1,8 +1,10 @@
-//! The laws of replies: an item has one effect and one reply, a refused item leaves the state, and each item leaves a state whose sheet is in order, of proper contents, within the limits, whose steps can be undone and done again, and whose replica holds its sheet. This crate has definitions and proofs alone; each law is the contract of a function that does nothing.
+//! The laws of replies: an item has one effect and one reply, a refused item leaves the state, and each item leaves a state whose sheet is in order, of proper contents, within the limits, whose steps can be undone and done again, whose replica holds its sheet, and whose list gives its sheet again. This crate has definitions and proofs alone; each law is the contract of a function that does nothing.
 #![tactic(auto)]
 
 ghost use Rattle.gl_protocol.specs.Laws.{OneAct, OneOutput, RefusalsLeave};
-ghost use Rattle.gl_replies.specs.Laws.{OneText, FirstRepliesFirst, ErrorsAreRefusals, RefusalsAreErrors, ScriptsKeepSheets};
+ghost use Rattle.gl_replies.specs.Laws.{OneText, FirstRepliesFirst, ErrorsAreRefusals};
+ghost use Rattle.gl_replies.specs.Laws.{RefusalsAreErrors, ScriptsKeepSheets};
+ghost use Rattle.gl_replies.specs.Lists.{ListsReadBack};
 ghost use Rattle.gl_replies.specs.Rooms.{ActsKeepRooms};
 ghost use Rattle.gl_replies.specs.States.{ActsKeepStates, ScriptsKeepStates, UndoTakesBack};
 ghost use Rattle.gl_replies.specs.States.{ReplicasJoin, ReplicasAgree, SameSheetsReply};
@@ -50,4 +52,9 @@ pub fn replicas_agree()
     ensures join { ReplicasJoin }
     ensures agree { ReplicasAgree }
     ensures reply { SameSheetsReply }
+{}
+
+/// The lines of a sheet's list, fed to an empty sheet, give this sheet again, and none is refused.
+pub fn lists_read_back()
+    ensures { ListsReadBack }
 {}
