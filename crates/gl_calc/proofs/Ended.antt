@@ -29,9 +29,15 @@ use Rattle.gl_calc.specs.declared.ending.Answered.{Answered}
 use Rattle.gl_calc.specs.declared.ending.Ended.{Ended}
 use Rattle.gl_calc.proofs.Rounds.{comes_reaches, costs_answer, Leaves}
 use Rattle.gl_calc.proofs.Finished.{none_taken}
+use Rattle.gl_calc.proofs.Telling.{settled_tells}
 
 pub settled_held : (version : F.Version) (S : Cells) (rounds : ℕ) (t : Table) → IsSheet S → IsSettledTable version S rounds t → IsHeld version S t
-settled_held version S rounds t o h = record { table = h.table; unspent = h.unspent; permits = (settled_consistent version S t.oracle rounds o h.answer).permits }
+settled_held version S rounds t o h = record {
+  table = h.table;
+  unspent = h.unspent;
+  permits = (settled_consistent version S t.oracle rounds o h.answer).permits;
+  tells = settled_tells version S rounds t o h;
+}
 
 pub settled_answers : (version : F.Version) (S : Cells) (rounds : ℕ) (t : Table) (old new : Option (F.Version × Oracle)) → IsSheet S → IsSettledTable version S rounds t → new ≡ Some (version, t.oracle) → Answers version S (Settled rounds) old new
 settled_answers version S rounds t old new o h e = (t.oracle, h.answer, e, settled_consistent version S t.oracle rounds o h.answer, settled_shows version S t.oracle rounds o h.answer)

@@ -10,3 +10,4 @@ pub mod Called
 pub mod Marks
 pub mod Calcs
 pub mod Shows
+pub mod Telling

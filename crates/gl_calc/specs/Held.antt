@@ -10,6 +10,7 @@ use Rattle.gl_calculus.specs.Memory.{Table, IsTableOf, AreTables}
 use Rattle.gl_ast.specs.View.{version_tree}
 use Rattle.gl_calc.specs.Kept.{AreEarlier}
 use Rattle.gl_calc.specs.Progress.{either, last_of}
+use Rattle.gl_calc.specs.Shown.{TellsValues}
 use Rattle.gl_calc.specs.Answers.{Takes}
 use Rattle.gl_calc.specs.declared.answers.Answer.{Answer}
 use Rattle.gl_calc.specs.declared.answers.Answer.TheVariants as answer
@@ -25,11 +26,12 @@ abbrev pub answer_of : List Table → Option Answered → Option (Version × Ora
 answer_of tables None = None
 answer_of tables (Some h) = option_map (λ (t : Table). (version_tree h.version, t.oracle)) (table_of tables h)
 
--- the table is that of an unspent round under its oracle, whose permits are those of the sheet
+-- the table is that of an unspent round under its oracle, whose permits are those of the sheet and whose roots have values
 pub record IsHeld (version : Version) (S : Cells) (t : Table) : Type 0 where
   pub table : IsTableOf version S t.oracle t
   pub unspent : IsUnspent version S t.oracle
   pub permits : ArePermits grid (has_content S) t.oracle
+  pub tells : TellsValues S t
 
 -- it has such a table; where that is the last that is kept, the tables are of its version
 abbrev pub IsKept : Cells → List Table → Option Answered → Type 0

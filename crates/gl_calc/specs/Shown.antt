@@ -1,17 +1,35 @@
--- What is seen of a round, and what an address shows.
-use Rattle.std.specs.Prelude.{Bool, true, map}
+-- What is seen of a round, what its table tells of formula cells, and what an address shows.
+use Rattle.std.specs.Prelude.{◌≡◌, Bool, true, map, Some}
 use Rattle.gl_query.specs.Laws.{IsQuiet}
+use Rattle.gl_calculus.specs.Grid.{Addr}
 use Rattle.gl_calculus.specs.Value.{Oracle, Top}
-use Rattle.gl_calculus.specs.Formula.{Version, Cells, formula_addresses}
-use Rattle.gl_calculus.specs.Key.{Cell, same_key}
+use Rattle.gl_calculus.specs.Value as V
+use Rattle.gl_calculus.specs.Formula.{Version, Formula, Form, Cells, content, formula_addresses}
+use Rattle.gl_calculus.specs.Oracle.{Cover, cover}
+use Rattle.gl_calculus.specs.Key.{Cell, Outcome, same_key}
 use Rattle.gl_calculus.specs.Evaluation.{program}
 use Rattle.gl_calculus.specs.Calculation.{Shown, Cycle, Value}
+use Rattle.gl_calculus.specs.Memory.{Table}
 use Rattle.gl_calculus.specs.Sound.{is_sound_scalar}
+use Rattle.gl_core.specs.Results.{outcome_in}
 use Rattle.gl_core.specs.State.{State}
 
 -- the state says all of what the formulas of the sheet demand under the oracle
 abbrev pub IsRound : Version → Cells → Oracle → State → Type 0
 IsRound version S w st = IsQuiet same_key (program version S w) (map (Cell Top) (formula_addresses S)) st
+
+-- what the table tells of this formula cell is a value, if it tells anything
+abbrev pub TellsValue : Table → Addr → Type 0
+TellsValue t a = (o : Outcome) → Some o ≡ outcome_in t.notes (Cell Top a) → (v : V.Value) × (o ≡ Outcome.Value v)
+
+-- the table tells a value of this formula cell
+abbrev pub HasValue : Table → Addr → Type 0
+HasValue t a = (v : V.Value) × (Some (Outcome.Value v) ≡ outcome_in t.notes (Cell Top a))
+
+-- the table tells nothing but values of the formula cells of the sheet, and one of each root that covers an address
+pub record TellsValues (S : Cells) (t : Table) : Type 0 where
+  pub formulas : (a : Addr) (f : Formula) → content S a ≡ Some (Form f) → TellsValue t a
+  pub roots : (a : Addr) (c : Cover) → cover t.oracle a ≡ Some c → HasValue t c.root
 
 -- a cycle is sound, and a scalar where it is
 abbrev pub is_sound_shown : Shown → Bool

@@ -1,5 +1,6 @@
 //! The calculator.
-ghost use Rattle.std.specs.Prelude.{◌≡◌, ◌≤◌, ◌+◌, ◌++◌, ◌∷◌, [], None, length, map, option_map, IfOk, OnOk, OnErr};
+ghost use Rattle.std.specs.Prelude.{◌≡◌, ◌≤◌, ◌+◌, ◌++◌, ◌∷◌, [], None, length, map, option_map};
+ghost use Rattle.std.specs.Prelude.{IfOk, OnOk, OnErr};
 ghost use Rattle.std.specs.Option.{option_copied};
 ghost use Rattle.gl_calculus.specs.Calculation.{why};
 ghost use Rattle.gl_calculus.specs.Formula.{One};
@@ -75,9 +76,17 @@ impl Model for Calc {
 
     ghost coded = { Prim.hlevel (codes, scalar.the_row.coded, formula.the_row.coded, coded_table) };
 
-    ghost view = { λ c. record { table = c.cells; held = answer_of c.tables.items c.held; tables = c.tables.items; version = version_tree c.version; touched = c.touched.items } };
+    ghost view = { λ c.
+        record {
+          table = c.cells;
+          held = answer_of c.tables.items c.held;
+          tables = c.tables.items;
+          version = version_tree c.version;
+          touched = c.touched.items;
+        } };
 
-    ghost invariant = { λ c. IsCalc (sheet c.cells) c.held c.tables.items (version_tree c.version) c.touched c.ended };
+    ghost invariant = { λ c.
+        IsCalc (sheet c.cells) c.held c.tables.items (version_tree c.version) c.touched c.ended };
 }
 
 impl Calc {
@@ -110,7 +119,8 @@ impl Calc {
     /// address is touched.
     pub fn put(&mut self, a: Addr, c: Content) -> Result<(), PutFault>
         requires { IsProperContent (content_tree c) }
-        ensures sheet { cells.Answers result (sheet_of self.old) (with_content (sheet_of self.old) a (content_tree c)) (sheet_of self.new) }
+        ensures sheet { cells.Answers result (sheet_of self.old)
+            (with_content (sheet_of self.old) a (content_tree c)) (sheet_of self.new) }
         ensures edited { OnOk result (self.new.held ≡ None) }
         ensures touched { OnOk result (self.new.touched ≡ self.old.touched ++ a ∷ []) }
         ensures untouched { OnErr result (self.new.touched ≡ self.old.touched) }
@@ -137,9 +147,11 @@ impl Calc {
     /// held, and their addresses are touched.
     pub fn put_all(&mut self, alloc: Global, list: Vec<(Addr, Content)>) -> Result<(), PutFault>
         requires { AreProper list.items }
-        ensures sheet { cells.Answers result (sheet_of self.old) (with_contents (sheet_of self.old) (sheet list.items)) (sheet_of self.new) }
+        ensures sheet { cells.Answers result (sheet_of self.old)
+            (with_contents (sheet_of self.old) (sheet list.items)) (sheet_of self.new) }
         ensures edited { OnOk result (self.new.held ≡ None) }
-        ensures touched { OnOk result (self.new.touched ≡ self.old.touched ++ map (λ e. e.0) (sheet list.items)) }
+        ensures touched { OnOk result (
+            self.new.touched ≡ self.old.touched ++ map (λ e. e.0) (sheet list.items)) }
         ensures untouched { OnErr result (self.new.touched ≡ self.old.touched) }
         ensures refused { OnErr result (self.new.held ≡ self.old.held) }
         ensures tables { self.new.tables ≡ self.old.tables }
@@ -169,7 +181,8 @@ impl Calc {
         ensures cleared { sheet_of self.new ≡ without (sheet_of self.old) r.now }
         ensures count { result + length (sheet_of self.new) ≡ length (sheet_of self.old) }
         ensures held { self.new.held ≡ None }
-        ensures touched { self.new.touched ≡ self.old.touched ++ places_in (sheet_of self.old) r.now }
+        ensures touched { self.new.touched
+            ≡ self.old.touched ++ places_in (sheet_of self.old) r.now }
         ensures tables { self.new.tables ≡ self.old.tables }
         ensures version { self.new.version ≡ self.old.version }
     {
@@ -197,13 +210,20 @@ impl Calc {
     ) -> Result<Answer, NoMemory>
         requires rule { PicksBelow (F.pre (rule_of order.now)) (F.post (rule_of order.now)) }
         requires kind { kind ≤ 2 }
-        ensures answer { IfOk result (λ x. Answers (version_tree version) (sheet_of self.old) x self.old.held self.new.held) }
+        ensures answer { IfOk result (λ x.
+            Answers (version_tree version) (sheet_of self.old) x self.old.held self.new.held) }
         ensures err { OnErr result (self.new.held ≡ self.old.held) }
         ensures sheet { sheet_of self.new ≡ sheet_of self.old }
-        ensures steps { IfOk result (λ x. Takes (version_tree version) (sheet_of self.old) (tables_for (version_tree version) (memory_of self.old)) self.old.touched x steps.old steps.new) }
-        ensures tables { IfOk result (λ x. AreTables (version_tree version) (sheet_of self.old) self.new.tables) }
-        ensures made { IfOk result (λ x. (self.new.version ≡ version_tree version) × (self.new.touched ≡ [])) }
-        ensures dropped { OnErr result ((self.new.tables ≡ []) × (self.new.touched ≡ self.old.touched)) }
+        ensures steps { IfOk result (λ x.
+            Takes (version_tree version) (sheet_of self.old)
+            (tables_for (version_tree version) (memory_of self.old)) self.old.touched x steps.old
+            steps.new) }
+        ensures tables { IfOk result (λ x.
+            AreTables (version_tree version) (sheet_of self.old) self.new.tables) }
+        ensures made { IfOk result (λ x.
+            (self.new.version ≡ version_tree version) × (self.new.touched ≡ [])) }
+        ensures dropped { OnErr result (
+            (self.new.tables ≡ []) × (self.new.touched ≡ self.old.touched)) }
     {
         let is_same = same_version(version, self.version);
         if let Some(answer) = standing(is_same, self.ended) {
@@ -266,7 +286,8 @@ impl Calc {
 
     /// Why a root has its permit by the held answer; `None` exactly where none is held.
     pub fn why(&self, a: Addr) -> Option<Why>
-        ensures { option_map why_tree result ≡ option_map (λ h. why (sheet_of self.now) h.1 a) self.now.held }
+        ensures { option_map why_tree result
+            ≡ option_map (λ h. why (sheet_of self.now) h.1 a) self.now.held }
     {
         match &self.held {
             Some(answered) => match table_of(answered, &self.tables) {

@@ -36,8 +36,11 @@ pub fn calculate<F: Fn(u8, u64, u64) -> u64, L: Watch>(
 ) -> Result<Ended, NoMemory>
     requires rule { PicksBelow (F.pre (rule_of order.now)) (F.post (rule_of order.now)) }
     requires kind { kind ≤ 2 }
-    requires earlier { AreEarlier (version_tree version) (sheet cells.now) earlier.items touched.now }
-    ensures ends { IfOk result (λ x. EndsWith (version_tree version) (sheet cells.now) earlier.items touched.now x steps.old steps.new) }
+    requires earlier { AreEarlier (version_tree version) (sheet cells.now) earlier.items
+        touched.now }
+    ensures ends { IfOk result (λ x.
+        EndsWith (version_tree version) (sheet cells.now) earlier.items touched.now x steps.old
+        steps.new) }
     ensures ordered { IsSheet (sheet cells.now) }
 {
     let budget = cells.formulas() + EXTRA_ROUNDS;

@@ -26,8 +26,10 @@ use std::alloc::Global;
 /// as spent.
 pub fn collected(alloc: Global, places: &[Addr], quiet: &Quiet) -> Result<Sizes, RoundFault>
     requires { AreInOrder places.now }
-    ensures { (version : PlainVersion) (S : Sheet) (w : V.Oracle) → IsRound version S w (state_of quiet.now)
-        → StandFirst places.now (state_of quiet.now) → AreDistinct (keys (state_of quiet.now))
+    ensures { (version : PlainVersion) (S : Sheet) (w : V.Oracle)
+        → IsRound version S w (state_of quiet.now)
+        → StandFirst places.now (state_of quiet.now)
+        → AreDistinct (keys (state_of quiet.now))
         → ((a : PlainAddr) → Member a places.now → DemandedIn version S w (K.Cell V.Top a))
         → Collects version S w places.now result }
 {
@@ -59,7 +61,8 @@ fn visit(quiet: &Quiet, i: usize, a: Addr, sizes: &mut Sizes) -> Result<(), Roun
 /// Adds the size of an outcome, if it is an array.
 fn add(a: Addr, outcome: &Outcome, sizes: &mut Sizes) -> Result<(), RoundFault>
     requires { (z : PlainSize) → AreSizes (sizes.old ++ (a, z) ∷ []) }
-    ensures { Visits a (Some (Machine.Resolved (outcome_tree outcome.now))) sizes.old result sizes.new }
+    ensures { Visits a (Some (Machine.Resolved (outcome_tree outcome.now))) sizes.old result
+        sizes.new }
 {
     match outcome {
         Outcome::Value(value) => add_array(a, value, sizes),
@@ -73,7 +76,8 @@ fn add(a: Addr, outcome: &Outcome, sizes: &mut Sizes) -> Result<(), RoundFault>
 #[tactic(auto, using(gl_value::specs::Forms::trees))]
 fn add_array(a: Addr, value: &Value, sizes: &mut Sizes) -> Result<(), RoundFault>
     requires { (z : PlainSize) → AreSizes (sizes.old ++ (a, z) ∷ []) }
-    ensures { Visits a (Some (Machine.Resolved (K.Outcome.Value (value_tree value.now)))) sizes.old result sizes.new }
+    ensures { Visits a (Some (Machine.Resolved (K.Outcome.Value (value_tree value.now)))) sizes.old
+        result sizes.new }
 {
     match value {
         Value::Array(array) => match sizes.push(a, array.size()) {

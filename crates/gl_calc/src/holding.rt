@@ -1,5 +1,6 @@
 //! What a calculator holds and remembers from one calculation to the next.
-ghost use Rattle.std.specs.Prelude.{◌≡◌, [], None, IsSome, Bool, true, if◌then◌else◌, option_map, option_copied};
+ghost use Rattle.std.specs.Prelude.{◌≡◌, [], None, IsSome, Bool, true, if◌then◌else◌, option_map};
+ghost use Rattle.std.specs.Prelude.{option_copied};
 ghost use Rattle.gl_calculus.specs.Formula.{Cells as Sheet};
 ghost use Rattle.gl_calculus.specs.Memory as M;
 ghost use Rattle.gl_ast.specs.View.{version_tree};

@@ -22,7 +22,9 @@ fn changes(
 ) -> Result<Changes, NoMemory>
     requires apart { AreApart before.now }
     requires other_apart { AreApart w.now }
-    ensures { IfOk result (λ c. (a : PlainAddr) → is_covered c a ≡ (is_covered ranges.now a || differs_at [] before.now w.now a)) }
+    ensures { IfOk result (λ c.
+        (a : PlainAddr)
+        → is_covered c a ≡ (is_covered ranges.now a || differs_at [] before.now w.now a)) }
 {
     let mut changes = Changes::new(alloc);
     changes.add(ranges)?;
@@ -40,7 +42,10 @@ fn kept_since(
 ) -> Result<Results, NoMemory>
     requires apart { AreApart table.oracle }
     requires other_apart { AreApart w.now }
-    ensures { IfOk result (λ r. (touched : List PlainAddr) → AreRanges ranges.now touched → AreKept (table, touched) w.now r) }
+    ensures { IfOk result (λ r.
+        (touched : List PlainAddr)
+        → AreRanges ranges.now touched
+        → AreKept (table, touched) w.now r) }
 {
     let Table {
         oracle,
@@ -58,7 +63,10 @@ fn kept_since(
 fn kept(alloc: Global, base: Base, ranges: &[Range], w: &Oracle) -> Result<Results, NoMemory>
     requires apart { AreApart base.table.oracle }
     requires other_apart { AreApart w.now }
-    ensures { IfOk result (λ r. (touched : List PlainAddr) → AreRanges ranges.now touched → AreKept (base.table, since base.is_earlier touched) w.now r) }
+    ensures { IfOk result (λ r.
+        (touched : List PlainAddr)
+        → AreRanges ranges.now touched
+        → AreKept (base.table, since base.is_earlier touched) w.now r) }
 {
     if base.is_earlier {
         kept_since(alloc, base.table, ranges, w)
@@ -76,7 +84,10 @@ pub fn begun(
 ) -> Result<Results, NoMemory>
     requires apart { (touched : List PlainAddr) → AreApart (next_base tables.old touched).0.oracle }
     requires other_apart { AreApart w.now }
-    ensures kept { IfOk result (λ r. (touched : List PlainAddr) → AreRanges ranges.now touched → AreKept (next_base tables.old touched) w.now r) }
+    ensures kept { IfOk result (λ r.
+        (touched : List PlainAddr)
+        → AreRanges ranges.now touched
+        → AreKept (next_base tables.old touched) w.now r) }
     ensures taken { IsTaken tables.old tables.new }
 {
     match tables.take_base(alloc) {

@@ -35,7 +35,8 @@ pub fn mark_all(touched: &mut Vec<Addr>, places: &[Addr])
 pub fn mark_in(touched: &mut Vec<Addr>, cells: &Cells, r: &Range)
     requires { vec_len touched.old + length (sheet cells.now) ≤ vec_capacity touched.old }
     ensures items { touched.new.items ≡ touched.old.items ++ places_in (sheet cells.now) r.now }
-    ensures len { vec_len touched.new ≡ vec_len touched.old + length (places_in (sheet cells.now) r.now) }
+    ensures len { vec_len touched.new
+        ≡ vec_len touched.old + length (places_in (sheet cells.now) r.now) }
     ensures capacity { vec_capacity touched.new ≡ vec_capacity touched.old }
     ensures ordered { IsSheet (sheet cells.now) }
 {

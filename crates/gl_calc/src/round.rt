@@ -2,7 +2,8 @@
 ghost use Rattle.std.specs.Prelude.{◌≡◌, [], IfOk, IfErr, Err, ◌⊎◌};
 ghost use Rattle.gl_query.specs.InOrder.{AreOrdered};
 ghost use Rattle.gl_calculus.specs.Value.{Oracle as Permits};
-ghost use Rattle.gl_calculus.specs.Formula.{Version as PlainVersion, Cells as Sheet, IsSheet, formula_addresses};
+ghost use Rattle.gl_calculus.specs.Formula.{Version as PlainVersion, Cells as Sheet, IsSheet};
+ghost use Rattle.gl_calculus.specs.Formula.{formula_addresses};
 ghost use Rattle.gl_calculus.specs.Grid.{AreInOrder};
 ghost use Rattle.gl_core.specs.State.{notes_in, IsFor};
 ghost use Rattle.gl_calc.specs.Kept.{IsKeptBy};
@@ -53,11 +54,30 @@ fn finished(
 ) -> Result<Sizes, RoundFault>
     requires placed { AreInOrder places.now }
     requires ordered { AreOrdered [] (notes_in quiet) }
-    requires for_it { (version : PlainVersion) × (S : Sheet) × (v : Permits) × IsFor version S v quiet }
-    ensures given { IfOk result (λ zs. (version : PlainVersion) (S : Sheet) → IsEvaluated version S w.now quiet → places.now ≡ formula_addresses S → Gives version S w.now zs) }
-    ensures failed { IfErr result (λ e. (version : PlainVersion) (S : Sheet) → IsEvaluated version S w.now quiet → places.now ≡ formula_addresses S → Fails version S w.now e) }
-    ensures work { IfErr result (λ e. e ≡ RoundFault.Work → (version : PlainVersion) (S : Sheet) → IsEvaluated version S w.now quiet → places.now ≡ formula_addresses S → ⊥) }
-    ensures kept { (version : PlainVersion) (S : Sheet) → IsEvaluated version S w.now quiet → IsKeptBy version S tables.old w.now tables.new ⊎ ((tables.new ≡ tables.old) × (result ≡ Err RoundFault.NoMemory)) }
+    requires for_it { (version : PlainVersion)
+        × (S : Sheet)
+        × (v : Permits)
+        × IsFor version S v quiet }
+    ensures given { IfOk result (λ zs.
+        (version : PlainVersion) (S : Sheet)
+        → IsEvaluated version S w.now quiet
+        → places.now ≡ formula_addresses S
+        → Gives version S w.now zs) }
+    ensures failed { IfErr result (λ e.
+        (version : PlainVersion) (S : Sheet)
+        → IsEvaluated version S w.now quiet
+        → places.now ≡ formula_addresses S
+        → Fails version S w.now e) }
+    ensures work { IfErr result (λ e.
+        e ≡ RoundFault.Work
+        → (version : PlainVersion) (S : Sheet)
+        → IsEvaluated version S w.now quiet
+        → places.now ≡ formula_addresses S
+        → ⊥) }
+    ensures kept { (version : PlainVersion) (S : Sheet)
+        → IsEvaluated version S w.now quiet
+        → IsKeptBy version S tables.old w.now tables.new
+        ⊎ ((tables.new ≡ tables.old) × (result ≡ Err RoundFault.NoMemory)) }
 {
     let sizes = collected(alloc, places, &quiet);
     match w.copy(alloc) {
@@ -85,7 +105,11 @@ impl<F: Fn(u8, u64, u64) -> u64, L: Watch> Round for TopRound<'_, F, L> {
 
     type Count = Steps<L>;
 
-    ghost can = { λ s. PicksBelow (F.pre (rule_of s.order.now)) (F.post (rule_of s.order.now)) × (s.kind ≤ 2) × IsSet (version_tree s.version) (sheet s.cells.now) s.places.now s.touched.now s.ranges.now s.tables };
+    ghost can = { λ s.
+        PicksBelow (F.pre (rule_of s.order.now)) (F.post (rule_of s.order.now))
+        × (s.kind ≤ 2)
+        × IsSet (version_tree s.version) (sheet s.cells.now) s.places.now s.touched.now s.ranges.now
+        s.tables };
 
     ghost under = { λ s w. AreApart w };
 
@@ -93,7 +117,12 @@ impl<F: Fn(u8, u64, u64) -> u64, L: Watch> Round for TopRound<'_, F, L> {
 
     ghost fails = { λ s. Fails (version_tree s.version) (sheet s.cells.now) };
 
-    ghost calls = { λ s c w r t d. (t.version ≡ s.version) × (t.cells.now ≡ s.cells.now) × (t.touched.now ≡ s.touched.now) × Calls (version_tree s.version) (sheet s.cells.now) s.touched.now s.tables w r t.tables c d };
+    ghost calls = { λ s c w r t d.
+        (t.version ≡ s.version)
+        × (t.cells.now ≡ s.cells.now)
+        × (t.touched.now ≡ s.touched.now)
+        × Calls (version_tree s.version) (sheet s.cells.now) s.touched.now s.tables w r t.tables c
+        d };
 
     fn sizes(&mut self, w: &Oracle, steps: &mut Steps<L>) -> Result<Sizes, RoundFault> {
         match begun(self.alloc, &mut self.tables, self.ranges, w) {
@@ -115,5 +144,7 @@ impl<F: Fn(u8, u64, u64) -> u64, L: Watch> Round for TopRound<'_, F, L> {
         }
     }
 
-    ghost one = { λ s w x y h k. one_arrays (version_tree s.version) (sheet s.cells.now) w (formula_addresses (sheet s.cells.now)) x y h.1 k.1 };
+    ghost one = { λ s w x y h k.
+        one_arrays (version_tree s.version) (sheet s.cells.now) w
+        (formula_addresses (sheet s.cells.now)) x y h.1 k.1 };
 }

@@ -5,6 +5,7 @@ ghost use Rattle.gl_calculus.specs.Calculation as C;
 ghost use Rattle.gl_calculus.specs.Calculation.{IsShown, IsUnspent, TopHas};
 ghost use Rattle.gl_calculus.specs.Formula.{Version, Formula, Form, Cells as Sheet, content};
 ghost use Rattle.gl_calculus.specs.Key as K;
+ghost use Rattle.gl_calculus.specs.Oracle.{Cover, cover};
 ghost use Rattle.gl_calculus.specs.Reference.{shown, spilled};
 ghost use Rattle.gl_calculus.specs.Sound.{is_sound_outcome};
 ghost use Rattle.gl_calculus.specs.Value as V;
@@ -15,7 +16,7 @@ ghost use Rattle.gl_value.specs.Made.{shown_tree};
 ghost use Rattle.gl_value.specs.View.{scalar_tree};
 ghost use Rattle.gl_demand.specs.View.{outcome_tree};
 ghost use Rattle.gl_calculus.specs.Memory.{IsTableOf};
-ghost use Rattle.gl_calc.specs.Shown.{is_sound_shown};
+ghost use Rattle.gl_calc.specs.Shown.{HasValue, TellsValue, TellsValues, is_sound_shown};
 
 use crate::table::Table;
 use gl_cells::{Cells, Content};
@@ -25,12 +26,14 @@ use gl_value::{Env, Scalar, Shown};
 
 /// What an address shows under the oracle of a round: a formula that loops is a cycle, an array
 /// shows its corner unless it is refused, and an address without content the element of the root
-/// that spills over it, or a blank.
-///
-/// A formula that ended as spent shows nothing, nor does an address under a root without a value;
-/// then the answer is `NoMemory`. A settled calculation has neither.
+/// that spills over it, or a blank. No formula of the round is spent, and each root that covers an
+/// address has a value.
 pub fn shown_at(cells: &Cells, table: &Table, a: Addr) -> Result<Shown, NoMemory>
-    ensures shown { (version : Version) → IsTableOf version (sheet cells.now) table.now.oracle table.now → IsUnspent version (sheet cells.now) table.now.oracle → IfOk result (λ x. IsShown version (sheet cells.now) table.now.oracle a (shown_tree x)) }
+    requires { TellsValues (sheet cells.now) table.now }
+    ensures shown { (version : Version)
+        → IsTableOf version (sheet cells.now) table.now.oracle table.now
+        → IsUnspent version (sheet cells.now) table.now.oracle
+        → IfOk result (λ x. IsShown version (sheet cells.now) table.now.oracle a (shown_tree x)) }
     ensures sound { IfOk result (λ x. IsTrue (is_sound_shown (shown_tree x))) }
 {
     match cells.content(a) {
@@ -41,8 +44,12 @@ pub fn shown_at(cells: &Cells, table: &Table, a: Addr) -> Result<Shown, NoMemory
 
 /// What an address with this content shows.
 fn content_shown(held: &Content, table: &Table, a: Addr) -> Result<Shown, NoMemory>
-    requires { IsProperContent (content_tree held.now) }
-    ensures shown { (version : Version) (S : Sheet) → content S a ≡ Some (content_tree held.now) → IsTableOf version S table.now.oracle table.now → IfOk result (λ x. IsShown version S table.now.oracle a (shown_tree x)) }
+    requires proper { IsProperContent (content_tree held.now) }
+    requires told { (f : Formula) → content_tree held.now ≡ Form f → TellsValue table.now a }
+    ensures shown { (version : Version) (S : Sheet)
+        → content S a ≡ Some (content_tree held.now)
+        → IsTableOf version S table.now.oracle table.now
+        → IfOk result (λ x. IsShown version S table.now.oracle a (shown_tree x)) }
     ensures sound { IfOk result (λ x. IsTrue (is_sound_shown (shown_tree x))) }
 {
     match held {
@@ -64,7 +71,11 @@ fn constant_shown(x: &Scalar) -> Result<Shown, NoMemory>
 /// What a formula shows: a cycle where the table, which is complete, has no note of it.
 #[tactic(auto, using(gl_value::specs::Forms::trees))]
 fn formula_shown(table: &Table, a: Addr) -> Result<Shown, NoMemory>
-    ensures shown { (version : Version) (S : Sheet) (f : Formula) → content S a ≡ Some (Form f) → IsTableOf version S table.now.oracle table.now → IfOk result (λ x. IsShown version S table.now.oracle a (shown_tree x)) }
+    requires { TellsValue table.now a }
+    ensures shown { (version : Version) (S : Sheet) (f : Formula)
+        → content S a ≡ Some (Form f)
+        → IsTableOf version S table.now.oracle table.now
+        → IfOk result (λ x. IsShown version S table.now.oracle a (shown_tree x)) }
     ensures sound { IfOk result (λ x. IsTrue (is_sound_shown (shown_tree x))) }
 {
     match table.results.outcome(&Key::Cell(Env::Top, a)) {
@@ -73,10 +84,14 @@ fn formula_shown(table: &Table, a: Addr) -> Result<Shown, NoMemory>
     }
 }
 
-/// What a formula with this outcome and this permit shows.
+/// What a formula with this value and this permit shows.
 fn outcome_shown(permit: Option<Permit>, outcome: &Outcome) -> Result<Shown, NoMemory>
-    requires { IsTrue (is_sound_outcome (outcome_tree outcome.now)) }
-    ensures shown { IfOk result (λ x. (v : V.Value) × (outcome_tree outcome.now ≡ K.Outcome.Value v) × (shown_tree x ≡ C.Shown.Value (shown (option_map permit_tree permit) v))) }
+    requires sound { IsTrue (is_sound_outcome (outcome_tree outcome.now)) }
+    requires value { (v : V.Value) × (outcome_tree outcome.now ≡ K.Outcome.Value v) }
+    ensures shown { IfOk result (λ x.
+        (v : V.Value)
+        × (outcome_tree outcome.now ≡ K.Outcome.Value v)
+        × (shown_tree x ≡ C.Shown.Value (shown (option_map permit_tree permit) v))) }
     ensures sound { IfOk result (λ x. IsTrue (is_sound_shown (shown_tree x))) }
 {
     match outcome {
@@ -84,14 +99,18 @@ fn outcome_shown(permit: Option<Permit>, outcome: &Outcome) -> Result<Shown, NoM
             Ok(x) => Ok(Shown::Value(x)),
             Err(NoMemory) => Err(NoMemory),
         },
-        Outcome::Settled(_) => Err(NoMemory),
-        Outcome::Abort(_) => Err(NoMemory),
+        Outcome::Settled(_) => unreachable!(),
+        Outcome::Abort(_) => unreachable!(),
     }
 }
 
 /// What an address without content shows.
 fn blank_shown(table: &Table, a: Addr) -> Result<Shown, NoMemory>
-    ensures shown { (version : Version) (S : Sheet) → content S a ≡ None → IsTableOf version S table.now.oracle table.now → IfOk result (λ x. IsShown version S table.now.oracle a (shown_tree x)) }
+    requires { (c : Cover) → cover table.now.oracle a ≡ Some c → HasValue table.now c.root }
+    ensures shown { (version : Version) (S : Sheet)
+        → content S a ≡ None
+        → IsTableOf version S table.now.oracle table.now
+        → IfOk result (λ x. IsShown version S table.now.oracle a (shown_tree x)) }
     ensures sound { IfOk result (λ x. IsTrue (is_sound_shown (shown_tree x))) }
 {
     match table.oracle.cover(a) {
@@ -103,19 +122,29 @@ fn blank_shown(table: &Table, a: Addr) -> Result<Shown, NoMemory>
 /// What an address shows by the root that covers it, and its rows and columns from there.
 #[tactic(auto, using(gl_value::specs::Forms::trees))]
 fn element_shown(table: &Table, cover: (Addr, u16, u16)) -> Result<Shown, NoMemory>
-    ensures shown { (version : Version) (S : Sheet) (w : V.Oracle) → IsTableOf version S w table.now → IfOk result (λ x. (v : V.Value) × TopHas version S w cover.0 (K.Outcome.Value v) × (shown_tree x ≡ C.Shown.Value (spilled (Some v) cover.1 cover.2))) }
+    requires { HasValue table.now cover.0 }
+    ensures shown { (version : Version) (S : Sheet) (w : V.Oracle)
+        → IsTableOf version S w table.now
+        → IfOk result (λ x.
+        (v : V.Value)
+        × TopHas version S w cover.0 (K.Outcome.Value v)
+        × (shown_tree x ≡ C.Shown.Value (spilled (Some v) cover.1 cover.2))) }
     ensures sound { IfOk result (λ x. IsTrue (is_sound_shown (shown_tree x))) }
 {
     match table.results.outcome(&Key::Cell(Env::Top, cover.0)) {
         Some(outcome) => outcome_element(outcome, cover.1, cover.2),
-        None => Err(NoMemory),
+        None => unreachable!(),
     }
 }
 
-/// The element that a root with this outcome shows at an address.
+/// The element that a root with this value shows at an address.
 fn outcome_element(outcome: &Outcome, rows: u16, cols: u16) -> Result<Shown, NoMemory>
-    requires { IsTrue (is_sound_outcome (outcome_tree outcome.now)) }
-    ensures shown { IfOk result (λ x. (v : V.Value) × (outcome_tree outcome.now ≡ K.Outcome.Value v) × (shown_tree x ≡ C.Shown.Value (spilled (Some v) rows cols))) }
+    requires sound { IsTrue (is_sound_outcome (outcome_tree outcome.now)) }
+    requires value { (v : V.Value) × (outcome_tree outcome.now ≡ K.Outcome.Value v) }
+    ensures shown { IfOk result (λ x.
+        (v : V.Value)
+        × (outcome_tree outcome.now ≡ K.Outcome.Value v)
+        × (shown_tree x ≡ C.Shown.Value (spilled (Some v) rows cols))) }
     ensures sound { IfOk result (λ x. IsTrue (is_sound_shown (shown_tree x))) }
 {
     match outcome {
@@ -123,7 +152,7 @@ fn outcome_element(outcome: &Outcome, rows: u16, cols: u16) -> Result<Shown, NoM
             Ok(x) => Ok(Shown::Value(x)),
             Err(NoMemory) => Err(NoMemory),
         },
-        Outcome::Settled(_) => Err(NoMemory),
-        Outcome::Abort(_) => Err(NoMemory),
+        Outcome::Settled(_) => unreachable!(),
+        Outcome::Abort(_) => unreachable!(),
     }
 }

@@ -46,10 +46,17 @@ pub fn evaluated<F: Fn(u8, u64, u64) -> u64, L: Watch>(
     requires all { places.now ≡ formula_addresses (sheet cells.now) }
     requires few { length (formula_addresses (sheet cells.now)) ≤ max_formulas }
     requires ordered { IsSheet (sheet cells.now) }
-    requires true_notes { AreTrue same_key (program (version_tree version) (sheet cells.now) w.now) results }
+    requires true_notes { AreTrue same_key (program (version_tree version) (sheet cells.now) w.now)
+        results }
     ensures evaluated { IfOk result (IsEvaluated (version_tree version) (sheet cells.now) w.now) }
-    ensures steps { IfOk result (λ q. (b : Plain × List PlainAddr) (i : ℕ) → AreKept b w.now results → Finishes (version_tree version) (sheet cells.now) b i w.now steps.old steps.new) }
-    ensures stops { IfErr result (λ e. (b : Plain × List PlainAddr) → AreKept b w.now results → Stops (version_tree version) (sheet cells.now) w.now b e steps.old steps.new) }
+    ensures steps { IfOk result (λ q.
+        (b : Plain × List PlainAddr) (i : ℕ)
+        → AreKept b w.now results
+        → Finishes (version_tree version) (sheet cells.now) b i w.now steps.old steps.new) }
+    ensures stops { IfErr result (λ e.
+        (b : Plain × List PlainAddr)
+        → AreKept b w.now results
+        → Stops (version_tree version) (sheet cells.now) w.now b e steps.old steps.new) }
 {
     match Core::resume(alloc, places, results, cells, w, version) {
         Ok(core) => run(alloc, core, cells, w, version, order, kind, steps),
@@ -73,8 +80,14 @@ fn run<F: Fn(u8, u64, u64) -> u64, L: Watch>(
     requires kind { kind ≤ 2 }
     requires started { IsStarted (version_tree version) (sheet cells.now) w.now core }
     ensures evaluated { IfOk result (IsEvaluated (version_tree version) (sheet cells.now) w.now) }
-    ensures steps { IfOk result (λ q. (b : Plain × List PlainAddr) (i : ℕ) → AreKept b w.now (notes_in core) → Finishes (version_tree version) (sheet cells.now) b i w.now steps.old steps.new) }
-    ensures stops { IfErr result (λ e. (b : Plain × List PlainAddr) → AreKept b w.now (notes_in core) → Stops (version_tree version) (sheet cells.now) w.now b e steps.old steps.new) }
+    ensures steps { IfOk result (λ q.
+        (b : Plain × List PlainAddr) (i : ℕ)
+        → AreKept b w.now (notes_in core)
+        → Finishes (version_tree version) (sheet cells.now) b i w.now steps.old steps.new) }
+    ensures stops { IfErr result (λ e.
+        (b : Plain × List PlainAddr)
+        → AreKept b w.now (notes_in core)
+        → Stops (version_tree version) (sheet cells.now) w.now b e steps.old steps.new) }
 {
     match core.run_all(alloc, order, kind, cells, w, version, steps) {
         Ok(quiet) => Ok(quiet),

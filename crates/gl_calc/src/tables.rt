@@ -41,14 +41,17 @@ impl Model for Tables {
 
     ghost coded = { Prim.hlevel (codes, coded_table) };
 
-    ghost view = { λ t. record { earlier = into_iter_items t.earlier; made = t.made.items; beyond = t.beyond } };
+    ghost view = { λ t.
+        record { earlier = into_iter_items t.earlier; made = t.made.items; beyond = t.beyond } };
 
     ghost invariant = { λ t. (kept_rounds ≤ vec_capacity t.made) };
 }
 
 /// The last of the tables once more, or an empty one.
 fn last_again(alloc: Global, made: &[Table]) -> Result<Table, NoMemory>
-    ensures { IfOk result (λ t. (touched : List PlainAddr) → (t, []) ≡ next_base (record { earlier = []; made = made.now; beyond = None }) touched) }
+    ensures { IfOk result (λ t.
+        (touched : List PlainAddr)
+        → (t, []) ≡ next_base (record { earlier = []; made = made.now; beyond = None }) touched) }
 {
     match made.last() {
         Some(table) => table.copy(alloc),
@@ -59,7 +62,8 @@ fn last_again(alloc: Global, made: &[Table]) -> Result<Table, NoMemory>
 impl Tables {
     /// The tables from before, and room for those that will be kept.
     pub fn new(alloc: Global, earlier: Vec<Table>) -> Result<Tables, NoMemory>
-        ensures { IfOk result (λ t. t ≡ record { earlier = earlier.items; made = []; beyond = None }) }
+        ensures { IfOk result (λ t.
+            t ≡ record { earlier = earlier.items; made = []; beyond = None }) }
     {
         let made = Vec::with_capacity(alloc, KEPT_ROUNDS)?;
         Ok(Tables {
@@ -71,7 +75,9 @@ impl Tables {
 
     /// Takes what the next round begins with.
     pub fn take_base(&mut self, alloc: Global) -> Result<Base, NoMemory>
-        ensures base { IfOk result (λ b. (touched : List PlainAddr) → (b.table, since b.is_earlier touched) ≡ next_base self.old touched) }
+        ensures base { IfOk result (λ b.
+            (touched : List PlainAddr)
+            → (b.table, since b.is_earlier touched) ≡ next_base self.old touched) }
         ensures taken { IsTaken self.old self.new }
     {
         match self.earlier.next() {
@@ -86,7 +92,9 @@ impl Tables {
     /// Takes the table of the round before, where none is there from before.
     fn take_before(&mut self, alloc: Global) -> Result<Base, NoMemory>
         requires { self.old.earlier ≡ [] }
-        ensures base { IfOk result (λ b. (touched : List PlainAddr) → (b.table, since b.is_earlier touched) ≡ next_base self.old touched) }
+        ensures base { IfOk result (λ b.
+            (touched : List PlainAddr)
+            → (b.table, since b.is_earlier touched) ≡ next_base self.old touched) }
         ensures taken { IsTaken self.old self.new }
     {
         match self.beyond.take() {

@@ -11,6 +11,7 @@ use Rattle.gl_plane.specs.Entries.{offsets}
 use Rattle.gl_value.specs.Forms.{scalar_tree-Blank}
 use Rattle.gl_value.specs.Made.{shown_tree}
 use Rattle.gl_calc.proofs.Shows.{covered_seen, uncovered_seen}
+use Rattle.gl_calc.proofs.Telling.{cover_told}
 use Rattle.gl_calc.proofs.showing.blank_shown.Goals as goal
 
 pub returns-in-Some-clause-shown : goal.returns-in-Some-clause-shown
@@ -26,3 +27,8 @@ pub returns-in-None-clause-shown : goal.returns-in-None-clause-shown
 returns-in-None-clause-shown c = λ version S e q.
     subst (λ u. IsShown version S c.args.table.now.oracle c.args.a (C.Shown.Value u)) (sym scalar_tree-Blank)
     (uncovered_seen version S c.args.table.now.oracle c.args.a e (subst (λ (u : Table). None ≡ option_map offsets (cover u.oracle c.args.a)) c.table.view_is c.in-None.ensures))
+
+pub element_shown-requires : goal.element_shown-requires
+element_shown-requires c =
+    cover_told c.args.table.now c.args.a c.in-Some.cover.0 c.in-Some.cover.1 c.in-Some.cover.2 c.requires
+    (subst (λ (u : Table). Some c.in-Some.cover ≡ option_map offsets (cover u.oracle c.args.a)) c.table.view_is c.in-Some.ensures)

@@ -22,3 +22,6 @@ returns-in-Const-clause-shown c = λ version S e q.
 pub returns-in-Form-clause-shown : goal.returns-in-Form-clause-shown
 returns-in-Form-clause-shown c = λ version S e q.
     c.formula_shown.ensures.shown version S (formula_tree (rc_value c.in-Form.field-0)) (e ∙ ap (λ u. Some (content_tree u)) c.in-Form.is) q
+
+pub formula_shown-requires : goal.formula_shown-requires
+formula_shown-requires c = c.requires.told (formula_tree (rc_value c.in-Form.field-0)) (ap content_tree c.in-Form.is)

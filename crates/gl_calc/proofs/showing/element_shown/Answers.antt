@@ -1,4 +1,4 @@
-use Rattle.std.proofs.Common.{◌≡◌, Some, subst}
+use Rattle.std.proofs.Common.{◌≡◌, Some, None, subst}
 use Rattle.std.proofs.lemmas.Result.{IfOk-weaker}
 use Rattle.gl_calculus.specs.Calculation as C
 use Rattle.gl_calculus.specs.Calculation.{TopHas}
@@ -13,10 +13,11 @@ use Rattle.gl_value.specs.View.{frame_tree}
 use Rattle.gl_value.specs.declared.Env.{Top}
 use Rattle.gl_demand.specs.View.{outcome_tree}
 use Rattle.gl_calc.proofs.Shows.{top_has}
+use Rattle.gl_calc.proofs.Telling.{told_value, told_some}
 use Rattle.gl_calc.proofs.showing.element_shown.Goals as goal
 
-pub returns-in-Some-clause-shown : goal.returns-in-Some-clause-shown
-returns-in-Some-clause-shown c = λ version S w q.
+pub returns-clause-shown : goal.returns-clause-shown
+returns-clause-shown c = λ version S w q.
     let t = c.args.table.now in
     let o = outcome_tree c.in-Some.outcome.now in
     let root = c.args.cover.0 in
@@ -30,3 +31,14 @@ returns-in-Some-clause-shown c = λ version S w q.
       y,
     ))
     c.outcome_element.ensures.shown
+
+pub outcome_element-requires-clause-value : goal.outcome_element-requires-clause-value
+outcome_element-requires-clause-value c =
+    let o = outcome_tree c.in-Some.outcome.now in
+    told_value c.args.table.now (frame_tree Top) c.args.cover.0 o frame_tree-Top c.requires
+    (subst (λ (u : Table). Some o ≡ outcome_in u.notes (K.Cell (frame_tree Top) c.args.cover.0)) c.table.view_is c.in-Some.ensures.value)
+
+pub unreachable-requires : goal.unreachable-requires
+unreachable-requires c =
+    told_some c.args.table.now (frame_tree Top) c.args.cover.0 frame_tree-Top c.requires
+    (subst (λ (u : Table). None ≡ outcome_in u.notes (K.Cell (frame_tree Top) c.args.cover.0)) c.table.view_is c.in-None.ensures.value)

@@ -33,3 +33,10 @@ pub returns-clause-shown : goal.returns-clause-shown
 returns-clause-shown c = λ version S f e q.
     let t = c.args.table.now in
     cycle_seen version S t.oracle t (frame_tree Top) c.args.a f frame_tree-Top e q (subst (λ (u : Table). None ≡ outcome_in u.notes (K.Cell (frame_tree Top) c.args.a)) c.table.view_is c.in-None.ensures.value)
+
+pub outcome_shown-requires-clause-value : goal.outcome_shown-requires-clause-value
+outcome_shown-requires-clause-value c =
+    let t = c.args.table.now in
+    let o = outcome_tree c.in-Some.outcome.now in
+    c.requires o (subst (λ (e : V.Frame). Some o ≡ outcome_in t.notes (K.Cell e c.args.a)) frame_tree-Top
+    (subst (λ (u : Table). Some o ≡ outcome_in u.notes (K.Cell (frame_tree Top) c.args.a)) c.table.view_is c.in-Some.ensures.value))
