@@ -1,13 +1,15 @@
--- Where the replies to items have room, so have those to the first of them.
-use Rattle.std.proofs.Common.{◌≡◌, ℕ, ◌+◌, ◌≤◌, List, ◌++◌, length, ap, sym, subst, ◌∙◌, arith, length-append}
+-- Where the replies to items have room, so have those to the first of them; where the latter have none, the former have none.
+use Rattle.std.proofs.Common.{◌≡◌, ℕ, ◌+◌, ◌≤◌, ◌<◌, nat_le, Bool, true, false, refl, List, ◌++◌, length, ap, sym, subst, ◌∙◌, arith, length-append}
 use Rattle.std.specs.List.{concat}
 use Rattle.std.proofs.lemmas.List.Folds.{concat-append}
+use Rattle.std.proofs.lemmas.Bool.Decides.{nat_tests}
+use Rattle.gl_run.proofs.Runs.{IsPrefix-trans}
 use Rattle.gl_protocol.specs.Framing.{Item}
 use Rattle.gl_protocol.specs.Output.{AreReplies}
 use Rattle.gl_csvin.specs.Import.{csv_records}
 use Rattle.gl_replies.proofs.Fronts.{first_replies_first}
 use Rattle.gl_replies.proofs.Outputs.{one_output}
-use Rattle.gl_run.specs.Out.{IsPrefix, Fits}
+use Rattle.gl_run.specs.Out.{IsPrefix, Fits, Exceeds}
 
 shorter : (rs qs : List (List ℕ)) → length (concat rs) ≤ length (concat (rs ++ qs))
 shorter rs qs = let e : length (concat (rs ++ qs)) ≡ length (concat rs) + length (concat qs) = ap length (concat-append rs qs) ∙ length-append (concat rs) (concat qs) in omega (arith, e)
@@ -23,3 +25,17 @@ pub first_fits : (n : ℕ) (l is : List Item) (replies : List (List ℕ)) → Is
 first_fits n l is replies p out fits =
     let (firsts, of_firsts, le) = front_fits n l is p fits in
     subst (λ (rs : List (List ℕ)). length (concat rs) ≤ n) (one_output csv_records l firsts replies of_firsts out) le
+
+more_than : (a b : ℕ) → (a ≤ b → ⊥) → b < a
+more_than a b h = by (nat_le a b) refl
+  where
+    by : (t : Bool) → nat_le a b ≡ t → b < a
+    by true e = absurd (h (grind (arith, nat_tests, e)))
+    by false e = grind (arith, nat_tests, e)
+
+-- the replies to these first items have no room
+pub exceeding : (n : ℕ) (l is : List Item) (replies : List (List ℕ)) → IsPrefix l is → AreReplies csv_records l replies → (length (concat replies) ≤ n → ⊥) → Exceeds n is
+exceeding n l is replies p out small = ((l, p, replies, out, more_than (length (concat replies)) n small), λ fits. small (first_fits n l is replies p out fits))
+
+pub exceeds_within : (n : ℕ) (a b : List Item) → IsPrefix a b → Exceeds n a → Exceeds n b
+exceeds_within n a b p h = ((h.0.0, IsPrefix-trans h.0.0 a b h.0.1 p, h.0.2, h.0.3, h.0.4), λ fits. h.1 (front_fits n a b p fits))

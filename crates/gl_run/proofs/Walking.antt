@@ -1,74 +1,45 @@
 -- The contents of a sheet in turn.
-use Rattle.std.proofs.Common.{◌≡◌, inl, inr, ℕ, suc, ◌+◌, ◌≤◌, Bool, true, false, cond, ◌&&◌, List, [], ◌∷◌, ◌++◌, map, filter, find, length, Option, Some, None, if◌then◌else◌, refl, ap, sym, subst, ◌∙◌, arith, append_assoc, append-nil, length-append}
+use Rattle.std.proofs.Common.{◌≡◌, inl, inr, Bool, true, false, cond, ◌&&◌, List, [], ◌∷◌, ◌++◌, map, find, Option, Some, None, if◌then◌else◌, refl, ap, sym, subst, ◌∙◌, arith, append_assoc, append-nil}
 use Rattle.std.proofs.lemmas.Grind.{common_steps}
+use Rattle.std.proofs.lemmas.List.Elements.{All-head, All-tail}
+use Rattle.std.specs.Map.{keys_of}
 use Rattle.gl_query.specs.Lists.{Member}
 use Rattle.gl_calculus.specs.Grid.{Addr, same_addr, is_before, AreInOrder, covers, grid}
 use Rattle.gl_calculus.specs.Formula.{Content, Cells, IsSheet, content}
 use Rattle.gl_calculus.proofs.Tests.{addr_same}
 use Rattle.gl_calculus.proofs.Grants.{Before}
 use Rattle.gl_language.specs.Text.{Bytes}
+use Rattle.gl_plane.specs.Parts.{IsAddr}
 use Rattle.gl_protocol.specs.Tables.{line, set_text}
 use Rattle.gl_cells.specs.Search.{is_in_play}
-use Rattle.gl_demand.proofs.Ordered.{tail, behind, order_filter}
+use Rattle.gl_cells.specs.Sheet.{Table, sheet, ArePlaced}
+use Rattle.gl_cells.proofs.Clearing.{covers_yes}
+use Rattle.gl_demand.proofs.Ordered.{tail, behind}
 use Rattle.gl_run.specs.Replies.{set_line, set_lines}
 
 abbrev pub places : Cells → List Addr
 places S = map (λ x. x.0) S
 
--- the contents on the grid
-abbrev pub told : Cells → Cells
-told S = filter (λ x. covers grid x.0) S
-
 abbrev pub first_place : Cells → Option Addr
 first_place [] = None
 first_place (x ∷ xs) = Some x.0
 
--- ---- what is told
-
-places_told : (S : Cells) → places (told S) ≡ filter (covers grid) (places S)
-places_told [] = refl
-places_told (x ∷ xs) = by (covers grid x.0) (places_told xs)
-  where
-    by : (b : Bool) → places (told xs) ≡ filter (covers grid) (places xs) → places (cond b (x ∷ told xs) (told xs)) ≡ cond b (x.0 ∷ filter (covers grid) (places xs)) (filter (covers grid) (places xs))
-    by true ih = ap (λ ys. x.0 ∷ ys) ih
-    by false ih = ih
-
-told_in_order : (S : Cells) → IsSheet S → AreInOrder (places (told S))
-told_in_order S o = subst AreInOrder (sym (places_told S)) (order_filter (covers grid) (places S) o)
-
-told_short : (S : Cells) → length (told S) ≤ length S
-told_short [] = omega arith
-told_short (x ∷ xs) = by (covers grid x.0) (told_short xs)
-  where
-    by : (b : Bool) → length (told xs) ≤ length xs → length (cond b (x ∷ told xs) (told xs)) ≤ suc (length xs)
-    by true ih = omega (arith, ih)
-    by false ih = omega (arith, ih)
-
-told_all : (S : Cells) → length S ≤ length (told S) → told S ≡ S
-told_all [] h = refl
-told_all (x ∷ xs) h = by (covers grid x.0) refl h (told_all xs)
-  where
-    by : (b : Bool) → covers grid x.0 ≡ b → suc (length xs) ≤ length (cond b (x ∷ told xs) (told xs)) → (length xs ≤ length (told xs) → told xs ≡ xs) → cond b (x ∷ told xs) (told xs) ≡ x ∷ xs
-    by true e k ih = ap (λ (ys : Cells). x ∷ ys) (ih (omega (arith, k)))
-    by false e k ih = absurd (omega (arith, k, told_short xs))
-
 -- ---- the first behind an address
 
-find_told : (p : Addr → Bool) (S : Cells) → find (λ a. covers grid a && p a) (places S) ≡ find p (places (told S))
-find_told p [] = refl
-find_told p (x ∷ xs) = by (covers grid x.0) (find_told p xs)
-  where
-    by : (b : Bool) → find (λ a. covers grid a && p a) (places xs) ≡ find p (places (told xs)) → cond (b && p x.0) (Some x.0) (find (λ a. covers grid a && p a) (places xs)) ≡ find p (places (cond b (x ∷ told xs) (told xs)))
-    by true ih = ap (λ o. cond (p x.0) (Some x.0) o) ih
-    by false ih = ih
+-- each content is on the grid, so a search of the grid passes over none
+find_placed : (p : Addr → Bool) (es : Table) → ArePlaced es → find (λ a. covers grid a && p a) (places (sheet es)) ≡ find p (places (sheet es))
+find_placed p [] h = refl
+find_placed p (e ∷ es) h =
+    ap (λ b. cond (b && p e.0) (Some e.0) (find (λ a. covers grid a && p a) (places (sheet es)))) (covers_yes grid e.0 (All-head IsAddr e.0 (keys_of es) h))
+    ∙ ap (λ o. cond (p e.0) (Some e.0) o) (find_placed p es (All-tail IsAddr e.0 (keys_of es) h))
 
 first_of : (S : Cells) → find (λ a. true) (places S) ≡ first_place S
 first_of [] = refl
 first_of (x ∷ xs) = refl
 
 -- the first of all
-pub next_first : (S : Cells) → find (is_in_play grid None) (places S) ≡ first_place (told S)
-next_first S = find_told (λ a. true) S ∙ first_of (told S)
+next_first : (es : Table) → ArePlaced es → find (is_in_play grid None) (places (sheet es)) ≡ first_place (sheet es)
+next_first es p = find_placed (λ a. true) es p ∙ first_of (sheet es)
 
 after_not : (a b : Addr) → Before a b → is_before b a ≡ false
 after_not a b h = grind (arith, common_steps)
@@ -94,95 +65,56 @@ find_behind (d ∷ ds) x rest o =
     ∙ find_behind ds x rest (tail d.0 (places (ds ++ x ∷ rest)) o)
 
 -- the first behind one that is told
-next_behind : (S done : Cells) (x : Addr × Content) (rest : Cells) → IsSheet S → told S ≡ done ++ x ∷ rest → find (is_in_play grid (Some x.0)) (places S) ≡ first_place rest
-next_behind S done x rest o e =
-    find_told (is_before x.0) S ∙ ap (λ T. find (is_before x.0) (places T)) e
-    ∙ find_behind done x rest (subst (λ T. AreInOrder (places T)) e (told_in_order S o))
+next_behind : (es : Table) (done : Cells) (x : Addr × Content) (rest : Cells) → ArePlaced es → sheet es ≡ done ++ x ∷ rest → AreInOrder (places (done ++ x ∷ rest)) → find (is_in_play grid (Some x.0)) (places (sheet es)) ≡ first_place rest
+next_behind es done x rest p e o = find_placed (is_before x.0) es p ∙ ap (λ T. find (is_before x.0) (places T)) e ∙ find_behind done x rest o
 
 -- ---- the content of an address
 
-member_told : (S done : Cells) (x : Addr × Content) (rest : Cells) → told S ≡ done ++ x ∷ rest → Member x.0 (places S)
-member_told S done x rest e = member_of S (subst (λ T. Member x.0 (places T)) (sym e) (member_last done x rest))
-  where
-    member_of : (T : Cells) → Member x.0 (places (told T)) → Member x.0 (places T)
-    member_of [] m = m
-    member_of (y ∷ ys) m = by (covers grid y.0) (member_of ys) m
-      where
-        by : (b : Bool) → (Member x.0 (places (told ys)) → Member x.0 (places ys)) → Member x.0 (places (cond b (y ∷ told ys) (told ys))) → Member x.0 (places (y ∷ ys))
-        by true ih (inl h) = inl h
-        by true ih (inr h) = inr (ih h)
-        by false ih h = inr (ih h)
-
-content_by : (y : Addr × Content) (ys : Cells) (x : Addr × Content) (rest : Cells) → IsSheet (y ∷ ys) → ((ds : Cells) → told ys ≡ ds ++ x ∷ rest → content ys x.0 ≡ Some x.1)
-    → (b : Bool) (ds : Cells) → cond b (y ∷ told ys) (told ys) ≡ ds ++ x ∷ rest → content (y ∷ ys) x.0 ≡ Some x.1
-content_by y ys x rest o ih b ds e = by b ds e
-  where
-    later : (ds : Cells) → told ys ≡ ds ++ x ∷ rest → content (y ∷ ys) x.0 ≡ Some x.1
-    later ds k =
-        ap (λ b. if b then Some y.1 else content ys x.0) (apart y.0 x.0 (behind y.0 (places ys) o x.0 (member_told ys ds x rest k)))
-        ∙ ih ds k
-
-    by : (b : Bool) (ds : Cells) → cond b (y ∷ told ys) (told ys) ≡ ds ++ x ∷ rest → content (y ∷ ys) x.0 ≡ Some x.1
-    by true [] k =
-        let same : y ≡ x = cc in
-        ap (λ (z : Addr × Content). if same_addr x.0 z.0 then Some z.1 else content ys x.0) same ∙ ap (λ b. if b then Some x.1 else content ys x.0) (addr_same x.0)
-    by true (d ∷ ds) k = let more : told ys ≡ ds ++ x ∷ rest = cc in later ds more
-    by false ds k = later ds k
-
-content_told : (S done : Cells) (x : Addr × Content) (rest : Cells) → IsSheet S → told S ≡ done ++ x ∷ rest → content S x.0 ≡ Some x.1
-content_told [] done x rest o e = absurd (member_told [] done x rest e)
-content_told (y ∷ ys) done x rest o e = content_by y ys x rest o (λ ds k. content_told ys ds x rest (tail y.0 (places ys) o) k) (covers grid y.0) done e
+content_at : (done : Cells) (x : Addr × Content) (rest : Cells) → AreInOrder (places (done ++ x ∷ rest)) → content (done ++ x ∷ rest) x.0 ≡ Some x.1
+content_at [] x rest o = ap (λ b. if b then Some x.1 else content rest x.0) (addr_same x.0)
+content_at (d ∷ ds) x rest o =
+    ap (λ b. if b then Some d.1 else content (ds ++ x ∷ rest) x.0) (apart d.0 x.0 (behind d.0 (places (ds ++ x ∷ rest)) o x.0 (member_last ds x rest)))
+    ∙ content_at ds x rest (tail d.0 (places (ds ++ x ∷ rest)) o)
 
 -- ---- the walk
 
--- so many contents are told, and this is the place of the next
-pub record Walk (S : Cells) (i : ℕ) (next : Option Addr) (old out : Bytes) : Type 0 where
+-- the contents up to this address are told, and the rest follow
+pub record Walk (S : Cells) (after : Option Addr) (old out : Bytes) : Type 0 where
   pub done : Cells
   pub rest : Cells
-  pub joined : told S ≡ done ++ rest
-  pub counted : length done ≡ i
-  pub here : next ≡ first_place rest
+  pub joined : S ≡ done ++ rest
+  pub next : find (is_in_play grid after) (places S) ≡ first_place rest
   pub written : out ≡ old ++ set_lines done
 
-pub walk_begins : (S : Cells) (next : Option Addr) (out : Bytes) → next ≡ find (is_in_play grid None) (places S) → Walk S 0 next out out
-walk_begins S next out e = record { done = []; rest = told S; joined = refl; counted = refl; here = e ∙ next_first S; written = sym (append-nil out) }
+pub walk_begins : (es : Table) (out : Bytes) → ArePlaced es → Walk (sheet es) None out out
+walk_begins es out p = record { done = []; rest = sheet es; joined = refl; next = next_first es p; written = sym (append-nil out) }
 
 lines_more : (done : Cells) (x : Addr × Content) → set_lines (done ++ x ∷ []) ≡ set_lines done ++ line (set_text x)
 lines_more [] x = append-nil (line (set_text x))
 lines_more (d ∷ ds) x = ap (λ t. line (set_text d) ++ t) (lines_more ds x) ∙ sym (append_assoc (line (set_text d)) (set_lines ds) (line (set_text x)))
 
-pub walk_on : (S : Cells) (i : ℕ) (a : Addr) (old out : Bytes) → IsSheet S → Walk S i (Some a) old out → (out' : Bytes) → out' ≡ out ++ set_line a (content S a)
-    → (next : Option Addr) → next ≡ find (is_in_play grid (Some a)) (places S) → Walk S (i + 1) next old out'
-walk_on S i a old out o h out' more next e = by h.done h.rest h.joined h.counted h.here h.written
+pub walk_on : (es : Table) (after : Option Addr) (a : Addr) (old out out' : Bytes) → ArePlaced es → IsSheet (sheet es) → find (is_in_play grid after) (places (sheet es)) ≡ Some a
+    → out' ≡ out ++ set_line a (content (sheet es) a) → Walk (sheet es) after old out → Walk (sheet es) (Some a) old out'
+walk_on es after a old out out' p o e more h = by h.done h.rest h.joined (sym e ∙ h.next) h.written
   where
-    by : (done rest : Cells) → told S ≡ done ++ rest → length done ≡ i → Some a ≡ first_place rest → out ≡ old ++ set_lines done → Walk S (i + 1) next old out'
-    by done [] j n f w = let no : ⊥ = cc in absurd no
-    by done (x ∷ xs) j n f w =
+    by : (done rest : Cells) → sheet es ≡ done ++ rest → Some a ≡ first_place rest → out ≡ old ++ set_lines done → Walk (sheet es) (Some a) old out'
+    by done [] j f w = let no : ⊥ = cc in absurd no
+    by done (x ∷ xs) j f w =
         let at : a ≡ x.0 = cc in
-        let is : content S a ≡ Some x.1 = ap (content S) at ∙ content_told S done x xs o j in
-        let here : next ≡ first_place xs = e ∙ ap (λ b. find (is_in_play grid (Some b)) (places S)) at ∙ next_behind S done x xs o j in
+        let ordered : AreInOrder (places (done ++ x ∷ xs)) = subst (λ T. AreInOrder (places T)) j o in
+        let is : content (sheet es) a ≡ Some x.1 = ap (content (sheet es)) at ∙ ap (λ T. content T x.0) j ∙ content_at done x xs ordered in
         let said : out' ≡ out ++ line (set_text x) = more ∙ ap (λ c. out ++ set_line a c) is ∙ ap (λ b. out ++ line (set_text (b, x.1))) at in
         record {
           done = done ++ x ∷ [];
           rest = xs;
           joined = j ∙ sym (append_assoc done (x ∷ []) xs);
-          counted = length-append done (x ∷ []) ∙ omega (arith, n);
-          here = here;
+          next = ap (λ b. find (is_in_play grid (Some b)) (places (sheet es))) at ∙ next_behind es done x xs p j ordered;
           written = said ∙ ap (λ t. t ++ line (set_text x)) w ∙ append_assoc old (set_lines done) (line (set_text x)) ∙ ap (λ t. old ++ t) (sym (lines_more done x));
         }
 
-pub walk_ends : (S : Cells) (i : ℕ) (next : Option Addr) (old out : Bytes) → Walk S i next old out → length S ≤ i → out ≡ old ++ set_lines S
-walk_ends S i next old out h end = h.written ∙ ap (λ T. old ++ set_lines T) all
+pub walk_ends : (S : Cells) (after : Option Addr) (old out : Bytes) → find (is_in_play grid after) (places S) ≡ None → Walk S after old out → out ≡ old ++ set_lines S
+walk_ends S after old out e h = by h.rest h.joined (sym e ∙ h.next)
   where
-    none_left : (rest : Cells) → length (h.done ++ rest) ≤ length h.done → h.done ++ rest ≡ h.done
-    none_left [] k = append-nil h.done
-    none_left (x ∷ xs) k = absurd (omega (arith, k, length-append h.done (x ∷ xs)))
-
-    long : length (told S) ≡ length h.done + length h.rest
-    long = ap length h.joined ∙ length-append h.done h.rest
-
-    whole : told S ≡ S
-    whole = told_all S (omega (arith, long, h.counted, end))
-
-    all : h.done ≡ S
-    all = sym (none_left h.rest (omega (arith, long, length-append h.done h.rest, told_short S, h.counted, end))) ∙ sym h.joined ∙ whole
+    by : (rest : Cells) → S ≡ h.done ++ rest → None ≡ first_place rest → out ≡ old ++ set_lines S
+    by [] j f = h.written ∙ ap (λ T. old ++ set_lines T) (sym (j ∙ append-nil h.done))
+    by (x ∷ xs) j f = let no : ⊥ = cc in absurd no

@@ -54,7 +54,8 @@ pub fn answer_line<F: Fn(u8, u64, u64) -> u64, L: Watch>(
     requires line { payload_len line.now ≡ None }
     requires kept { IsKept (script_of script.old) }
     ensures acts { IfOk result (λ reply.
-        Acts csv_records (version_tree version) (script_of script.old) (Line line.now) (script_of script.new) reply.items) }
+        Acts csv_records (version_tree version) (script_of script.old) (Line line.now)
+        (script_of script.new) reply.items) }
     ensures spends { IfOk result (λ reply. Spends (version_tree version) (known_of script.old)
         (Line line.now) reply.items (known_of script.new) steps.old steps.new) }
     ensures err { OnErr result (script_of script.new ≡ script_of script.old) }
@@ -80,8 +81,12 @@ fn answer_request<F: Fn(u8, u64, u64) -> u64, L: Watch>(
     requires kind { kind ≤ 2 }
     requires proper { IsProperRequest request }
     requires kept { IsKept (script_of script.old) }
-    ensures acts { IfOk result (λ reply. (l : Bytes) → payload_len l ≡ None → Asks l request
-        → Acts csv_records (version_tree version) (script_of script.old) (Line l) (script_of script.new) reply.items) }
+    ensures acts { IfOk result (λ reply.
+        (l : Bytes)
+        → payload_len l ≡ None
+        → Asks l request
+        → Acts csv_records (version_tree version) (script_of script.old) (Line l)
+        (script_of script.new) reply.items) }
     ensures spends { IfOk result (λ reply. (l : Bytes) → payload_len l ≡ None → Asks l request
         → Spends (version_tree version) (known_of script.old) (Line l) reply.items
         (known_of script.new) steps.old steps.new) }
@@ -131,10 +136,18 @@ fn answer_other(
     requires other { IsNoQuery request }
     requires proper { IsProperRequest request }
     requires kept { IsKept (script_of script.old) }
-    ensures acts { IfOk result (λ reply. (l : Bytes) → payload_len l ≡ None → Asks l request
-        → Acts csv_records (version_tree version) (script_of script.old) (Line l) (script_of script.new) reply.items) }
-    ensures spends { IfOk result (λ reply. (n : ℕ) (l : Bytes) → payload_len l ≡ None → Asks l request
-        → Spends (version_tree version) (known_of script.old) (Line l) reply.items (known_of script.new) n n) }
+    ensures acts { IfOk result (λ reply.
+        (l : Bytes)
+        → payload_len l ≡ None
+        → Asks l request
+        → Acts csv_records (version_tree version) (script_of script.old) (Line l)
+        (script_of script.new) reply.items) }
+    ensures spends { IfOk result (λ reply.
+        (n : ℕ) (l : Bytes)
+        → payload_len l ≡ None
+        → Asks l request
+        → Spends (version_tree version) (known_of script.old) (Line l) reply.items
+        (known_of script.new) n n) }
     ensures err { OnErr result (script_of script.new ≡ script_of script.old) }
 {
     match request {

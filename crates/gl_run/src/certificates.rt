@@ -4,7 +4,8 @@ ghost use Rattle.std.specs.Fmt.{decimal};
 ghost use Rattle.std.specs.String.{string_bytes};
 ghost use Rattle.gl_calculus.specs.Key as K;
 ghost use Rattle.gl_language.specs.Text as text;
-ghost use Rattle.gl_protocol.specs.Explanations.{key_text, outcome_text, verdict_text, note_line, loop_line, explanation_text};
+ghost use Rattle.gl_protocol.specs.Explanations.{key_text, outcome_text, verdict_text, note_line};
+ghost use Rattle.gl_protocol.specs.Explanations.{loop_line, explanation_text};
 ghost use Rattle.gl_protocol.specs.Tables.{line};
 ghost use Rattle.gl_cert.specs.Claims.{claim_trees};
 ghost use Rattle.gl_cert.specs.View.{cert_tree, verdict_tree};
@@ -24,7 +25,8 @@ use std::alloc::Global;
 /// The lines of an explanation: how many notes and loops there are, a line for each, what is shown,
 /// and the verdict.
 pub(crate) fn explanation(alloc: Global, cert: &Cert, verdict: Verdict) -> Result<Vec<u8>, NoMemory>
-    ensures { IfOk result (λ reply. reply.items ≡ explanation_text (verdict_tree verdict) (cert_tree cert.now)) }
+    ensures { IfOk result (λ reply.
+        reply.items ≡ explanation_text (verdict_tree verdict) (cert_tree cert.now)) }
 {
     let mut out = String::new(alloc);
     put_counts(alloc, &mut out, cert.notes.len(), cert.loops.len())?;
@@ -51,7 +53,8 @@ fn put_counts(alloc: Global, out: &mut String, notes: usize, loops: usize) -> Re
 
 /// The lines of notes.
 fn put_notes(alloc: Global, out: &mut String, notes: &[(Key, Outcome)]) -> Result<(), NoMemory>
-    ensures { OnOk result (string_bytes out.new ≡ string_bytes out.old ++ note_lines (claim_trees notes.now)) }
+    ensures { OnOk result (
+        string_bytes out.new ≡ string_bytes out.old ++ note_lines (claim_trees notes.now)) }
 {
     for note in notes {
         let (key, outcome) = note;
@@ -62,7 +65,8 @@ fn put_notes(alloc: Global, out: &mut String, notes: &[(Key, Outcome)]) -> Resul
 
 /// The lines of loops.
 fn put_loops(alloc: Global, out: &mut String, loops: &[Key]) -> Result<(), NoMemory>
-    ensures { OnOk result (string_bytes out.new ≡ string_bytes out.old ++ loop_lines (map key_tree loops.now)) }
+    ensures { OnOk result (
+        string_bytes out.new ≡ string_bytes out.old ++ loop_lines (map key_tree loops.now)) }
 {
     for key in loops {
         put_loop(alloc, out, key)?;
@@ -81,7 +85,8 @@ fn put_note(alloc: Global, out: &mut String, key: &Key, outcome: &Outcome) -> Re
 }
 
 fn put_loop(alloc: Global, out: &mut String, key: &Key) -> Result<(), NoMemory>
-    ensures { OnOk result (string_bytes out.new ≡ string_bytes out.old ++ loop_line (key_tree key.now)) }
+    ensures { OnOk result (
+        string_bytes out.new ≡ string_bytes out.old ++ loop_line (key_tree key.now)) }
 {
     put_key(alloc, out, key)?;
     put(out, " #CYCLE!\n")
@@ -90,7 +95,8 @@ fn put_loop(alloc: Global, out: &mut String, key: &Key) -> Result<(), NoMemory>
 // ---- keys
 
 fn put_key(alloc: Global, out: &mut String, key: &Key) -> Result<(), NoMemory>
-    ensures { OnOk result (string_bytes out.new ≡ string_bytes out.old ++ key_text (key_tree key.now)) }
+    ensures { OnOk result (
+        string_bytes out.new ≡ string_bytes out.old ++ key_text (key_tree key.now)) }
 {
     match key {
         Key::Cell(env, a) => put_cell(alloc, out, env, *a),
@@ -101,7 +107,8 @@ fn put_key(alloc: Global, out: &mut String, key: &Key) -> Result<(), NoMemory>
 /// The address of a cell, behind a word where it is one of a copy.
 #[tactic(auto, using(gl_value::specs::Forms::trees))]
 fn put_cell(alloc: Global, out: &mut String, env: &Env, a: Addr) -> Result<(), NoMemory>
-    ensures { OnOk result (string_bytes out.new ≡ string_bytes out.old ++ key_text (K.Cell (frame_tree env.now) a)) }
+    ensures { OnOk result (
+        string_bytes out.new ≡ string_bytes out.old ++ key_text (K.Cell (frame_tree env.now) a)) }
 {
     match env {
         Env::Top => put_address(alloc, out, a),
@@ -115,7 +122,8 @@ fn put_cell(alloc: Global, out: &mut String, env: &Env, a: Addr) -> Result<(), N
 /// The region of a copy that settles.
 #[tactic(auto, using(gl_value::specs::Forms::trees))]
 fn put_settling(alloc: Global, out: &mut String, sheet: &SheetVal) -> Result<(), NoMemory>
-    ensures { OnOk result (string_bytes out.new ≡ string_bytes out.old ++ key_text (K.Settle (sheet_tree sheet.now))) }
+    ensures { OnOk result (
+        string_bytes out.new ≡ string_bytes out.old ++ key_text (K.Settle (sheet_tree sheet.now))) }
 {
     put(out, "settle ")?;
     put_range(alloc, out, sheet.region)
@@ -125,7 +133,8 @@ fn put_settling(alloc: Global, out: &mut String, sheet: &SheetVal) -> Result<(),
 
 /// A scalar, the size of an array, or the number of entries of an oracle.
 fn put_outcome(alloc: Global, out: &mut String, outcome: &Outcome) -> Result<(), NoMemory>
-    ensures { OnOk result (string_bytes out.new ≡ string_bytes out.old ++ outcome_text (outcome_tree outcome.now)) }
+    ensures { OnOk result (
+        string_bytes out.new ≡ string_bytes out.old ++ outcome_text (outcome_tree outcome.now)) }
 {
     match outcome {
         Outcome::Value(value) => put_value(alloc, out, value),
@@ -146,7 +155,8 @@ fn put_value(alloc: Global, out: &mut String, value: &Value) -> Result<(), NoMem
 }
 
 fn put_scalar(alloc: Global, out: &mut String, x: &Scalar) -> Result<(), NoMemory>
-    ensures { OnOk result (string_bytes out.new ≡ string_bytes out.old ++ text.scalar_text (scalar_tree x.now)) }
+    ensures { OnOk result (
+        string_bytes out.new ≡ string_bytes out.old ++ text.scalar_text (scalar_tree x.now)) }
 {
     let shown = Shown::Value(x.share()?);
     let text = shown_text(alloc, &shown)?;
@@ -187,7 +197,8 @@ fn put_verdict(alloc: Global, out: &mut String, verdict: Verdict) -> Result<(), 
 
 /// A line of a word and a number behind it.
 fn put_numbered(alloc: Global, out: &mut String, word: &str, n: u32) -> Result<(), NoMemory>
-    ensures { OnOk result (string_bytes out.new ≡ string_bytes out.old ++ line (word.now ++ decimal n)) }
+    ensures { OnOk result (
+        string_bytes out.new ≡ string_bytes out.old ++ line (word.now ++ decimal n)) }
 {
     put(out, word)?;
     put_number(alloc, out, n as usize)?;

@@ -29,7 +29,8 @@ pub fn shared(content: Option<&Content>) -> Result<Option<Content>, NoMemory>
 /// What setting one content changes.
 pub fn setting(alloc: Global, a: Addr, content: &Content) -> Result<Vec<Change>, NoMemory>
     requires { IsProperContent (content_tree content.now) }
-    ensures value { IfOk result (λ v. changes_tree v.items ≡ (a, Some (content_tree content.now)) ∷ []) }
+    ensures value { IfOk result (λ v.
+        changes_tree v.items ≡ (a, Some (content_tree content.now)) ∷ []) }
     ensures proper { IfOk result (λ v. AreProperChanges v.items) }
 {
     let content = content.share()?;

@@ -85,8 +85,9 @@ pub(crate) fn clear(alloc: Global, script: &mut Script, range: &Range) -> Result
     ensures does { IfOk result (λ reply.
         IsChanged (change (script_of script.old) (C.Request.Clear range.now))
         (script_of script.old) (script_of script.new) reply.items) }
-    ensures touches { IfOk result (λ reply. Touches reply.items
-        (places_in (sheet_of script.old.calc) range.now) (known_of script.old) (known_of script.new)) }
+    ensures touches { IfOk result (λ reply.
+        Touches reply.items (places_in (sheet_of script.old.calc) range.now) (known_of script.old)
+        (known_of script.new)) }
     ensures err { OnErr result (script_of script.new ≡ script_of script.old) }
 {
     let list = removals(alloc, script.calc.cells(), range)?;
@@ -107,8 +108,9 @@ fn clear_ready(
     ensures does { IfOk result (λ reply.
         IsChanged (change (script_of script.old) (C.Request.Clear range.now))
         (script_of script.old) (script_of script.new) reply.items) }
-    ensures touches { IfOk result (λ reply. Touches reply.items
-        (places_in (sheet_of script.old.calc) range.now) (known_of script.old) (known_of script.new)) }
+    ensures touches { IfOk result (λ reply.
+        Touches reply.items (places_in (sheet_of script.old.calc) range.now) (known_of script.old)
+        (known_of script.new)) }
     ensures err { OnErr result (script_of script.new ≡ script_of script.old) }
 {
     let reply = text_line(alloc, "ok")?;

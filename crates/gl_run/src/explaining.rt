@@ -33,8 +33,11 @@ pub(crate) fn explain<L: Watch>(
     steps: &mut Steps<L>,
 ) -> Result<Vec<u8>, NoMemory>
     requires { (rounds : ℕ) × Holds (version_tree version) calc.now rounds }
-    ensures replies { IfOk result (λ reply. (rounds : ℕ) → RepliesBy calc.now rounds (C.Request.Explain a) reply.items) }
-    ensures steps { IfOk result (λ reply. (w : Oracle) → calc.now.held ≡ Some (version_tree version, w)
+    ensures replies { IfOk result (λ reply.
+        (rounds : ℕ) → RepliesBy calc.now rounds (C.Request.Explain a) reply.items) }
+    ensures steps { IfOk result (λ reply.
+        (w : Oracle)
+        → calc.now.held ≡ Some (version_tree version, w)
         → Explaining (version_tree version) (sheet_of calc.now) w a steps.old steps.new) }
 {
     let Some(w) = calc.oracle() else {
@@ -53,7 +56,8 @@ fn explain_by<L: Watch>(
     version: Version,
     steps: &mut Steps<L>,
 ) -> Result<Vec<u8>, NoMemory>
-    requires { (rounds : ℕ) × IsAnswer (version_tree version) (sheet cells.now) (A.Settled w.now rounds) }
+    requires { (rounds : ℕ)
+        × IsAnswer (version_tree version) (sheet cells.now) (A.Settled w.now rounds) }
     ensures { IfOk result (λ reply. IsExplanation (version_tree version) (sheet cells.now) w.now a
         steps.old steps.new reply.items) }
 {
@@ -77,8 +81,11 @@ fn explain_checked<L: Watch>(
 ) -> Result<Vec<u8>, NoMemory>
     requires keys { AreSoundKeys (map (λ n. n.0) (cert_tree cert.now).notes) }
     requires loops { AreSoundKeys (cert_tree cert.now).loops }
-    ensures reply { IfOk result (λ reply. reply.items ≡ explanation_text
-        (verdict (version_tree version) (sheet cells.now) w.now a (cert_tree cert.now)) (cert_tree cert.now)) }
+    ensures reply { IfOk result (λ reply.
+        reply.items
+        ≡ explanation_text
+        (verdict (version_tree version) (sheet cells.now) w.now a (cert_tree cert.now))
+        (cert_tree cert.now)) }
     ensures later { steps.old ≤ steps.new }
     ensures steps { steps.new ≤ steps.old
         + length (cert_tree cert.now).notes + length (cert_tree cert.now).loops }

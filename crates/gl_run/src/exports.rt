@@ -43,7 +43,8 @@ fn edit_list(alloc: Global, replica: &Replica) -> Result<Vec<u8>, NoMemory>
 
 /// The lines that give the registers, in row-major order.
 fn put_edits(alloc: Global, out: &mut String, replica: &Replica) -> Result<(), NoMemory>
-    ensures { OnOk result (string_bytes out.new ≡ string_bytes out.old ++ edit_lines (registers_of replica.now)) }
+    ensures { OnOk result (
+        string_bytes out.new ≡ string_bytes out.old ++ edit_lines (registers_of replica.now)) }
 {
     for i in 0..replica.len() {
         let Some(e) = replica.register(i) else {
@@ -56,7 +57,8 @@ fn put_edits(alloc: Global, out: &mut String, replica: &Replica) -> Result<(), N
 
 /// The line that gives an edit to another replica.
 fn put_edit(alloc: Global, out: &mut String, e: &Edit) -> Result<(), NoMemory>
-    ensures { OnOk result (string_bytes out.new ≡ string_bytes out.old ++ line (edit_text (edit_tree e.now))) }
+    ensures { OnOk result (
+        string_bytes out.new ≡ string_bytes out.old ++ line (edit_text (edit_tree e.now))) }
 {
     put(out, "edit ")?;
     put_number(alloc, out, e.stamp().time() as usize)?;
@@ -70,8 +72,10 @@ fn put_edit(alloc: Global, out: &mut String, e: &Edit) -> Result<(), NoMemory>
 
 /// The text of a content behind a space, where there is one.
 fn put_text(alloc: Global, out: &mut String, content: Option<&Content>) -> Result<(), NoMemory>
-    ensures { OnOk result (string_bytes out.new
-        ≡ string_bytes out.old ++ text_behind_place (option_map content_tree (option_copied content.entry))) }
+    ensures { OnOk result (
+        string_bytes out.new
+        ≡ string_bytes out.old
+        ++ text_behind_place (option_map content_tree (option_copied content.entry))) }
 {
     match content {
         Some(c) => put_content(alloc, out, c),

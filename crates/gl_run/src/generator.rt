@@ -5,7 +5,8 @@ ghost use Rattle.std.specs.List.{range_with_len};
 ghost use Rattle.std.specs.String.{string_bytes};
 ghost use Rattle.gl_calculus.specs.Limits.{max_generated};
 ghost use Rattle.gl_protocol.specs.Tables.{line};
-ghost use Rattle.gl_protocol.specs.Output.{row_number, generated_payload, generated};
+ghost use Rattle.gl_protocol.specs.Output.{row_number, generated_payload, recursion_line};
+ghost use Rattle.gl_protocol.specs.Output.{generated};
 
 use gl_ast::{put, put_number};
 use gl_plane::NoMemory;
@@ -37,7 +38,10 @@ fn payload(alloc: Global, n: u32) -> Result<String, NoMemory>
 
 // The import of the payload.
 fn put_import(alloc: Global, out: &mut String, rows: &str) -> Result<(), NoMemory>
-    ensures { OnOk result (string_bytes out.new ≡ string_bytes out.old ++ (line (codes "import A1 " ++ decimal (length rows.now)) ++ rows.now)) }
+    ensures { OnOk result (
+        string_bytes out.new
+        ≡ string_bytes out.old
+        ++ (line (codes "import A1 " ++ decimal (length rows.now)) ++ rows.now)) }
 {
     put(out, "import A1 ")?;
     put_number(alloc, out, rows.len())?;
@@ -48,7 +52,10 @@ fn put_import(alloc: Global, out: &mut String, rows: &str) -> Result<(), NoMemor
 
 // The products of its columns.
 fn put_products(alloc: Global, out: &mut String, n: u32) -> Result<(), NoMemory>
-    ensures { OnOk result (string_bytes out.new ≡ string_bytes out.old ++ line (codes "set D1 =A1:A" ++ decimal n ++ codes "*B1:B" ++ decimal n)) }
+    ensures { OnOk result (
+        string_bytes out.new
+        ≡ string_bytes out.old
+        ++ line (codes "set D1 =A1:A" ++ decimal n ++ codes "*B1:B" ++ decimal n)) }
 {
     put(out, "set D1 =A1:A")?;
     put_number(alloc, out, n as usize)?;
@@ -60,8 +67,10 @@ fn put_products(alloc: Global, out: &mut String, n: u32) -> Result<(), NoMemory>
 
 // Their sum, and a recursion by copies.
 fn put_recursion(out: &mut String) -> Result<(), NoMemory>
-    ensures { OnOk result (string_bytes out.new ≡ string_bytes out.old ++ (line (codes "set F1 =SUM(D1#)") ++ line (codes "set H1 1")
-        ++ line (codes "set I1 =IF(H1>=256,1,VIEW(UPDATE(SHEET(H1:I1),H1,2*H1),I1)+VIEW(UPDATE(SHEET(H1:I1),H1,2*H1+1),I1))"))) }
+    ensures { OnOk result (
+        string_bytes out.new
+        ≡ string_bytes out.old
+        ++ (line (codes "set F1 =SUM(D1#)") ++ line (codes "set H1 1") ++ recursion_line)) }
 {
     put(
         out,
@@ -71,7 +80,10 @@ fn put_recursion(out: &mut String) -> Result<(), NoMemory>
 
 // A copy of the whole.
 fn put_copy(alloc: Global, out: &mut String, n: u32) -> Result<(), NoMemory>
-    ensures { OnOk result (string_bytes out.new ≡ string_bytes out.old ++ line (codes "set K1 =VIEW(UPDATE(SHEET(A1:F" ++ decimal n ++ codes "),A1,1000),F1)")) }
+    ensures { OnOk result (
+        string_bytes out.new
+        ≡ string_bytes out.old
+        ++ line (codes "set K1 =VIEW(UPDATE(SHEET(A1:F" ++ decimal n ++ codes "),A1,1000),F1)")) }
 {
     put(out, "set K1 =VIEW(UPDATE(SHEET(A1:F")?;
     put_number(alloc, out, n as usize)?;
@@ -81,7 +93,14 @@ fn put_copy(alloc: Global, out: &mut String, n: u32) -> Result<(), NoMemory>
 
 // The queries.
 fn put_queries(out: &mut String) -> Result<(), NoMemory>
-    ensures { OnOk result (string_bytes out.new ≡ string_bytes out.old ++ (line (codes "calc") ++ line (codes "show F1") ++ line (codes "show I1") ++ line (codes "show K1") ++ line (codes "quit"))) }
+    ensures { OnOk result (
+        string_bytes out.new
+        ≡ string_bytes out.old
+        ++ (line (codes "calc")
+        ++ line (codes "show F1")
+        ++ line (codes "show I1")
+        ++ line (codes "show K1")
+        ++ line (codes "quit"))) }
 {
     put(out, "calc\nshow F1\nshow I1\nshow K1\nquit\n")
 }

@@ -38,8 +38,10 @@ pub fn answer_import(
 ) -> Result<Vec<u8>, NoMemory>
     requires header { IsSome (payload_len header.now) }
     requires kept { IsKept (script_of script.old) }
-    ensures acts { IfOk result (λ reply. (version : PlainVersion)
-        → Acts csv_records version (script_of script.old) (Import header.now payload.now) (script_of script.new) reply.items) }
+    ensures acts { IfOk result (λ reply.
+        (version : PlainVersion)
+        → Acts csv_records version (script_of script.old) (Import header.now payload.now)
+        (script_of script.new) reply.items) }
     ensures spends { IfOk result (λ reply. (version : PlainVersion) (n : ℕ)
         → Spends version (known_of script.old) (Import header.now payload.now) reply.items
         (known_of script.new) n n) }
@@ -80,8 +82,11 @@ fn import_at(
     at: Addr,
     payload: &[u8],
 ) -> Result<Vec<u8>, NoMemory>
-    ensures acts { IfOk result (λ reply. (version : PlainVersion) (l : Bytes) → HasPlace l (Some at)
-        → Acts csv_records version (script_of script.old) (Import l payload.now) (script_of script.new) reply.items) }
+    ensures acts { IfOk result (λ reply.
+        (version : PlainVersion) (l : Bytes)
+        → HasPlace l (Some at)
+        → Acts csv_records version (script_of script.old) (Import l payload.now)
+        (script_of script.new) reply.items) }
     ensures spends { IfOk result (λ reply. (version : PlainVersion) (l : Bytes) (n : ℕ)
         → HasPlace l (Some at) → Spends version (known_of script.old) (Import l payload.now)
         reply.items (known_of script.new) n n) }

@@ -28,7 +28,8 @@ pub(crate) fn get(alloc: Global, cells: &Cells, a: Addr) -> Result<Vec<u8>, NoMe
 }
 
 fn content_line(alloc: Global, content: &Content) -> Result<Vec<u8>, NoMemory>
-    ensures { IfOk result (λ reply. reply.items ≡ line (text.content_text (content_tree content.now))) }
+    ensures { IfOk result (λ reply.
+        reply.items ≡ line (text.content_text (content_tree content.now))) }
 {
     let mut out = content_text(alloc, content)?;
     put(&mut out, "\n")?;
@@ -38,7 +39,8 @@ fn content_line(alloc: Global, content: &Content) -> Result<Vec<u8>, NoMemory>
 /// The reply that lists all contents: a line with their number, the version line where the script has
 /// version Two, and the line that sets each content.
 pub(crate) fn list(alloc: Global, version: Version, cells: &Cells) -> Result<Vec<u8>, NoMemory>
-    ensures { IfOk result (λ reply. reply.items ≡ list_text (version_tree version) (sheet cells.now)) }
+    ensures { IfOk result (λ reply.
+        reply.items ≡ list_text (version_tree version) (sheet cells.now)) }
 {
     let mut out = String::new(alloc);
     put(&mut out, "list ")?;
@@ -51,7 +53,8 @@ pub(crate) fn list(alloc: Global, version: Version, cells: &Cells) -> Result<Vec
 
 /// The line that gives a script its version, where it needs one.
 fn put_version(out: &mut String, version: Version) -> Result<(), NoMemory>
-    ensures { OnOk result (string_bytes out.new ≡ string_bytes out.old ++ version_lines (version_tree version)) }
+    ensures { OnOk result (
+        string_bytes out.new ≡ string_bytes out.old ++ version_lines (version_tree version)) }
 {
     match version {
         Version::One => Ok(()),
@@ -61,24 +64,24 @@ fn put_version(out: &mut String, version: Version) -> Result<(), NoMemory>
 
 /// The lines that set the contents, in row-major order.
 fn put_contents(alloc: Global, out: &mut String, cells: &Cells) -> Result<(), NoMemory>
-    ensures { OnOk result (string_bytes out.new ≡ string_bytes out.old ++ set_lines (sheet cells.now)) }
+    ensures { OnOk result (
+        string_bytes out.new ≡ string_bytes out.old ++ set_lines (sheet cells.now)) }
 {
     let grid = whole_grid();
-    let mut next = cells.next_in(&grid, None);
-    for _i in 0..cells.contents() {
-        // each content is on the grid, so there is a next one
-        let Some(a) = next else {
-            return Err(NoMemory);
-        };
+    // that the contents are in order, and each on the grid
+    let _contents = cells.contents();
+    let mut after = None;
+    while let Some(a) = cells.next_in(&grid, after) {
         put_set(alloc, out, cells, a)?;
-        next = cells.next_in(&grid, Some(a));
+        after = Some(a);
     }
     Ok(())
 }
 
 /// The line that sets the content of an address, where it has one.
 fn put_set(alloc: Global, out: &mut String, cells: &Cells, a: Addr) -> Result<(), NoMemory>
-    ensures { OnOk result (string_bytes out.new ≡ string_bytes out.old ++ set_line a (content (sheet cells.now) a)) }
+    ensures { OnOk result (
+        string_bytes out.new ≡ string_bytes out.old ++ set_line a (content (sheet cells.now) a)) }
 {
     match cells.content(a) {
         Some(content) => put_set_line(alloc, out, a, content),
@@ -87,7 +90,9 @@ fn put_set(alloc: Global, out: &mut String, cells: &Cells, a: Addr) -> Result<()
 }
 
 fn put_set_line(alloc: Global, out: &mut String, a: Addr, content: &Content) -> Result<(), NoMemory>
-    ensures { OnOk result (string_bytes out.new ≡ string_bytes out.old ++ line (set_text (a, content_tree content.now))) }
+    ensures { OnOk result (
+        string_bytes out.new
+        ≡ string_bytes out.old ++ line (set_text (a, content_tree content.now))) }
 {
     let text = content_text(alloc, content)?;
     put(out, "set ")?;

@@ -27,10 +27,12 @@ use std::alloc::Global;
 
 /// Makes the script the replica of a site, where it is none and its sheet is empty.
 pub(crate) fn site(alloc: Global, script: &mut Script, site: u16) -> Result<Vec<u8>, NoMemory>
-    ensures does { IfOk result (λ reply. IsChanged (change (script_of script.old) (C.Request.Site site))
-        (script_of script.old) (script_of script.new) reply.items) }
-    ensures touches { IfOk result (λ reply. Touches reply.items
-        (touched_by (script_of script.old) (C.Request.Site site)) (known_of script.old) (known_of script.new)) }
+    ensures does { IfOk result (λ reply.
+        IsChanged (change (script_of script.old) (C.Request.Site site)) (script_of script.old)
+        (script_of script.new) reply.items) }
+    ensures touches { IfOk result (λ reply.
+        Touches reply.items (touched_by (script_of script.old) (C.Request.Site site))
+        (known_of script.old) (known_of script.new)) }
     ensures err { OnErr result (script_of script.new ≡ script_of script.old) }
 {
     if script.replica.is_some() {
@@ -56,8 +58,9 @@ pub(crate) fn edit(
 ) -> Result<Vec<u8>, NoMemory>
     requires stamp { IsTrue (is_stamp time site) }
     requires proper { IsProperOption content }
-    ensures does { IfOk result (λ reply. IsMerged (script_of script.old) (edit_of time site at content)
-        (script_of script.new) reply.items) }
+    ensures does { IfOk result (λ reply.
+        IsMerged (script_of script.old) (edit_of time site at content) (script_of script.new)
+        reply.items) }
     ensures touches { IfOk result (λ reply. TouchesMerged reply.items (edit_of time site at content)
         (known_of script.old) (known_of script.new)) }
     ensures err { OnErr result (script_of script.new ≡ script_of script.old) }
@@ -165,9 +168,11 @@ fn put_later(alloc: Global, script: &mut Script, e: Edit) -> Result<Vec<u8>, NoM
 /// Puts the content of an address, or removes it.
 fn put_change(calc: &mut Calc, a: Addr, content: Option<Content>) -> Result<(), PutFault>
     requires { IsProperOption content }
-    ensures puts { Puts result (allowed_change (sheet_of calc.old) a (option_map content_tree content))
-        (sheet_of calc.old) (sheet_of calc.new) }
-    ensures marks { Marks (marked_by result (touched_by_one (sheet_of calc.old) a (option_map content_tree content)))
+    ensures puts { Puts result
+        (allowed_change (sheet_of calc.old) a (option_map content_tree content)) (sheet_of calc.old)
+        (sheet_of calc.new) }
+    ensures marks { Marks
+        (marked_by result (touched_by_one (sheet_of calc.old) a (option_map content_tree content)))
         calc.old calc.new }
 {
     match content {

@@ -56,7 +56,8 @@ pub(crate) fn answer_query<F: Fn(u8, u64, u64) -> u64, L: Watch>(
     requires rule { PicksBelow (F.pre (rule_of order.now)) (F.post (rule_of order.now)) }
     requires kind { kind ≤ 2 }
     ensures does { IfOk result (λ reply.
-        Does csv_records (version_tree version) (script_of script.old) (query_tree query) (script_of script.new) reply.items) }
+        Does csv_records (version_tree version) (script_of script.old) (query_tree query)
+        (script_of script.new) reply.items) }
     ensures spends { IfOk result (λ reply. SpendsAsked (version_tree version) (query_tree query)
         (known_of script.old) (known_of script.new) steps.old steps.new) }
     ensures script { script_of script.new ≡ script_of script.old }
@@ -92,7 +93,8 @@ fn settled_reply<L: Watch>(
 ) -> Result<Vec<u8>, NoMemory>
     requires held { IsSome calc.now.held }
     requires settled { Holds (version_tree version) calc.now rounds }
-    ensures replies { IfOk result (λ reply. RepliesBy calc.now rounds (query_tree query) reply.items) }
+    ensures replies { IfOk result (λ reply.
+        RepliesBy calc.now rounds (query_tree query) reply.items) }
     ensures follows { IfOk result (λ reply. FollowsBy (version_tree version) calc.now rounds
         (query_tree query) steps.old steps.new) }
 {
@@ -108,7 +110,8 @@ fn settled_reply<L: Watch>(
 
 fn show(alloc: Global, calc: &Calc, a: Addr) -> Result<Vec<u8>, NoMemory>
     requires { IsSome calc.now.held }
-    ensures { IfOk result (λ reply. (rounds : ℕ) → RepliesBy calc.now rounds (C.Request.Show a) reply.items) }
+    ensures { IfOk result (λ reply.
+        (rounds : ℕ) → RepliesBy calc.now rounds (C.Request.Show a) reply.items) }
 {
     match shown_at(calc, a) {
         Ok(shown) => shown_line(alloc, &shown),
@@ -133,7 +136,8 @@ fn rounds_line(alloc: Global, rounds: u32) -> Result<Vec<u8>, NoMemory>
 
 fn oracle(alloc: Global, calc: &Calc) -> Result<Vec<u8>, NoMemory>
     requires { IsSome calc.now.held }
-    ensures { IfOk result (λ reply. (rounds : ℕ) → RepliesBy calc.now rounds C.Request.ShowOracle reply.items) }
+    ensures { IfOk result (λ reply.
+        (rounds : ℕ) → RepliesBy calc.now rounds C.Request.ShowOracle reply.items) }
 {
     let Some(w) = calc.oracle() else {
         unreachable!()
@@ -144,7 +148,8 @@ fn oracle(alloc: Global, calc: &Calc) -> Result<Vec<u8>, NoMemory>
 
 fn why(alloc: Global, calc: &Calc, a: Addr) -> Result<Vec<u8>, NoMemory>
     requires { IsSome calc.now.held }
-    ensures { IfOk result (λ reply. (rounds : ℕ) → RepliesBy calc.now rounds (C.Request.Why a) reply.items) }
+    ensures { IfOk result (λ reply.
+        (rounds : ℕ) → RepliesBy calc.now rounds (C.Request.Why a) reply.items) }
 {
     match calc.why(a) {
         Some(why) => why_line(alloc, why),
@@ -163,7 +168,8 @@ fn why_line(alloc: Global, why: Why) -> Result<Vec<u8>, NoMemory>
 }
 
 fn obstacle_line(alloc: Global, obstacle: Obstacle) -> Result<Vec<u8>, NoMemory>
-    ensures { IfOk result (λ reply. reply.items ≡ line (why_text (Blocked (obstacle_tree obstacle)))) }
+    ensures { IfOk result (λ reply.
+        reply.items ≡ line (why_text (Blocked (obstacle_tree obstacle)))) }
 {
     match obstacle {
         Obstacle::Edge => text_line(alloc, "edge"),

@@ -54,7 +54,8 @@ fn parse_word(fault: &ParseFault) -> Option<&'static str>
 }
 
 fn lex_word(fault: &LexFault) -> Option<&'static str>
-    ensures { option_map (λ w. w.now) result ≡ option_map word_text (parse_word (ParseFault.Lex fault.now)) }
+    ensures { option_map (λ w. w.now) result
+        ≡ option_map word_text (parse_word (ParseFault.Lex fault.now)) }
 {
     match fault {
         LexFault::Token { .. } => Some("token"),

@@ -26,7 +26,8 @@ pub(crate) fn shown_at(calc: &Calc, a: Addr) -> Result<Shown, NoMemory>
 /// The table of what a range shows.
 pub(crate) fn view(alloc: Global, calc: &Calc, range: &Range) -> Result<Vec<u8>, NoMemory>
     requires { IsSome calc.now.held }
-    ensures { IfOk result (λ reply. (rounds : ℕ) → RepliesBy calc.now rounds (C.Request.View range.now) reply.items) }
+    ensures { IfOk result (λ reply.
+        (rounds : ℕ) → RepliesBy calc.now rounds (C.Request.View range.now) reply.items) }
 {
     let rows = range.last().row() + 1 - range.first().row();
     let cols = range.last().col() + 1 - range.first().col();
@@ -38,7 +39,8 @@ pub(crate) fn view(alloc: Global, calc: &Calc, range: &Range) -> Result<Vec<u8>,
 /// What the addresses of a range show, in row-major order.
 fn shown_in(alloc: Global, calc: &Calc, range: &Range) -> Result<Vec<Shown>, NoMemory>
     requires { IsSome calc.now.held }
-    ensures count { IfOk result (λ v. length v.items ≡ (extents range.now).rows * (extents range.now).cols) }
+    ensures count { IfOk result (λ v.
+        length v.items ≡ (extents range.now).rows * (extents range.now).cols) }
     ensures shown { IfOk result (λ v. AreShownIn calc.now range.now (map shown_tree v.items)) }
 {
     let mut items = Vec::new(alloc);
@@ -53,7 +55,9 @@ fn push_row(calc: &Calc, range: &Range, row: u16, items: &mut Vec<Shown>) -> Res
     requires held { IsSome calc.now.held }
     requires top { range.now.first.row ≤ row }
     requires bottom { row ≤ range.now.last.row }
-    ensures { OnOk result (IsRowShown calc.now range.now row (map shown_tree items.old.items) (map shown_tree items.new.items)) }
+    ensures { OnOk result (
+        IsRowShown calc.now range.now row (map shown_tree items.old.items)
+        (map shown_tree items.new.items)) }
 {
     for col in range.first().col()..range.last().col() + 1 {
         items.push(shown_at(calc, Addr { row, col })?)?;

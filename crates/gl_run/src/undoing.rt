@@ -32,8 +32,9 @@ pub(crate) fn undo(alloc: Global, script: &mut Script) -> Result<Vec<u8>, NoMemo
     requires { IsKept (script_of script.old) }
     ensures does { IfOk result (λ reply. IsChanged (change (script_of script.old) C.Request.Undo)
         (script_of script.old) (script_of script.new) reply.items) }
-    ensures touches { IfOk result (λ reply. Touches reply.items
-        (touched_by (script_of script.old) C.Request.Undo) (known_of script.old) (known_of script.new)) }
+    ensures touches { IfOk result (λ reply.
+        Touches reply.items (touched_by (script_of script.old) C.Request.Undo) (known_of script.old)
+        (known_of script.new)) }
     ensures err { OnErr result (script_of script.new ≡ script_of script.old) }
 {
     if script.replica.is_some() {
@@ -52,8 +53,9 @@ fn undo_step(alloc: Global, script: &mut Script, list: Vec<Change>) -> Result<Ve
     requires { StepsBack script.old list.items }
     ensures does { IfOk result (λ reply. IsChanged (change (script_of script.old) C.Request.Undo)
         (script_of script.old) (script_of script.new) reply.items) }
-    ensures touches { IfOk result (λ reply. Touches reply.items
-        (touched_by (script_of script.old) C.Request.Undo) (known_of script.old) (known_of script.new)) }
+    ensures touches { IfOk result (λ reply.
+        Touches reply.items (touched_by (script_of script.old) C.Request.Undo) (known_of script.old)
+        (known_of script.new)) }
     ensures err { OnErr result (script_of script.new ≡ script_of script.old) }
 {
     let reply = text_line(alloc, "ok")?;
@@ -71,8 +73,9 @@ pub(crate) fn redo(alloc: Global, script: &mut Script) -> Result<Vec<u8>, NoMemo
     requires { IsKept (script_of script.old) }
     ensures does { IfOk result (λ reply. IsChanged (change (script_of script.old) C.Request.Redo)
         (script_of script.old) (script_of script.new) reply.items) }
-    ensures touches { IfOk result (λ reply. Touches reply.items
-        (touched_by (script_of script.old) C.Request.Redo) (known_of script.old) (known_of script.new)) }
+    ensures touches { IfOk result (λ reply.
+        Touches reply.items (touched_by (script_of script.old) C.Request.Redo) (known_of script.old)
+        (known_of script.new)) }
     ensures err { OnErr result (script_of script.new ≡ script_of script.old) }
 {
     if script.replica.is_some() {
@@ -90,8 +93,9 @@ fn redo_step(alloc: Global, script: &mut Script, list: Vec<Change>) -> Result<Ve
     requires { StepsForward script.old list.items }
     ensures does { IfOk result (λ reply. IsChanged (change (script_of script.old) C.Request.Redo)
         (script_of script.old) (script_of script.new) reply.items) }
-    ensures touches { IfOk result (λ reply. Touches reply.items
-        (touched_by (script_of script.old) C.Request.Redo) (known_of script.old) (known_of script.new)) }
+    ensures touches { IfOk result (λ reply.
+        Touches reply.items (touched_by (script_of script.old) C.Request.Redo) (known_of script.old)
+        (known_of script.new)) }
     ensures err { OnErr result (script_of script.new ≡ script_of script.old) }
 {
     let reply = text_line(alloc, "ok")?;
@@ -140,7 +144,8 @@ fn is_ordered(cells: &Cells)
 /// What comes, and what goes.
 fn parted(alloc: Global, list: Vec<Change>) -> Result<Parts, NoMemory>
     requires { AreProperChanges list.items }
-    ensures coming { IfOk result (λ parts. sheet parts.coming.items ≡ coming (changes_tree list.items)) }
+    ensures coming { IfOk result (λ parts.
+        sheet parts.coming.items ≡ coming (changes_tree list.items)) }
     ensures going { IfOk result (λ parts. parts.going.items ≡ going (changes_tree list.items)) }
     ensures proper { IfOk result (λ parts. AreProper parts.coming.items) }
 {

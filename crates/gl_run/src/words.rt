@@ -1,7 +1,9 @@
 // The words with which the program is called.
-ghost use Rattle.std.specs.Prelude.{◌≡◌, ◌≤◌, ◌==◌, ◌&&◌, ◌||◌, nat_lt, nat_le, slice_index, Some, None, IfSome, option_map, if◌then◌else◌};
+ghost use Rattle.std.specs.Prelude.{◌≡◌, ◌≤◌, ◌==◌, ◌&&◌, ◌||◌, nat_lt, nat_le, slice_index, Some};
+ghost use Rattle.std.specs.Prelude.{None, IfSome, option_map, if◌then◌else◌};
 ghost use Rattle.gl_calculus.specs.Limits.{max_generated};
-ghost use Rattle.gl_protocol.specs.Words.{kind_of, size_of, order_pair, gen_pair, then_pair, or_else, plain_call};
+ghost use Rattle.gl_protocol.specs.Words.{kind_of, size_of, order_pair, gen_pair, then_pair};
+ghost use Rattle.gl_protocol.specs.Words.{or_else, plain_call};
 ghost use Rattle.gl_run.specs.Call.{words_call};
 ghost use Rattle.gl_run.specs.CallView.{call_tree, IsPossible};
 
@@ -138,7 +140,8 @@ fn gen_then_order(first: &str, size: &str, second: &str, kind: &str) -> Option<C
 // One pair.
 fn one_pair(word: &str, value: &str) -> Option<Call>
     ensures call { option_map call_tree result
-        ≡ or_else (order_pair word.now value.now plain_call) (gen_pair word.now value.now plain_call) }
+        ≡ or_else (order_pair word.now value.now plain_call)
+        (gen_pair word.now value.now plain_call) }
     ensures possible { IfSome result IsPossible }
 {
     match order_pair(word, value, PLAIN) {

@@ -5,9 +5,9 @@ use Rattle.std.proofs.Common.{◌≡◌, ◌<◌, ◌≤◌, ℕ, false, IsTrue,
 use Rattle.gl_language.specs.Text.{Bytes}
 use Rattle.gl_protocol.specs.Output.{is_within_limit, items_of}
 use Rattle.gl_protocol.specs.Framing.{Item}
-use Rattle.gl_run.specs.Out.{IsPrefix, WroteAll, WroteAllTelling, WroteSome, WroteCut, Fits}
+use Rattle.gl_run.specs.Out.{IsPrefix, WroteAll, WroteAllTelling, WroteSome, WroteCut, Exceeds}
 use Rattle.gl_run.specs.Status.{IfDone}
-use Rattle.gl_run.proofs.Fitting.{first_fits}
+use Rattle.gl_run.proofs.Fitting.{exceeding}
 use Rattle.gl_run.specs.declared.top.Status.{Status}
 use Rattle.gl_run.specs.declared.top.Status.TheVariants.{Done, Usage, NoMemory, ReadFault, WriteFault, InputLimit}
 use Rattle.gridlet_c.specs.Statuses.{Leaves}
@@ -20,7 +20,7 @@ module _ (input : Option Bytes) (script : Bytes) (old new : Option Bytes) (room 
       → IfDone status (λ refused. IfSome input (λ t. IsTrue (is_within_limit t) × WroteAllTelling old new (items_of t) refused))
       → (status ≡ Usage → ⊥) → (status ≡ ReadFault → ⊥)
       → (status ≡ WriteFault → IfSome input (λ t. WroteCut old new (items_of t)))
-      → (status ≡ WriteFault → (n : ℕ) → room n → IfSome input (λ t. ¬ Fits n (items_of t)))
+      → (status ≡ WriteFault → (n : ℕ) → room n → IfSome input (λ t. Exceeds n (items_of t)))
       → (status ≡ NoMemory → IfSome input (λ t. WroteSome old new (items_of t)))
       → (status ≡ InputLimit → IfSome input (λ t. (is_within_limit t ≡ false) × WroteAll old new (items_of t)))
       → Leaves status script old new room
@@ -30,7 +30,7 @@ module _ (input : Option Bytes) (script : Bytes) (old new : Option Bytes) (room 
   leaves ReadFault done usage read write told memory limit = read refl
   leaves WriteFault done usage read write told memory limit = (
     of_script (λ t. WroteCut old new (items_of t)) (write refl),
-    λ n h. of_script (λ t. ¬ Fits n (items_of t)) (told refl n h),
+    λ n h. of_script (λ t. Exceeds n (items_of t)) (told refl n h),
   )
   leaves InputLimit done usage read write told memory limit = of_script (λ t. (is_within_limit t ≡ false) × WroteAll old new (items_of t)) (limit refl)
 
@@ -48,7 +48,7 @@ module _ (script : Bytes) (taken : List ℕ) (n : ℕ) (short : n < length taken
   cut l part h =
       let size : n < length (concat h.0) = omega (arith, ap length (written h.2)) in (
         (l, part, (h.0, h.1, n, size, front_of n h.2)),
-        λ m le fits. absurd (omega (arith, first_fits m l (items_of script) h.0 part h.1 fits)),
+        λ m le. exceeding m l (items_of script) h.0 part h.1 (λ fits. absurd (omega (arith, size, le, fits))),
       )
 
   whole : IsPrefix (items_of script) (items_of script)

@@ -3,7 +3,7 @@ use Rattle.std.specs.Prelude.{◌≡◌, ℕ, nat_lt, Bool, true, false, ◌||�
 use Rattle.std.specs.declared.option.Option.{Option}
 use Rattle.gl_language.specs.Text.{Bytes}
 use Rattle.gl_protocol.specs.Output.{is_within_limit, items_of}
-use Rattle.gl_run.specs.Out.{WroteAll, WroteAllTelling, WroteSome, WroteCut, Fits}
+use Rattle.gl_run.specs.Out.{WroteAll, WroteAllTelling, WroteSome, WroteCut, Exceeds}
 use Rattle.gl_run.specs.declared.top.Status.{Status}
 use Rattle.gl_run.specs.declared.top.Status.TheVariants.{Done, Usage, NoMemory, ReadFault, WriteFault, InputLimit}
 
@@ -17,7 +17,7 @@ Leaves (Done refused) script old new room = IsTrue (is_within_limit script) × W
 Leaves Usage script old new room = ⊥
 Leaves NoMemory script old new room = WroteSome old new (items_of script)
 Leaves ReadFault script old new room = ⊥
-Leaves WriteFault script old new room = WroteCut old new (items_of script) × ((n : ℕ) → room n → ¬ Fits n (items_of script))
+Leaves WriteFault script old new room = WroteCut old new (items_of script) × ((n : ℕ) → room n → Exceeds n (items_of script))
 Leaves InputLimit script old new room = (is_within_limit script ≡ false) × WroteAll old new (items_of script)
 
 -- the call ended by its script, so that the replies are whole

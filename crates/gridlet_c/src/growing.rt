@@ -32,11 +32,13 @@ impl Growing {
 }
 
 impl Sink for Growing {
-    ghost use Rattle.std.specs.Prelude.{Some, None};
+    ghost use Rattle.std.specs.Prelude.{⊤, Some, None};
 
     ghost taken = { λ s. Some s.taken.items };
 
     ghost faults = { λ s. s.faults };
+
+    ghost is_exact = { λ _. ⊤ };
 
     ghost plan = { λ _. None };
 

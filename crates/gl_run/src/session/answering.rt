@@ -1,7 +1,9 @@
 // The replies of a session, item by item.
-ghost use Rattle.std.specs.Prelude.{◌≡◌, ◌≢◌, ◌||◌, ◌≤◌, ℕ, false, None, IfOk, IfErr, OnOk, IfSome, codes};
+ghost use Rattle.std.specs.Prelude.{◌≡◌, ◌≢◌, ◌||◌, ◌≤◌, ℕ, false, None, IfOk, IfErr, OnOk, IfSome};
+ghost use Rattle.std.specs.Prelude.{codes};
 ghost use Rattle.std.specs.Option.{option_to_list};
 ghost use Rattle.gl_order.specs.Rule.{PicksBelow, rule_of};
+ghost use Rattle.gl_port.specs.Causes.{Stays};
 ghost use Rattle.gl_ast.specs.View.{version_tree};
 ghost use Rattle.gl_csvin.specs.Import.{csv_records};
 ghost use Rattle.gl_script.specs.Framer.{told};
@@ -70,7 +72,8 @@ impl Session {
 
     // Whether it is the line that gives a script version Two.
     fn asks_version_two(&self, ended: Ended) -> bool
-        ensures { IfSome (told ended self.now.framer) (λ item. result ≡ is_line (codes "gridlet 2") item) }
+        ensures { IfSome (told ended self.now.framer) (λ item.
+            result ≡ is_line (codes "gridlet 2") item) }
     {
         match ended {
             Ended::Line => is_version_line(self.framer.line()),
@@ -92,7 +95,8 @@ impl Session {
         requires kind { kind ≤ 2 }
         requires framed { IfSome (told ended self.old.framer) IsFramed }
         ensures acts { IfOk result (λ reply. IfSome (told ended self.old.framer) (λ item.
-            Acts csv_records (version_tree version) (script_of self.old.script) item (script_of self.new.script) reply.items)) }
+            Acts csv_records (version_tree version) (script_of self.old.script) item
+            (script_of self.new.script) reply.items)) }
         ensures spends { IfOk result (λ reply. IfSome (told ended self.old.framer) (λ item.
             Spends (version_tree version) (known_of self.old.script) item reply.items
             (known_of self.new.script) steps.old steps.new)) }
@@ -135,7 +139,8 @@ impl Session {
         requires kind { kind ≤ 2 }
         requires framed { IfSome (told ended self.old.framer) IsFramed }
         ensures acts { IfOk result (λ reply. IfSome (told ended self.old.framer) (λ item.
-            Act (fresh (known_of self.old.script) steps.old) item (state_of self.new steps.new) reply.items)) }
+            Act (fresh (known_of self.old.script) steps.old) item (state_of self.new steps.new)
+            reply.items)) }
         ensures framer { self.new.framer ≡ self.old.framer }
         ensures refused { self.new.refused ≡ self.old.refused }
     {
@@ -202,9 +207,11 @@ impl Session {
         ensures framer { self.new.framer ≡ self.old.framer }
         ensures err { IfErr result (λ stop. Leaves stop
             (state_of self.old steps.old) (K.taken sink.old) (K.taken sink.new)
-            (K.takes sink.old) (K.faults sink.old) (K.faults sink.new)
+            (K.takes sink.old) (K.is_exact sink.old) (K.is_exact sink.new)
+            (K.faults sink.old) (K.faults sink.new)
             (option_to_list (told ended self.old.framer))) }
-        ensures count { OnOk result (K.faults sink.new ≡ K.faults sink.old) }
+        ensures count { OnOk result (Stays (K.is_exact sink.old) (K.is_exact sink.new)
+            (K.faults sink.old) (K.faults sink.new)) }
     {
         let quits = self.quits(ended);
         let reply = self.answer(alloc, order, kind, steps, ended)?;
@@ -236,9 +243,11 @@ impl Session {
         ensures framer { self.new.framer ≡ self.old.framer }
         ensures err { IfErr result (λ stop. Leaves stop
             (state_of self.old steps.old) (K.taken sink.old) (K.taken sink.new)
-            (K.takes sink.old) (K.faults sink.old) (K.faults sink.new)
+            (K.takes sink.old) (K.is_exact sink.old) (K.is_exact sink.new)
+            (K.faults sink.old) (K.faults sink.new)
             (option_to_list (told ended self.old.framer))) }
-        ensures count { OnOk result (K.faults sink.new ≡ K.faults sink.old) }
+        ensures count { OnOk result (Stays (K.is_exact sink.old) (K.is_exact sink.new)
+            (K.faults sink.old) (K.faults sink.new)) }
     {
         match ended {
             Ended::Nothing => Ok(false),
@@ -268,9 +277,11 @@ impl Session {
             (stream_at self.new.framer ≡ (step (stream_at self.old.framer) b).0) }
         ensures err { IfErr result (λ stop. Leaves stop
             (state_of self.old steps.old) (K.taken sink.old) (K.taken sink.new)
-            (K.takes sink.old) (K.faults sink.old) (K.faults sink.new)
+            (K.takes sink.old) (K.is_exact sink.old) (K.is_exact sink.new)
+            (K.faults sink.old) (K.faults sink.new)
             (option_to_list (step (stream_at self.old.framer) b).1)) }
-        ensures count { OnOk result (K.faults sink.new ≡ K.faults sink.old) }
+        ensures count { OnOk result (Stays (K.is_exact sink.old) (K.is_exact sink.new)
+            (K.faults sink.old) (K.faults sink.new)) }
     {
         let ended = self.framer.push(b)?;
         self.emit(alloc, order, kind, steps, ended, sink)
@@ -299,9 +310,11 @@ impl Session {
             → stream_at self.new.framer ≡ after (stream_at self.old.framer) chunk.now) }
         ensures err { IfErr result (λ stop. Leaves stop
             (state_of self.old steps.old) (K.taken sink.old) (K.taken sink.new)
-            (K.takes sink.old) (K.faults sink.old) (K.faults sink.new)
+            (K.takes sink.old) (K.is_exact sink.old) (K.is_exact sink.new)
+            (K.faults sink.old) (K.faults sink.new)
             (up_to_quit (gained (stream_at self.old.framer) chunk.now))) }
-        ensures count { OnOk result (K.faults sink.new ≡ K.faults sink.old) }
+        ensures count { OnOk result (Stays (K.is_exact sink.old) (K.is_exact sink.new)
+            (K.faults sink.old) (K.faults sink.new)) }
     {
         for b in chunk {
             match self.take_byte(alloc, order, kind, steps, *b, sink) {
@@ -331,9 +344,11 @@ impl Session {
             (option_to_list (closing (stream_at self.old.framer)))) }
         ensures err { IfErr result (λ stop. Leaves stop
             (state_of self.old steps.old) (K.taken sink.old) (K.taken sink.new)
-            (K.takes sink.old) (K.faults sink.old) (K.faults sink.new)
+            (K.takes sink.old) (K.is_exact sink.old) (K.is_exact sink.new)
+            (K.faults sink.old) (K.faults sink.new)
             (option_to_list (closing (stream_at self.old.framer)))) }
-        ensures count { OnOk result (K.faults sink.new ≡ K.faults sink.old) }
+        ensures count { OnOk result (Stays (K.is_exact sink.old) (K.is_exact sink.new)
+            (K.faults sink.old) (K.faults sink.new)) }
     {
         let ended = self.framer.finish()?;
         self.emit(alloc, order, kind, steps, ended, sink)?;

@@ -3,7 +3,7 @@ use Rattle.std.specs.declared.alloc.Global.{Global}
 use Rattle.std.specs.Fmt.{decimal}
 use Rattle.std.specs.String.{string_bytes}
 use Rattle.gl_protocol.specs.Tables.{line}
-use Rattle.gl_protocol.specs.Output.{generated_payload}
+use Rattle.gl_protocol.specs.Output.{generated_payload, recursion_line}
 use Rattle.gl_run.proofs.Generating.{all_parts}
 use Rattle.gl_run.proofs.generator.generated.Goals as goal
 
@@ -16,7 +16,7 @@ returns c =
     let products = line (codes "set D1 =A1:A" ++ last ++ codes "*B1:B" ++ last) in
     let one = line (codes "set F1 =SUM(D1#)") in
     let two = line (codes "set H1 1") in
-    let three = line (codes "set I1 =IF(H1>=256,1,VIEW(UPDATE(SHEET(H1:I1),H1,2*H1),I1)+VIEW(UPDATE(SHEET(H1:I1),H1,2*H1+1),I1))") in
+    let three = recursion_line in
     let copy = line (codes "set K1 =VIEW(UPDATE(SHEET(A1:F" ++ last ++ codes "),A1,1000),F1)") in
     let queries = line (codes "calc") ++ line (codes "show F1") ++ line (codes "show I1") ++ line (codes "show K1") ++ line (codes "quit") in
     let is : c.deref.result.now ≡ rows = c.deref.ensures ∙ c.in_ok-rows.ensures in

@@ -1,6 +1,6 @@
 use Rattle.std.proofs.Common.{◌≡◌, ◌∙◌, ℕ, List, false, IsTrue, subst}
 use Rattle.gl_protocol.specs.Output.{is_within_limit, items_of, generated}
-use Rattle.gl_run.specs.Out.{WroteAll, WroteAllTelling, WroteSome, WroteCut, Fits}
+use Rattle.gl_run.specs.Out.{WroteAll, WroteAllTelling, WroteSome, WroteCut, Exceeds}
 use Rattle.gl_run.specs.Spends.{SpendsScript}
 use Rattle.gl_run.specs.Status.{IfDone}
 use Rattle.gl_run.specs.declared.top.Status.TheVariants as status
@@ -26,7 +26,7 @@ returns-in-Ok-clause-write_fault_wrote g c =
 
 pub returns-in-Ok-clause-write_fault_told : goal.returns-in-Ok-clause-write_fault_told
 returns-in-Ok-clause-write_fault_told g c =
-    let P : List ℕ → Type 0 = λ x. c.serve.result ≡ status.WriteFault → (room : ℕ) → g.K.Sink.takes c.args.sink.now room → ¬ Fits room (items_of x) in
+    let P : List ℕ → Type 0 = λ x. c.serve.result ≡ status.WriteFault → (room : ℕ) → g.K.Sink.takes c.args.sink.now room → Exceeds room (items_of x) in
     subst P (c.new-source.ensures.left ∙ c.in-Ok.ensures) c.serve.ensures.write_fault_told
 
 pub returns-in-Ok-clause-no_memory_wrote : goal.returns-in-Ok-clause-no_memory_wrote
