@@ -2,16 +2,20 @@
 #![tactic(auto)]
 
 mod addresses;
+mod columns;
 mod frames;
 mod scalars;
+mod settings;
 mod sheets;
 mod texts;
 
 pub use addresses::{address, range, size};
+pub use columns::{Column, Form, first_column, put_column, sheet_with};
 pub use frames::{
     frame, holding, in_copy, made, one_entry, plain_sheet, share_sheet, sheet_in, update_in,
     with_number,
 };
 pub use scalars::{copy, number, scalar, text};
+pub use settings::{Setting, setting_of};
 pub use sheets::{content_of, put_line, sheet_of};
 pub use texts::{formula_word, push_times, scalar_text, value_text};
