@@ -1,6 +1,5 @@
 //! Functions on scalars: the extents of what they come to, and its elements.
-use crate::turns::{Setting, last_turn};
-use gl_ast::Version;
+use crate::turns::turn_under;
 use gl_demand::{Found, Outcome};
 use gl_plane::Oracle;
 use gl_value::Value;
@@ -53,15 +52,7 @@ fn comes_to(alloc: Global, row: &Row) -> Result<bool, Fail> {
     let (line, rows, cols, text) = *row;
     let cells = sheet_of(alloc, &[line])?;
     let w = Oracle::new(alloc);
-    let at = Setting {
-        alloc,
-        cells: &cells,
-        w: &w,
-        version: Version::One,
-    };
-    let Some(turn) = last_turn(at, "A1")? else {
-        return Err("a cycle".into());
-    };
+    let turn = turn_under(alloc, &cells, &w, "A1")?;
     match &turn.found {
         Found::Ready(Outcome::Value(v)) => {
             Ok(extents(v) == (rows, cols) && value_text(alloc, v)?.as_str() == text)

@@ -1,11 +1,11 @@
 //! What cells come to, many of them through copies.
 use crate::texts::found_text;
-use crate::turns::{Setting, cell, first_turn, last_turn};
+use crate::turns::{cell, first_turn, last_turn};
 use gl_ast::Version;
 use gl_plane::Oracle;
 use std::alloc::Global;
 use std::test::Fail;
-use tests_common::sheet_of;
+use tests_common::{Setting, sheet_of};
 
 /// A sheet with its version, and of some cells what their first evaluation finds, and their last one.
 struct Sheet {

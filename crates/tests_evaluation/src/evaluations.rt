@@ -4,21 +4,31 @@ ghost use Rattle.gl_calculus.specs.Sound.{is_sound_value};
 ghost use Rattle.gl_value.specs.View.{value_tree};
 
 use crate::table::Table;
-use crate::turns::{Setting, cell, first_turn, turn};
-use gl_ast::Version;
+use crate::turns::{cell, first_turn, turn};
 use gl_demand::{Found, Key, Outcome, Steps, Turn, Watch, shown, spilled};
 use gl_plane::{Oracle, Permit, Share};
 use gl_value::Value;
 use std::alloc::Global;
 use std::test::Fail;
-use tests_common::{scalar_text, sheet_of};
+use tests_common::{scalar_text, setting_of, sheet_of};
 
 /// How often the wanted key was seen, and how often another.
 #[derive(Drop)]
-struct Sights {
+pub struct Sights {
     wanted: Key,
-    wanted_seen: u64,
-    others_seen: u64,
+    pub wanted_seen: u64,
+    pub others_seen: u64,
+}
+
+impl Sights {
+    /// Nothing was seen yet.
+    pub fn new(wanted: Key) -> Sights {
+        Sights {
+            wanted,
+            wanted_seen: 0,
+            others_seen: 0,
+        }
+    }
 }
 
 impl Watch for Sights {
@@ -36,17 +46,8 @@ impl Watch for Sights {
 fn seen_of(alloc: Global, names: &[&str]) -> Result<(u64, u64, u64), Fail> {
     let cells = sheet_of(alloc, &["set A1 =1+B1", "set B1 =2"])?;
     let w = Oracle::new(alloc);
-    let at = Setting {
-        alloc,
-        cells: &cells,
-        w: &w,
-        version: Version::One,
-    };
-    let mut steps = Steps::new(Sights {
-        wanted: cell("A1")?,
-        wanted_seen: 0,
-        others_seen: 0,
-    });
+    let at = setting_of(alloc, &cells, &w);
+    let mut steps = Steps::new(Sights::new(cell("A1")?));
     let table = Table::new(alloc);
     for name in names {
         turn(at, &cell(name)?, &table, &mut steps)?;
@@ -83,12 +84,7 @@ fn value_in(found: &Found) -> Option<&Value>
 fn array(alloc: Global) -> Result<Found, Fail> {
     let cells = sheet_of(alloc, &["set A1 =SEQUENCE(2,3)"])?;
     let w = Oracle::new(alloc);
-    let at = Setting {
-        alloc,
-        cells: &cells,
-        w: &w,
-        version: Version::One,
-    };
+    let at = setting_of(alloc, &cells, &w);
     let Turn { found, .. } = first_turn(at, &cell("A1")?.share()?)?;
     Ok(found)
 }

@@ -16,6 +16,8 @@ mod notes;
 #[cfg(test)]
 mod picks;
 #[cfg(test)]
+mod ranges;
+#[cfg(test)]
 mod references;
 #[cfg(test)]
 mod results;
@@ -23,6 +25,8 @@ mod results;
 mod resumed;
 #[cfg(test)]
 mod runs;
+#[cfg(test)]
+mod settling;
 #[cfg(test)]
 mod sheets;
 #[cfg(test)]

@@ -7,37 +7,21 @@ ghost use Rattle.gl_ast.specs.View.{version_tree};
 ghost use Rattle.gl_cells.specs.Sheet.{sheet};
 
 use crate::large::chain;
-use crate::results::{kept_after, setting};
+use crate::results::kept_after;
 use crate::resumed::run_with;
 use crate::runs::Sight;
-use crate::turns::Setting;
 use gl_cells::Cells;
 use gl_core::Results;
 use gl_plane::Oracle;
 use std::alloc::Global;
 use std::test::Fail;
-use tests_common::{put_line, sheet_of};
-
-/// In this row of the first column the number of the row, from that of the row above.
-fn put_next(alloc: Global, cells: &mut Cells, row: u16) -> Result<(), Fail> {
-    let above = row.saturating_sub(1);
-    put_line(
-        alloc,
-        cells,
-        format!(in alloc; "set A{row} =A{above}+1")?.as_str(),
-    )
-}
+use tests_common::{Form, Setting, first_column, setting_of, sheet_with};
 
 /// A formula in each row of the first column and one more below them, and their total.
 fn total(alloc: Global) -> Result<Cells, Fail> {
-    let mut cells = sheet_of(
-        alloc,
-        &["set A1 =1", "set B1 =SUM(A1:A9999,C1)", "set C1 =A9999+1"],
-    )?;
-    for row in 2..10_000u16 {
-        put_next(alloc, &mut cells, row)?;
-    }
-    Ok(cells)
+    let lines = ["set A1 =1", "set B1 =SUM(A1:A9999,C1)", "set C1 =A9999+1"];
+    let numbers = first_column(2, 9999, Form::Above("", "+1"));
+    sheet_with(alloc, &lines, &numbers)
 }
 
 /// The sum of the numbers up to 10,000.
@@ -46,7 +30,9 @@ const TOTAL: Sight = Sight::Number(50_005_000);
 /// The results of the total and all that it reads. They are evaluated from the last key to the
 /// first, so that the total finds all that it needs.
 fn total_results(at: &Setting<'_>) -> Result<Results, Fail>
-    ensures { IfOk result (AreTrue same_key (program (version_tree at.now.version) (sheet at.now.cells.now) at.now.w.now)) }
+    ensures { IfOk result
+        (AreTrue same_key
+        (program (version_tree at.now.version) (sheet at.now.cells.now) at.now.w.now)) }
 {
     let ran = run_with(at, &["B1", "C1"], Results::new(at.alloc), 1)?;
     // each formula twice, but for the first and the total
@@ -60,8 +46,11 @@ fn total_results(at: &Setting<'_>) -> Result<Results, Fail>
 /// same ones. The note of the total wakes it behind each of its 10,000 reads.
 fn by_notes(at: &Setting<'_>, results: Results, names: &[&str], kind: u8) -> Result<Results, Fail>
     requires kind { kind ≤ 2 }
-    requires true_notes { AreTrue same_key (program (version_tree at.now.version) (sheet at.now.cells.now) at.now.w.now) results }
-    ensures { IfOk result (AreTrue same_key (program (version_tree at.now.version) (sheet at.now.cells.now) at.now.w.now)) }
+    requires true_notes { AreTrue same_key
+        (program (version_tree at.now.version) (sheet at.now.cells.now) at.now.w.now) results }
+    ensures { IfOk result
+        (AreTrue same_key
+        (program (version_tree at.now.version) (sheet at.now.cells.now) at.now.w.now)) }
 {
     let ran = run_with(at, names, results, kind)?;
     if (ran.known, ran.steps) != (10_001, 0)
@@ -87,7 +76,7 @@ fn left_by_notes(at: &Setting<'_>, kind: u8) -> Result<usize, Fail>
 fn a_note_of_ten_thousand_reads(rt: HostRuntime) -> Result<(), Fail> {
     let w = Oracle::new(rt.alloc());
     let cells = total(rt.alloc())?;
-    let at = setting(rt.alloc(), &cells, &w);
+    let at = setting_of(rt.alloc(), &cells, &w);
     for kind in 0u8..3 {
         assert_eq!(rt; left_by_notes(&at, kind)?, 10_001, "by {kind}");
     }
@@ -98,8 +87,11 @@ fn a_note_of_ten_thousand_reads(rt: HostRuntime) -> Result<(), Fail> {
 /// the rule of this kind, and takes no step.
 fn whole(at: &Setting<'_>, results: Results, kind: u8) -> Result<Results, Fail>
     requires kind { kind ≤ 2 }
-    requires true_notes { AreTrue same_key (program (version_tree at.now.version) (sheet at.now.cells.now) at.now.w.now) results }
-    ensures { IfOk result (AreTrue same_key (program (version_tree at.now.version) (sheet at.now.cells.now) at.now.w.now)) }
+    requires true_notes { AreTrue same_key
+        (program (version_tree at.now.version) (sheet at.now.cells.now) at.now.w.now) results }
+    ensures { IfOk result
+        (AreTrue same_key
+        (program (version_tree at.now.version) (sheet at.now.cells.now) at.now.w.now)) }
 {
     let kept = kept_after(at, results, "D1:E9999")?;
     if kept.len() != 200_039 {
@@ -129,7 +121,7 @@ fn chain_kept(at: &Setting<'_>) -> Result<(usize, usize, usize), Fail> {
 fn a_long_chain_stays_or_goes_as_a_whole(rt: HostRuntime) -> Result<(), Fail> {
     let w = Oracle::new(rt.alloc());
     let cells = chain(rt.alloc())?;
-    let at = setting(rt.alloc(), &cells, &w);
+    let at = setting_of(rt.alloc(), &cells, &w);
     assert_eq!(rt; chain_kept(&at)?, (200_039, 200_039, 0));
     Ok(())
 }

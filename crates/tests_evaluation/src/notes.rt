@@ -9,14 +9,13 @@ ghost use Rattle.gl_memo.specs.Notes.{notes_of};
 ghost use Rattle.gl_core.specs.State.{note_trees, HaveSoundParts, IsFor};
 
 use crate::runs::{Sight, fresh, run, seen_as, started};
-use crate::turns::{Setting, cell, cells_at};
-use gl_ast::Version;
+use crate::turns::{cell, cells_at};
 use gl_core::{Core, copy_notes};
 use gl_demand::{Key, Outcome, Silent, Steps};
 use gl_memo::Memo;
 use gl_plane::{Oracle, Range};
 use std::test::Fail;
-use tests_common::sheet_of;
+use tests_common::{Setting, setting_of, sheet_of};
 
 /// A second table of the notes that a run leaves.
 fn notes_after(
@@ -25,7 +24,10 @@ fn notes_after(
     steps: &mut Steps<Silent>,
 ) -> Result<Memo<Key, Outcome, Range>, Fail>
     requires { IsFor (version_tree at.now.version) (sheet at.now.cells.now) at.now.w.now core }
-    ensures true_notes { IfOk result (λ m. AreTrue same_key (program (version_tree at.now.version) (sheet at.now.cells.now) at.now.w.now) (note_trees (notes_of m))) }
+    ensures true_notes { IfOk result (λ m.
+        AreTrue same_key
+        (program (version_tree at.now.version) (sheet at.now.cells.now) at.now.w.now)
+        (note_trees (notes_of m))) }
     ensures sound_notes { IfOk result (λ m. HaveSoundParts (note_trees (notes_of m))) }
 {
     match run(at, core, 0, steps) {
@@ -71,12 +73,7 @@ fn noted_keys_take_no_steps(rt: HostRuntime) -> Result<(), Fail> {
             "set D1 =C1",
         ],
     )?;
-    let at = Setting {
-        alloc,
-        cells: &cells,
-        w: &w,
-        version: Version::One,
-    };
+    let at = setting_of(alloc, &cells, &w);
     assert_eq!(rt;
         run_twice(&at, &["B1"], "B1")?,
         (253, 505, 0, Sight::Number(64))

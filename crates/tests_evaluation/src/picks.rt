@@ -5,8 +5,6 @@ ghost use Rattle.gl_cells.specs.Sheet.{sheet};
 ghost use Rattle.gl_core.specs.State.{IsFor};
 
 use crate::runs::fresh;
-use crate::turns::Setting;
-use gl_ast::Version;
 use gl_core::{Core, Picked};
 use gl_demand::{Silent, Steps};
 use gl_order::{Order, by_kind};
@@ -14,7 +12,7 @@ use gl_plane::Oracle;
 use std::alloc::Global;
 use std::cell::Cell;
 use std::test::Fail;
-use tests_common::sheet_of;
+use tests_common::{Setting, setting_of, sheet_of};
 
 /// Picks the first idle key: how many keys were idle, and what the pick leaves of it.
 fn pick_first(
@@ -39,12 +37,7 @@ fn pick_first(
 fn three_picks(alloc: Global) -> Result<([(u64, Picked); 3], u64), Fail> {
     let w = Oracle::new(alloc);
     let cells = sheet_of(alloc, &["set A1 =B1+1", "set B1 =1"])?;
-    let at = Setting {
-        alloc,
-        cells: &cells,
-        w: &w,
-        version: Version::One,
-    };
+    let at = setting_of(alloc, &cells, &w);
     let mut steps = Steps::new(Silent);
     let mut core = fresh(&at, &["A1"])?;
     let first = pick_first(&at, &mut core, &mut steps)?;
@@ -73,12 +66,7 @@ fn picks_one_by_one(rt: HostRuntime) -> Result<(), Fail> {
 fn asked(alloc: Global) -> Result<(u64, u64), Fail> {
     let w = Oracle::new(alloc);
     let cells = sheet_of(alloc, &["set A1 =B1+1", "set B1 =C1+1", "set C1 =1"])?;
-    let at = Setting {
-        alloc,
-        cells: &cells,
-        w: &w,
-        version: Version::One,
-    };
+    let at = setting_of(alloc, &cells, &w);
     let core = fresh(&at, &["A1", "B1", "C1"])?;
     let calls = Cell::new(0u64);
     let order = Order::new(
@@ -91,7 +79,7 @@ fn asked(alloc: Global) -> Result<(u64, u64), Fail> {
         },
     );
     let mut steps = Steps::new(Silent);
-    match core.run_all(alloc, &order, 0, &cells, &w, Version::One, &mut steps) {
+    match core.run_all(alloc, &order, 0, at.cells, at.w, at.version, &mut steps) {
         Ok(_) => Ok((calls.get(), steps.done())),
         Err(e) => Err(e.into()),
     }

@@ -1,7 +1,6 @@
 //! What references look at, read and come to.
 use crate::texts::{found_text, keys_text, ranges_text};
-use crate::turns::{Setting, last_turn};
-use gl_ast::Version;
+use crate::turns::turn_under;
 use gl_plane::{Oracle, Permit};
 use std::alloc::Global;
 use std::test::Fail;
@@ -11,7 +10,7 @@ use tests_common::{one_entry, put_line, sheet_of};
 const REFERENCES: [&str; 3] = ["set A1 =SEQUENCE(2,2)", "set D1 =7", "set A5 3"];
 
 /// The root, the rows, the columns and the permit of an entry.
-type Entry = (&'static str, u16, u16, Permit);
+pub type Entry = (&'static str, u16, u16, Permit);
 
 /// A formula in Z1, what it looks at and reads, and what it comes to.
 type Row = (&'static str, &'static str, &'static str, &'static str);
@@ -70,7 +69,8 @@ const UNDER: [Under; 4] = [
     },
 ];
 
-fn oracle_of(alloc: Global, entry: Option<Entry>) -> Result<Oracle, Fail> {
+/// An oracle of at most one entry.
+pub fn oracle_of(alloc: Global, entry: Option<Entry>) -> Result<Oracle, Fail> {
     match entry {
         Some((root, rows, cols, permit)) => one_entry(alloc, root, rows, cols, permit),
         None => Ok(Oracle::new(alloc)),
@@ -83,15 +83,7 @@ fn refers(alloc: Global, entry: Option<Entry>, row: &Row) -> Result<bool, Fail> 
     let mut cells = sheet_of(alloc, &REFERENCES)?;
     put_line(alloc, &mut cells, line)?;
     let w = oracle_of(alloc, entry)?;
-    let at = Setting {
-        alloc,
-        cells: &cells,
-        w: &w,
-        version: Version::One,
-    };
-    let Some(turn) = last_turn(at, "Z1")? else {
-        return Err("a cycle".into());
-    };
+    let turn = turn_under(alloc, &cells, &w, "Z1")?;
     Ok(
         ranges_text(alloc, &turn.looked)?.as_str() == looked
             && keys_text(alloc, &turn.reads)?.as_str() == reads

@@ -8,15 +8,12 @@ ghost use Rattle.gl_cells.specs.Sheet.{sheet};
 
 use crate::resumed::{Ran, run_with, seen_of};
 use crate::runs::{Sight, fresh, outcome_seen, run, seen_as};
-use crate::turns::{Setting, cell};
-use gl_ast::Version;
-use gl_cells::Cells;
+use crate::turns::cell;
 use gl_core::Results;
 use gl_demand::{Silent, Steps};
 use gl_plane::{Changes, Oracle};
-use std::alloc::Global;
 use std::test::Fail;
-use tests_common::{range, sheet_of};
+use tests_common::{Setting, range, setting_of, sheet_of};
 
 /// A chain of two formulas over a number, a formula apart, and one that loops.
 const LINES: [&str; 5] = [
@@ -38,16 +35,6 @@ const SEEN: [Sight; 4] = [
 
 /// The formulas that don't loop.
 const CHAIN: [&str; 3] = ["B1", "C1", "D1"];
-
-/// What runs over a sheet go by, under an oracle.
-pub fn setting<'a>(alloc: Global, cells: &'a Cells, w: &'a Oracle) -> Setting<'a> {
-    Setting {
-        alloc,
-        cells,
-        w,
-        version: Version::One,
-    }
-}
 
 /// A run without results is as one from the start: the steps, the keys that are known, and what is
 /// seen of each formula by its place and by its key.
@@ -75,7 +62,7 @@ fn begins_alike(at: &Setting<'_>, kind: u8) -> Result<bool, Fail>
 fn a_run_without_results_is_one_from_the_start(rt: HostRuntime) -> Result<(), Fail> {
     let w = Oracle::new(rt.alloc());
     let cells = sheet_of(rt.alloc(), &LINES)?;
-    let at = setting(rt.alloc(), &cells, &w);
+    let at = setting_of(rt.alloc(), &cells, &w);
     for kind in 0u8..3 {
         assert!(rt; begins_alike(&at, kind)?, "by {kind}");
     }
@@ -84,8 +71,11 @@ fn a_run_without_results_is_one_from_the_start(rt: HostRuntime) -> Result<(), Fa
 
 /// The results that stay where the range has changed.
 pub fn kept_after(at: &Setting<'_>, results: Results, place: &str) -> Result<Results, Fail>
-    requires { AreTrue same_key (program (version_tree at.now.version) (sheet at.now.cells.now) at.now.w.now) results }
-    ensures { IfOk result (AreTrue same_key (program (version_tree at.now.version) (sheet at.now.cells.now) at.now.w.now)) }
+    requires { AreTrue same_key
+        (program (version_tree at.now.version) (sheet at.now.cells.now) at.now.w.now) results }
+    ensures { IfOk result
+        (AreTrue same_key
+        (program (version_tree at.now.version) (sheet at.now.cells.now) at.now.w.now)) }
 {
     let mut changes = Changes::new(at.alloc);
     changes.add(&[range(place)?])?;
@@ -97,7 +87,9 @@ pub fn kept_after(at: &Setting<'_>, results: Results, place: &str) -> Result<Res
 /// The results of a run over these formulas that stay where the range has changed.
 fn results_behind(at: &Setting<'_>, names: &[&str], place: &str, kind: u8) -> Result<Results, Fail>
     requires { kind ≤ 2 }
-    ensures { IfOk result (AreTrue same_key (program (version_tree at.now.version) (sheet at.now.cells.now) at.now.w.now)) }
+    ensures { IfOk result
+        (AreTrue same_key
+        (program (version_tree at.now.version) (sheet at.now.cells.now) at.now.w.now)) }
 {
     let ran = run_with(at, names, Results::new(at.alloc), kind)?;
     kept_after(at, ran.results, place)
@@ -169,7 +161,7 @@ fn goes_on(at: &Setting<'_>, change: &Change, kind: u8) -> Result<bool, Fail>
 fn what_rests_on_a_change_takes_steps(rt: HostRuntime) -> Result<(), Fail> {
     let w = Oracle::new(rt.alloc());
     let cells = sheet_of(rt.alloc(), &LINES)?;
-    let at = setting(rt.alloc(), &cells, &w);
+    let at = setting_of(rt.alloc(), &cells, &w);
     for change in &CHANGES {
         for kind in 0u8..3 {
             assert!(rt; goes_on(&at, change, kind)?, "{} by {kind}", change.place);
@@ -223,7 +215,7 @@ fn stay(at: &Setting<'_>, row: &Staying) -> Result<bool, Fail> {
 fn outcomes_stay(rt: HostRuntime) -> Result<(), Fail> {
     let w = Oracle::new(rt.alloc());
     let cells = sheet_of(rt.alloc(), &LINES)?;
-    let at = setting(rt.alloc(), &cells, &w);
+    let at = setting_of(rt.alloc(), &cells, &w);
     for row in &STAYING {
         assert!(rt; stay(&at, row)?, "{}", row.0);
     }
@@ -234,7 +226,7 @@ fn outcomes_stay(rt: HostRuntime) -> Result<(), Fail> {
 fn other_keys_have_no_outcome(rt: HostRuntime) -> Result<(), Fail> {
     let w = Oracle::new(rt.alloc());
     let cells = sheet_of(rt.alloc(), &LINES)?;
-    let at = setting(rt.alloc(), &cells, &w);
+    let at = setting_of(rt.alloc(), &cells, &w);
     let kept = results_behind(&at, &FORMULAS, "C1:C1", 0)?;
     for (name, want) in [
         ("A1", None),

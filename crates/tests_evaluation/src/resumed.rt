@@ -10,13 +10,13 @@ ghost use Rattle.gl_cells.specs.Sheet.{sheet};
 ghost use Rattle.gl_core.specs.State.{state_of, seeds_of, notes_in, IsFor};
 
 use crate::runs::{Sight, are_seeds, run, seen_as};
-use crate::turns::{Setting, cell};
+use crate::turns::cell;
 use gl_core::{Core, MAX_DEMANDED, Quiet, Results, top_keys};
 use gl_demand::{Key, Steps, Watch};
 use gl_plane::Addr;
 use std::alloc::Global;
 use std::test::Fail;
-use tests_common::address;
+use tests_common::{Setting, address};
 
 /// The steps that were taken for each of some keys.
 #[derive(Drop)]
@@ -73,8 +73,10 @@ fn places_of(alloc: Global, names: &[&str]) -> Result<Vec<Addr>, Fail> {
 
 /// The core of these cells, with results that are true.
 pub fn resumed(at: &Setting<'_>, places: &[Addr], results: Results) -> Result<Core, Fail>
-    requires { AreTrue same_key (program (version_tree at.now.version) (sheet at.now.cells.now) at.now.w.now) results }
-    ensures for_it { IfOk result (λ core. IsFor (version_tree at.now.version) (sheet at.now.cells.now) at.now.w.now core) }
+    requires { AreTrue same_key
+        (program (version_tree at.now.version) (sheet at.now.cells.now) at.now.w.now) results }
+    ensures for_it { IfOk result (λ core.
+        IsFor (version_tree at.now.version) (sheet at.now.cells.now) at.now.w.now core) }
     ensures ordered { IfOk result (λ core. AreOrdered [] (notes_in core)) }
 {
     if places.len() > MAX_DEMANDED {
@@ -102,9 +104,13 @@ pub fn seen_of(alloc: Global, quiet: &Quiet, count: usize) -> Result<Vec<Sight>,
 /// The results of a run: they are true.
 fn results_of(at: &Setting<'_>, quiet: Quiet) -> Results
     requires ordered { AreOrdered [] (notes_in quiet) }
-    requires quiet { IsQuiet same_key (program (version_tree at.now.version) (sheet at.now.cells.now) at.now.w.now) (seeds_of quiet) (state_of quiet) }
-    requires for_it { IsFor (version_tree at.now.version) (sheet at.now.cells.now) at.now.w.now quiet }
-    ensures { AreTrue same_key (program (version_tree at.now.version) (sheet at.now.cells.now) at.now.w.now) result }
+    requires quiet { IsQuiet same_key
+        (program (version_tree at.now.version) (sheet at.now.cells.now) at.now.w.now)
+        (seeds_of quiet) (state_of quiet) }
+    requires for_it { IsFor (version_tree at.now.version) (sheet at.now.cells.now) at.now.w.now
+        quiet }
+    ensures { AreTrue same_key
+        (program (version_tree at.now.version) (sheet at.now.cells.now) at.now.w.now) result }
 {
     quiet.into_results()
 }
@@ -112,8 +118,11 @@ fn results_of(at: &Setting<'_>, quiet: Quiet) -> Results
 /// Runs these cells by the rule of a kind, beginning with results that are true.
 pub fn run_with(at: &Setting<'_>, names: &[&str], results: Results, kind: u8) -> Result<Ran, Fail>
     requires kind { kind ≤ 2 }
-    requires true_notes { AreTrue same_key (program (version_tree at.now.version) (sheet at.now.cells.now) at.now.w.now) results }
-    ensures { IfOk result (λ r. AreTrue same_key (program (version_tree at.now.version) (sheet at.now.cells.now) at.now.w.now) r.results) }
+    requires true_notes { AreTrue same_key
+        (program (version_tree at.now.version) (sheet at.now.cells.now) at.now.w.now) results }
+    ensures { IfOk result (λ r.
+        AreTrue same_key
+        (program (version_tree at.now.version) (sheet at.now.cells.now) at.now.w.now) r.results) }
 {
     let core = resumed(at, &places_of(at.alloc, names)?, results)?;
     let mut steps = Steps::new(no_counts(at.alloc, names)?);

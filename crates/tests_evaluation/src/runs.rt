@@ -13,23 +13,26 @@ ghost use Rattle.gl_cells.specs.Sheet.{sheet};
 ghost use Rattle.gl_memo.specs.Notes.{notes_of};
 ghost use Rattle.gl_demand.specs.View.{key_tree};
 ghost use Rattle.gl_demand.specs.Sound.{AreSoundKeys};
-ghost use Rattle.gl_core.specs.State.{state_of, seeds_of, notes_in, note_trees, HaveSoundParts, IsFor};
+ghost use Rattle.gl_core.specs.State.{state_of, seeds_of, notes_in, note_trees, HaveSoundParts};
+ghost use Rattle.gl_core.specs.State.{IsFor};
 
-use crate::turns::{Setting, cells_at};
+use crate::turns::{cell, cells_at};
 use gl_cells::Cells;
 use gl_core::{Core, CoreFault, MAX_DEMANDED, Quiet, Seen};
-use gl_demand::{Budget, Key, Outcome, Steps, Watch, proper};
+use gl_demand::{Budget, Key, Outcome, Silent, Steps, Watch, proper};
 use gl_memo::Memo;
 use gl_order::{Order, by_kind};
 use gl_plane::Range;
 use gl_value::{Scalar, Value};
 use std::test::Fail;
+use tests_common::Setting;
 
 /// What is seen of a cell.
 #[derive(Clone, Copy, PartialEq, Eq, Debug)]
 pub enum Sight {
     Number(i64),
     Depth,
+    CopyRounds,
     Loops,
     NotDemanded,
     Other,
@@ -52,7 +55,7 @@ pub fn outcome_seen(outcome: &Outcome) -> Sight {
         Outcome::Settled(_) => Sight::Other,
         Outcome::Abort(budget) => match budget {
             Budget::Depth => Sight::Depth,
-            Budget::CopyRounds => Sight::Other,
+            Budget::CopyRounds => Sight::CopyRounds,
         },
     }
 }
@@ -72,7 +75,10 @@ pub fn seen_as(seen: Option<Seen<'_>>) -> Sight {
 pub fn are_seeds(cells: &Cells, keys: &[Key]) -> bool
     ensures apart { IsTrue result → AreDistinct (map key_tree keys.now) }
     ensures sound { IsTrue result → AreSoundKeys (map key_tree keys.now) }
-    ensures proper { IsTrue result → (k : K.Key) → Member k (map key_tree keys.now) → IsProperKey (sheet cells.now) k }
+    ensures proper { IsTrue result
+        → (k : K.Key)
+        → Member k (map key_tree keys.now)
+        → IsProperKey (sheet cells.now) k }
 {
     let Some((first, rest)) = keys.split_first() else {
         return true;
@@ -95,9 +101,12 @@ pub fn started(
     seeds: Vec<Key>,
     kept: Memo<Key, Outcome, Range>,
 ) -> Result<Core, Fail>
-    requires true_notes { AreTrue same_key (program (version_tree at.now.version) (sheet at.now.cells.now) at.now.w.now) (note_trees (notes_of kept)) }
+    requires true_notes { AreTrue same_key
+        (program (version_tree at.now.version) (sheet at.now.cells.now) at.now.w.now)
+        (note_trees (notes_of kept)) }
     requires sound_notes { HaveSoundParts (note_trees (notes_of kept)) }
-    ensures { IfOk result (λ core. IsFor (version_tree at.now.version) (sheet at.now.cells.now) at.now.w.now core) }
+    ensures { IfOk result (λ core.
+        IsFor (version_tree at.now.version) (sheet at.now.cells.now) at.now.w.now core) }
 {
     if seeds.len() > MAX_DEMANDED {
         return Err("too many seeds".into());
@@ -113,7 +122,8 @@ pub fn started(
 
 /// The core of these cells, without notes.
 pub fn fresh(at: &Setting<'_>, names: &[&str]) -> Result<Core, Fail>
-    ensures { IfOk result (λ core. IsFor (version_tree at.now.version) (sheet at.now.cells.now) at.now.w.now core) }
+    ensures { IfOk result (λ core.
+        IsFor (version_tree at.now.version) (sheet at.now.cells.now) at.now.w.now core) }
 {
     let seeds = cells_at(at.alloc, names)?;
     started(at, seeds, Memo::new(at.alloc))
@@ -127,12 +137,32 @@ pub fn run<L: Watch>(
     steps: &mut Steps<L>,
 ) -> Result<Quiet, CoreFault>
     requires kind { kind ≤ 2 }
-    requires for_it { IsFor (version_tree at.now.version) (sheet at.now.cells.now) at.now.w.now core }
-    ensures quiet { IfOk result (λ q. IsQuiet same_key (program (version_tree at.now.version) (sheet at.now.cells.now) at.now.w.now) (seeds_of core) (state_of q)) }
+    requires for_it { IsFor (version_tree at.now.version) (sheet at.now.cells.now) at.now.w.now
+        core }
+    ensures quiet { IfOk result (λ q.
+        IsQuiet same_key
+        (program (version_tree at.now.version) (sheet at.now.cells.now) at.now.w.now)
+        (seeds_of core) (state_of q)) }
     ensures seeds { IfOk result (λ q. seeds_of q ≡ seeds_of core) }
-    ensures stays { IfOk result (λ q. IsFor (version_tree at.now.version) (sheet at.now.cells.now) at.now.w.now q) }
-    ensures ordered { IfOk result (λ q. AreOrdered [] (notes_in core) → AreOrdered [] (notes_in q)) }
+    ensures stays { IfOk result (λ q.
+        IsFor (version_tree at.now.version) (sheet at.now.cells.now) at.now.w.now q) }
+    ensures ordered { IfOk result (λ q.
+        AreOrdered [] (notes_in core) → AreOrdered [] (notes_in q)) }
 {
     let order = Order::new(by_kind);
     core.run_all(at.alloc, &order, kind, at.cells, at.w, at.version, steps)
+}
+
+/// How many keys these cells demand, the steps by the pick rule of a kind, and what is seen of a cell.
+pub fn counts(
+    at: &Setting<'_>,
+    names: &[&str],
+    name: &str,
+    kind: u8,
+) -> Result<(u64, u64, Sight), Fail>
+    requires { kind ≤ 2 }
+{
+    let mut steps = Steps::new(Silent);
+    let quiet = run(at, fresh(at, names)?, kind, &mut steps)?;
+    Ok((quiet.len(), steps.done(), seen_as(quiet.seen(&cell(name)?))))
 }

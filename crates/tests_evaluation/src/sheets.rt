@@ -2,21 +2,21 @@
 ghost use Rattle.std.specs.Prelude.{◌≤◌};
 
 use crate::runs::{Sight, fresh, run, seen_as};
-use crate::turns::{Setting, cell};
-use gl_ast::Version;
+use crate::turns::cell;
 use gl_demand::{Silent, Steps};
 use gl_plane::Oracle;
+use std::alloc::Global;
 use std::test::Fail;
-use tests_common::sheet_of;
+use tests_common::{Setting, setting_of, sheet_of};
 
 /// A sheet with its seeds, how many keys these demand, how many evaluations each pick rule makes,
 /// and what is seen of some cells.
-struct Sheet {
-    lines: &'static [&'static str],
-    seeds: &'static [&'static str],
-    demanded: u64,
-    steps: [u64; 3],
-    sees: &'static [(&'static str, Sight)],
+pub struct Sheet {
+    pub lines: &'static [&'static str],
+    pub seeds: &'static [&'static str],
+    pub demanded: u64,
+    pub steps: [u64; 3],
+    pub sees: &'static [(&'static str, Sight)],
 }
 
 const SHEETS: [Sheet; 16] = [
@@ -241,21 +241,27 @@ fn holds(at: &Setting<'_>, row: &Sheet, kind: u8) -> Result<bool, Fail>
     Ok(true)
 }
 
+/// Whether the runs of a sheet under an oracle are as its table says, by each pick rule.
+pub fn by_each_rule(alloc: Global, w: &Oracle, row: &Sheet) -> Result<[bool; 3], Fail> {
+    let cells = sheet_of(alloc, row.lines)?;
+    let at = setting_of(alloc, &cells, w);
+    Ok([
+        holds(&at, row, 0)?,
+        holds(&at, row, 1)?,
+        holds(&at, row, 2)?,
+    ])
+}
+
 #[test]
 fn sheets_by_each_rule(rt: HostRuntime) -> Result<(), Fail> {
-    let alloc = rt.alloc();
-    let w = Oracle::new(alloc);
+    let w = Oracle::new(rt.alloc());
     for row in &SHEETS {
-        let cells = sheet_of(alloc, row.lines)?;
-        let at = Setting {
-            alloc,
-            cells: &cells,
-            w: &w,
-            version: Version::One,
-        };
-        for kind in 0u8..3 {
-            assert!(rt; holds(&at, row, kind)?, "{:?} by {kind}", row.lines);
-        }
+        assert_eq!(rt;
+            by_each_rule(rt.alloc(), &w, row)?,
+            [true; 3],
+            "{:?}",
+            row.lines
+        );
     }
     Ok(())
 }

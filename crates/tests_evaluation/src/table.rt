@@ -29,7 +29,10 @@ impl Known for Table {
     ghost use Rattle.gl_calculus.specs.Key.{same_key};
     ghost use Rattle.std.specs.Prelude.{find, option_map};
 
-    ghost outcomes = { λ t. λ k. option_map (λ x. outcome_tree x.outcome) (find (λ x. same_key (key_tree x.key) k) t.told.items) };
+    ghost outcomes = { λ t.
+        λ k.
+        option_map (λ x. outcome_tree x.outcome)
+        (find (λ x. same_key (key_tree x.key) k) t.told.items) };
 
     fn get(&self, k: &Key) -> Option<&Outcome> {
         first_of(self.told.as_slice(), k)
@@ -37,7 +40,9 @@ impl Known for Table {
 }
 
 fn first_of<'a>(told: &'a [Told], k: &Key) -> Option<&'a Outcome>
-    ensures { option_map outcome_tree (option_copied result) ≡ option_map (λ x. outcome_tree x.outcome) (find (λ x. same_key (key_tree x.key) (key_tree k.now)) told.now) }
+    ensures { option_map outcome_tree (option_copied result)
+        ≡ option_map (λ x. outcome_tree x.outcome)
+        (find (λ x. same_key (key_tree x.key) (key_tree k.now)) told.now) }
 {
     for x in told {
         if x.key == *k {

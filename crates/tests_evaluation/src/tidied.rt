@@ -6,17 +6,15 @@ ghost use Rattle.gl_calculus.specs.Evaluation.{program};
 ghost use Rattle.gl_ast.specs.View.{version_tree};
 ghost use Rattle.gl_cells.specs.Sheet.{sheet};
 
-use crate::large::put_link;
-use crate::results::{kept_after, outcome_of, setting};
+use crate::results::{kept_after, outcome_of};
 use crate::resumed::run_with;
 use crate::runs::Sight;
-use crate::turns::Setting;
 use gl_cells::Cells;
 use gl_core::Results;
 use gl_plane::Oracle;
 use std::alloc::Global;
 use std::test::Fail;
-use tests_common::{put_line, sheet_of};
+use tests_common::{Form, Setting, first_column, put_line, setting_of, sheet_with};
 
 /// In this row of the fourth column a copy of the chain over another number, and the chain itself.
 fn put_copy(alloc: Global, cells: &mut Cells, row: u16) -> Result<(), Fail> {
@@ -26,10 +24,8 @@ fn put_copy(alloc: Global, cells: &mut Cells, row: u16) -> Result<(), Fail> {
 
 /// A chain of 29 formulas over a number, and a hundred copies of it.
 fn copies(alloc: Global) -> Result<Cells, Fail> {
-    let mut cells = sheet_of(alloc, &["set A30 5"])?;
-    for row in 1..30usize {
-        put_link(alloc, &mut cells, row)?;
-    }
+    let links = first_column(1, 29, Form::Below("", "+1"));
+    let mut cells = sheet_with(alloc, &["set A30 5"], &links)?;
     for row in 1..101u16 {
         put_copy(alloc, &mut cells, row)?;
     }
@@ -57,8 +53,11 @@ fn shape(results: &Results, name: &str) -> Result<Shape, Fail> {
 /// The results say the same of a row and the chain before and behind tidying: of the chain, its
 /// copy, the settling of that, and the cell.
 fn tidied(at: &Setting<'_>, results: Results, name: &str, row: u16) -> Result<Results, Fail>
-    requires { AreTrue same_key (program (version_tree at.now.version) (sheet at.now.cells.now) at.now.w.now) results }
-    ensures { IfOk result (AreTrue same_key (program (version_tree at.now.version) (sheet at.now.cells.now) at.now.w.now)) }
+    requires { AreTrue same_key
+        (program (version_tree at.now.version) (sheet at.now.cells.now) at.now.w.now) results }
+    ensures { IfOk result
+        (AreTrue same_key
+        (program (version_tree at.now.version) (sheet at.now.cells.now) at.now.w.now)) }
 {
     let want = (
         60,
@@ -84,8 +83,11 @@ fn again(
     kind: u8,
 ) -> Result<Results, Fail>
     requires kind { kind ≤ 2 }
-    requires true_notes { AreTrue same_key (program (version_tree at.now.version) (sheet at.now.cells.now) at.now.w.now) results }
-    ensures { IfOk result (AreTrue same_key (program (version_tree at.now.version) (sheet at.now.cells.now) at.now.w.now)) }
+    requires true_notes { AreTrue same_key
+        (program (version_tree at.now.version) (sheet at.now.cells.now) at.now.w.now) results }
+    ensures { IfOk result
+        (AreTrue same_key
+        (program (version_tree at.now.version) (sheet at.now.cells.now) at.now.w.now)) }
 {
     let ran = run_with(at, &[name], results, kind)?;
     if (ran.known, ran.steps) != (60, 0) || ran.seen.first() != Some(&copied(row)) {
@@ -98,8 +100,11 @@ fn again(
 /// gone: as many however often they are tidied, and a run goes by them alone.
 fn next(at: &Setting<'_>, results: Results, row: u16, kind: u8) -> Result<Results, Fail>
     requires kind { kind ≤ 2 }
-    requires true_notes { AreTrue same_key (program (version_tree at.now.version) (sheet at.now.cells.now) at.now.w.now) results }
-    ensures { IfOk result (AreTrue same_key (program (version_tree at.now.version) (sheet at.now.cells.now) at.now.w.now)) }
+    requires true_notes { AreTrue same_key
+        (program (version_tree at.now.version) (sheet at.now.cells.now) at.now.w.now) results }
+    ensures { IfOk result
+        (AreTrue same_key
+        (program (version_tree at.now.version) (sheet at.now.cells.now) at.now.w.now)) }
 {
     let above = row.saturating_sub(1).max(1);
     let gone = format!(in at.alloc; "D{above}:D{above}")?;
@@ -125,7 +130,7 @@ fn last_count(at: &Setting<'_>, kind: u8) -> Result<usize, Fail>
 fn results_are_tidied_between_runs(rt: HostRuntime) -> Result<(), Fail> {
     let w = Oracle::new(rt.alloc());
     let cells = copies(rt.alloc())?;
-    let at = setting(rt.alloc(), &cells, &w);
+    let at = setting_of(rt.alloc(), &cells, &w);
     for kind in 0u8..3 {
         assert_eq!(rt; last_count(&at, kind)?, 60, "by {kind}");
     }

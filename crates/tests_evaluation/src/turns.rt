@@ -4,23 +4,13 @@ ghost use Rattle.gl_demand.specs.Sound.{IsSoundFound};
 ghost use Rattle.gl_demand.specs.View.{key_tree, found_tree};
 
 use crate::table::Table;
-use gl_ast::Version;
 use gl_cells::Cells;
 use gl_demand::{Found, Key, Silent, Steps, Turn, Watch, proper, step};
 use gl_plane::Oracle;
 use gl_value::Env;
 use std::alloc::Global;
 use std::test::Fail;
-use tests_common::address;
-
-/// What evaluations go by: the sheet, the oracle and the version.
-#[derive(Clone, Copy)]
-pub struct Setting<'a> {
-    pub alloc: Global,
-    pub cells: &'a Cells,
-    pub w: &'a Oracle,
-    pub version: Version,
-}
+use tests_common::{Setting, address, setting_of};
 
 /// The key of a cell of the sheet.
 pub fn cell(name: &str) -> Result<Key, Fail> {
@@ -100,4 +90,12 @@ pub fn last_turn(at: Setting<'_>, name: &str) -> Result<Option<Turn>, Fail> {
         return Ok(None);
     }
     Ok(Some(turn(at, &cell(name)?, &table, &mut Steps::new(Silent))?))
+}
+
+/// The last evaluation of a cell of a sheet under an oracle, in version 1.
+pub fn turn_under(alloc: Global, cells: &Cells, w: &Oracle, name: &str) -> Result<Turn, Fail> {
+    match last_turn(setting_of(alloc, cells, w), name)? {
+        Some(turn) => Ok(turn),
+        None => Err("a cycle".into()),
+    }
 }
