@@ -1,32 +1,17 @@
 //! Certificates of long chains and long ranges.
-use crate::settings::{Setting, found, verdict_on};
-use gl_ast::{Version, put, put_number};
+use crate::settings::{found, verdict_on};
 use gl_cells::Cells;
 use gl_cert::Verdict;
 use gl_demand::{Silent, Steps};
 use gl_plane::Oracle;
 use std::alloc::Global;
 use std::test::Fail;
-use tests_common::{put_line, sheet_of};
-
-/// The formula that adds 1 to the cell below, in this row of the first column.
-fn put_link(alloc: Global, cells: &mut Cells, row: usize) -> Result<(), Fail> {
-    let mut line = String::new(alloc);
-    put(&mut line, "set A")?;
-    put_number(alloc, &mut line, row)?;
-    put(&mut line, " =A")?;
-    put_number(alloc, &mut line, row.saturating_add(1))?;
-    put(&mut line, "+1")?;
-    put_line(alloc, cells, line.as_str())
-}
+use tests_common::{Form, Setting, first_column, setting_of, sheet_with};
 
 /// A chain of so many formulas over a blank.
 fn chain(alloc: Global, length: usize) -> Result<Cells, Fail> {
-    let mut cells = Cells::new(alloc);
-    for row in 1..=length {
-        put_link(alloc, &mut cells, row)?;
-    }
-    Ok(cells)
+    let links = first_column(1, length, Form::Below("", "+1"));
+    sheet_with(alloc, &[], &links)
 }
 
 /// How many notes the first cell's certificate has, how many steps the walk takes, and how many the
@@ -51,33 +36,16 @@ fn chains_are_explained(rt: HostRuntime) -> Result<(), Fail> {
         let alloc = rt.alloc();
         let cells = chain(alloc, *length)?;
         let w = Oracle::new(alloc);
-        let at = Setting {
-            alloc,
-            cells: &cells,
-            w: &w,
-            version: Version::One,
-        };
+        let at = setting_of(alloc, &cells, &w);
         assert_eq!(rt; counts(at)?, (*length, *steps, *length as u64));
     }
     Ok(())
 }
 
-/// A formula that is a number, in this row of the first column.
-fn put_term(alloc: Global, cells: &mut Cells, row: usize) -> Result<(), Fail> {
-    let mut line = String::new(alloc);
-    put(&mut line, "set A")?;
-    put_number(alloc, &mut line, row)?;
-    put(&mut line, " =1+2")?;
-    put_line(alloc, cells, line.as_str())
-}
-
 /// A sum over 2,000 formulas below it.
 fn sum(alloc: Global) -> Result<Cells, Fail> {
-    let mut cells = sheet_of(alloc, &["set A1 =SUM(A2:A2001)"])?;
-    for row in 2..2002usize {
-        put_term(alloc, &mut cells, row)?;
-    }
-    Ok(cells)
+    let terms = first_column(2, 2001, Form::Same("1+2"));
+    sheet_with(alloc, &["set A1 =SUM(A2:A2001)"], &terms)
 }
 
 #[test]
@@ -85,12 +53,7 @@ fn a_sum_is_explained(rt: HostRuntime) -> Result<(), Fail> {
     let alloc = rt.alloc();
     let cells = sum(alloc)?;
     let w = Oracle::new(alloc);
-    let at = Setting {
-        alloc,
-        cells: &cells,
-        w: &w,
-        version: Version::One,
-    };
+    let at = setting_of(alloc, &cells, &w);
     // the sum is evaluated for its first term, and once more where all terms have notes
     assert_eq!(rt; counts(at)?, (2_001, 2_002, 2_001));
     Ok(())

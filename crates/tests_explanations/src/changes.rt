@@ -1,13 +1,12 @@
 //! What is said of certificates of which something was changed.
 use crate::parts::Claimed::{Number, Of, Own};
 use crate::parts::{Claimed, Parts, of_parts};
-use crate::settings::{Setting, found, verdict_on};
-use gl_ast::Version;
+use crate::settings::{found, verdict_on};
 use gl_cert::Verdict;
 use gl_demand::{Silent, Steps};
 use gl_plane::{Oracle, Permit};
 use std::test::Fail;
-use tests_common::{one_entry, sheet_of};
+use tests_common::{Setting, one_entry, setting_of, sheet_of};
 
 /// The notes, the loops and what is shown of a certificate that is made of the parts of the one found,
 /// and what is said of it.
@@ -133,12 +132,7 @@ fn changed_notes(rt: HostRuntime) -> Result<(), Fail> {
     let alloc = rt.alloc();
     let cells = sheet_of(alloc, &["set A1 =SEQUENCE(2,1)", "set B1 =A2+1"])?;
     let w = one_entry(alloc, "A1", 2, 1, Permit::Permitted)?;
-    let at = Setting {
-        alloc,
-        cells: &cells,
-        w: &w,
-        version: Version::One,
-    };
+    let at = setting_of(alloc, &cells, &w);
     for (i, change) in CHANGED_NOTES.iter().enumerate() {
         assert_eq!(rt; said(at, "B1", change)?, change.3, "row {i}");
     }
@@ -157,12 +151,7 @@ fn changed_copies(rt: HostRuntime) -> Result<(), Fail> {
         ],
     )?;
     let w = Oracle::new(alloc);
-    let at = Setting {
-        alloc,
-        cells: &cells,
-        w: &w,
-        version: Version::One,
-    };
+    let at = setting_of(alloc, &cells, &w);
     for (i, change) in CHANGED_COPIES.iter().enumerate() {
         assert_eq!(rt; said(at, "C1", change)?, change.3, "row {i}");
     }
@@ -184,12 +173,7 @@ fn changed_loops(rt: HostRuntime) -> Result<(), Fail> {
         ],
     )?;
     let w = Oracle::new(alloc);
-    let at = Setting {
-        alloc,
-        cells: &cells,
-        w: &w,
-        version: Version::One,
-    };
+    let at = setting_of(alloc, &cells, &w);
     for (i, change) in CHANGED_LOOPS.iter().enumerate() {
         assert_eq!(rt; said(at, "C1", change)?, change.3, "row {i}");
     }
@@ -224,12 +208,7 @@ fn changed_notes_and_loops(rt: HostRuntime) -> Result<(), Fail> {
         &["set A1 =1+1", "set B1 =A1+1", "set C1 =IF(B1=3,A1+C1,0)"],
     )?;
     let w = Oracle::new(alloc);
-    let at = Setting {
-        alloc,
-        cells: &cells,
-        w: &w,
-        version: Version::One,
-    };
+    let at = setting_of(alloc, &cells, &w);
     for (i, change) in CHANGED_BOTH.iter().enumerate() {
         assert_eq!(rt; said(at, "C1", change)?, change.3, "row {i}");
     }
@@ -241,12 +220,7 @@ fn steps_of_a_check(rt: HostRuntime) -> Result<(), Fail> {
     let alloc = rt.alloc();
     let cells = sheet_of(alloc, &["set A1 =1+1", "set B1 =A1+1", "set C1 =B1+C1"])?;
     let w = Oracle::new(alloc);
-    let at = Setting {
-        alloc,
-        cells: &cells,
-        w: &w,
-        version: Version::One,
-    };
+    let at = setting_of(alloc, &cells, &w);
     let c = found(at, "C1", &mut Steps::new(Silent))?;
     let mut steps = Steps::new(Silent);
     assert_eq!(rt; verdict_on(at, "C1", &c, &mut steps)?, Verdict::Accepted);

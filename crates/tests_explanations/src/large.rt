@@ -1,6 +1,6 @@
 //! Certificates of as many keys as a calculation may demand, and of one more.
-use crate::settings::{Setting, explained, found};
-use gl_ast::{Version, put, put_number};
+use crate::settings::{explained, found};
+use gl_ast::{put, put_number};
 use gl_cells::Cells;
 use gl_demand::{Silent, Steps};
 use gl_explain::Explained;
@@ -8,7 +8,7 @@ use gl_plane::{NoMemory, Oracle};
 use gl_views::shown_text;
 use std::alloc::Global;
 use std::test::Fail;
-use tests_common::{put_line, sheet_of};
+use tests_common::{Form, Setting, first_column, put_line, setting_of, sheet_with};
 
 /// A copy of the first column, with a number in its last row.
 fn copy_line(alloc: Global, number: usize) -> Result<String, NoMemory> {
@@ -21,21 +21,10 @@ fn copy_line(alloc: Global, number: usize) -> Result<String, NoMemory> {
     Ok(line)
 }
 
-/// A formula that reads nothing.
-fn term_line(alloc: Global, row: usize) -> Result<String, NoMemory> {
-    let mut line = String::new(alloc);
-    put(&mut line, "set A")?;
-    put_number(alloc, &mut line, row)?;
-    put(&mut line, " =1")?;
-    Ok(line)
-}
-
 /// A column of 9,998 formulas, 49 copies of it, one more by this line, and the sum of what they show.
 fn copies(alloc: Global, last: &str) -> Result<Cells, Fail> {
-    let mut cells = sheet_of(alloc, &[last, "set C1 =SUM(B1:B50)"])?;
-    for row in 1..9999usize {
-        put_line(alloc, &mut cells, term_line(alloc, row)?.as_str())?;
-    }
+    let terms = first_column(1, 9998, Form::Same("1"));
+    let mut cells = sheet_with(alloc, &[last, "set C1 =SUM(B1:B50)"], &terms)?;
     for number in 1..50usize {
         put_line(alloc, &mut cells, copy_line(alloc, number)?.as_str())?;
     }
@@ -53,12 +42,7 @@ fn as_many_keys_as_may_be_demanded(rt: HostRuntime) -> Result<(), Fail> {
     let alloc = rt.alloc();
     let cells = copies(alloc, ALL)?;
     let w = Oracle::new(alloc);
-    let at = Setting {
-        alloc,
-        cells: &cells,
-        w: &w,
-        version: Version::One,
-    };
+    let at = setting_of(alloc, &cells, &w);
     let mut steps = Steps::new(Silent);
     let c = found(at, "C1", &mut steps)?;
     assert_eq!(rt; (c.notes.len(), c.loops.len()), (500_000, 0));
@@ -83,12 +67,7 @@ fn one_key_more(rt: HostRuntime) -> Result<(), Fail> {
     let alloc = rt.alloc();
     let cells = copies(alloc, ONE_MORE)?;
     let w = Oracle::new(alloc);
-    let at = Setting {
-        alloc,
-        cells: &cells,
-        w: &w,
-        version: Version::One,
-    };
+    let at = setting_of(alloc, &cells, &w);
     let (is_work, steps) = work(at)?;
     assert!(rt; is_work);
     // less than one for each key and each of its reads

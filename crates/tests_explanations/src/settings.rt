@@ -4,24 +4,11 @@ ghost use Rattle.gl_demand.specs.Sound.{AreSoundKeys};
 ghost use Rattle.gl_demand.specs.View.{key_tree};
 ghost use Rattle.gl_cert.specs.Claims.{claim_trees};
 
-use gl_ast::Version;
-use gl_cells::Cells;
 use gl_cert::{Cert, Verdict, check};
 use gl_demand::{Key, Outcome, Silent, Steps};
 use gl_explain::{Explained, certificate};
-use gl_plane::Oracle;
-use std::alloc::Global;
 use std::test::Fail;
-use tests_common::address;
-
-/// What certificates go by: the sheet, the oracle and the version.
-#[derive(Clone, Copy)]
-pub struct Setting<'a> {
-    pub alloc: Global,
-    pub cells: &'a Cells,
-    pub w: &'a Oracle,
-    pub version: Version,
-}
+use tests_common::{Setting, address};
 
 /// What explains an address.
 pub fn explained(

@@ -1,13 +1,12 @@
 //! What is found of addresses.
-use crate::settings::{Setting, explained, found, verdict_on};
-use gl_ast::Version;
+use crate::settings::{explained, found, verdict_on};
 use gl_cert::Verdict;
 use gl_demand::{Budget, Silent, Steps};
 use gl_explain::Explained;
 use gl_plane::{Oracle, Permit};
 use gl_views::shown_text;
 use std::test::Fail;
-use tests_common::{one_entry, sheet_of};
+use tests_common::{Setting, one_entry, setting_of, sheet_of};
 
 /// How many notes and loops a certificate has, and how many steps its walk takes.
 type Counts = (usize, usize, u64);
@@ -65,12 +64,7 @@ fn what_is_found(rt: HostRuntime) -> Result<(), Fail> {
     for row in &ROWS {
         let cells = sheet_of(rt.alloc(), row.0)?;
         let w = one_entry(rt.alloc(), "A1", 2, 1, row.1)?;
-        let at = Setting {
-            alloc: rt.alloc(),
-            cells: &cells,
-            w: &w,
-            version: Version::One,
-        };
+        let at = setting_of(rt.alloc(), &cells, &w);
         assert!(rt; holds(at, row)?, "{} of {:?}", row.2, row.0);
     }
     Ok(())
@@ -81,12 +75,7 @@ fn what_is_found_is_accepted(rt: HostRuntime) -> Result<(), Fail> {
     for row in &ROWS {
         let cells = sheet_of(rt.alloc(), row.0)?;
         let w = one_entry(rt.alloc(), "A1", 2, 1, row.1)?;
-        let at = Setting {
-            alloc: rt.alloc(),
-            cells: &cells,
-            w: &w,
-            version: Version::One,
-        };
+        let at = setting_of(rt.alloc(), &cells, &w);
         assert_eq!(rt;
             said(at, row)?,
             Verdict::Accepted,
@@ -140,12 +129,7 @@ fn copies_that_spend_a_budget(rt: HostRuntime) -> Result<(), Fail> {
         let alloc = rt.alloc();
         let cells = sheet_of(alloc, lines)?;
         let w = Oracle::new(alloc);
-        let at = Setting {
-            alloc,
-            cells: &cells,
-            w: &w,
-            version: Version::One,
-        };
+        let at = setting_of(alloc, &cells, &w);
         assert_eq!(rt; spent(at, name)?, *budget, "{name}");
     }
     Ok(())
@@ -162,12 +146,7 @@ fn copies_that_each_make_two(rt: HostRuntime) -> Result<(), Fail> {
     let alloc = rt.alloc();
     let cells = sheet_of(alloc, &TREE)?;
     let w = Oracle::new(alloc);
-    let at = Setting {
-        alloc,
-        cells: &cells,
-        w: &w,
-        version: Version::One,
-    };
+    let at = setting_of(alloc, &cells, &w);
     let mut steps = Steps::new(Silent);
     let c = found(at, "B1", &mut steps)?;
     // a cell and a settling for each copy; a cell that makes two is evaluated three times, and each
