@@ -1,28 +1,8 @@
 //! Forecasts of large sheets.
 use crate::told::{Told, is_told};
-use gl_ast::{put, put_number};
-use gl_cells::Cells;
-use gl_plane::NoMemory;
 use std::alloc::Global;
 use std::test::Fail;
-use tests_common::{put_line, sheet_of};
-
-/// The formula of each cell of a column: the same, or with the address of the cell above or below
-/// between two texts.
-#[derive(Clone, Copy)]
-enum Form {
-    Same(&'static str),
-    Above(&'static str, &'static str),
-    Below(&'static str, &'static str),
-}
-
-/// The cells of a column, from one row to another.
-struct Column {
-    name: &'static str,
-    first: usize,
-    last: usize,
-    form: Form,
-}
+use tests_common::{Column, Form, put_column, sheet_of};
 
 /// The first lines of a sheet, columns that follow them, and its forecast.
 struct Large {
@@ -33,9 +13,9 @@ struct Large {
 
 /// As many formulas as a sheet may have.
 const FULL: [Large; 2] = [
-    // all but one read as many cells as a range may have, each under the area of that one
+    // all but one read as many cells as a range may have, a tenth of them under the area of that one
     Large {
-        lines: &["set A1 =SEQUENCE(1000,10)"],
+        lines: &["set A1 =SEQUENCE(100,10)"],
         columns: &[
             Column {
                 name: "AA",
@@ -118,47 +98,6 @@ const CHAINS: [Large; 4] = [
         told: Told::Circle("A1"),
     },
 ];
-
-/// Writes the address of a cell of a column.
-fn put_place(alloc: Global, line: &mut String, name: &str, row: usize) -> Result<(), NoMemory> {
-    put(line, name)?;
-    put_number(alloc, line, row)
-}
-
-/// Writes the formula of a cell of a column.
-fn put_form(alloc: Global, line: &mut String, column: &Column, row: usize) -> Result<(), NoMemory> {
-    match column.form {
-        Form::Same(text) => put(line, text),
-        Form::Above(before, behind) => {
-            put(line, before)?;
-            put_place(alloc, line, column.name, row.saturating_sub(1))?;
-            put(line, behind)
-        }
-        Form::Below(before, behind) => {
-            put(line, before)?;
-            put_place(alloc, line, column.name, row.saturating_add(1))?;
-            put(line, behind)
-        }
-    }
-}
-
-/// Puts the cell of a column in this row.
-fn put_cell(alloc: Global, cells: &mut Cells, column: &Column, row: usize) -> Result<(), Fail> {
-    let mut line = String::new(alloc);
-    put(&mut line, "set ")?;
-    put_place(alloc, &mut line, column.name, row)?;
-    put(&mut line, " =")?;
-    put_form(alloc, &mut line, column, row)?;
-    put_line(alloc, cells, line.as_str())
-}
-
-/// Puts the cells of a column.
-fn put_column(alloc: Global, cells: &mut Cells, column: &Column) -> Result<(), Fail> {
-    for row in column.first..=column.last {
-        put_cell(alloc, cells, column, row)?;
-    }
-    Ok(())
-}
 
 /// The forecast of the sheet is the one that is told.
 fn holds(alloc: Global, large: &Large) -> Result<bool, Fail> {
