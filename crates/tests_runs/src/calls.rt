@@ -103,18 +103,23 @@ pub struct Row<'a> {
     pub refused: bool,
 }
 
+/// The script has these replies by the pick rule of this name.
+pub fn holds_by(alloc: Global, row: &Row<'_>, kind: &str) -> Result<bool, Fail> {
+    let call = Call {
+        words: &["--order", kind],
+        script: row.script,
+        replies: row.replies,
+        status: Status::Done {
+            refused: row.refused,
+        },
+    };
+    ends(alloc, &call, &cut_at(4096))
+}
+
 /// The script has these replies by each pick rule.
 pub fn holds(alloc: Global, row: &Row<'_>) -> Result<bool, Fail> {
     for kind in ["first", "last", "turn"] {
-        let call = Call {
-            words: &["--order", kind],
-            script: row.script,
-            replies: row.replies,
-            status: Status::Done {
-                refused: row.refused,
-            },
-        };
-        if !ends(alloc, &call, &cut_at(4096))? {
+        if !holds_by(alloc, row, kind)? {
             return Ok(false);
         }
     }

@@ -10,6 +10,8 @@ mod edits;
 #[cfg(test)]
 mod explanations;
 #[cfg(test)]
+mod faults;
+#[cfg(test)]
 mod forecasts;
 #[cfg(test)]
 mod functions;

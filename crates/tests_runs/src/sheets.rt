@@ -1,5 +1,5 @@
 //! Sheets that are calculated, copies of them, and the budgets that they spend.
-use crate::calls::{Row, holds};
+use crate::calls::{Row, holds, holds_by};
 use std::test::Fail;
 
 /// Sheets of constants, formulas, ranges and spills.
@@ -187,7 +187,7 @@ fn copies(rt: HostRuntime) -> Result<(), Fail> {
 }
 
 /// What a calculation shows one by one, and the budgets that it spends.
-const BUDGETS: [Row<'static>; 5] = [
+const BUDGETS: [Row<'static>; 4] = [
     Row {
         script: b"set A1 =SEQUENCE(3,1)\nset B1 =A1#*2\ncalc\noracle\nshow A1\nshow B1\nshow A2\nshow B2\nshow A3\nshow B3\n",
         replies: b"ok\nok\nsettled 3\noracle 2\nA1 3x1 permitted\nB1 3x1 permitted\n1\n2\n2\n4\n3\n6\n",
@@ -208,19 +208,21 @@ const BUDGETS: [Row<'static>; 5] = [
         replies: b"ok\nok\n1024\n",
         refused: false,
     },
+];
+
+/// As many demanded keys as may be known, and one more; and twice as many.
+const WORK: [Row<'static>; 2] = [
+    Row {
+        script: b"set A1 1\nset B1 =IF(A1>=125000,1,VIEW(UPDATE(SHEET(A1:B1),A1,2*A1),B1)+VIEW(UPDATE(SHEET(A1:B1),A1,2*A1+1),B1))\nset C1 =1\nset D1 =1\nset E1 =1\nshow B1\nset F1 =1\nshow B1\n",
+        replies: b"ok\nok\nok\nok\nok\n125000\nok\nspent work\n",
+        refused: false,
+    },
     Row {
         script: b"set A1 1\nset B1 =IF(A1>=262144,1,VIEW(UPDATE(SHEET(A1:B1),A1,2*A1),B1)+VIEW(UPDATE(SHEET(A1:B1),A1,2*A1+1),B1))\nshow B1\n",
         replies: b"ok\nok\nspent work\n",
         refused: false,
     },
 ];
-
-/// As many demanded keys as may be known, and one more.
-const WORK: Row<'static> = Row {
-    script: b"set A1 1\nset B1 =IF(A1>=125000,1,VIEW(UPDATE(SHEET(A1:B1),A1,2*A1),B1)+VIEW(UPDATE(SHEET(A1:B1),A1,2*A1+1),B1))\nset C1 =1\nset D1 =1\nset E1 =1\nshow B1\nset F1 =1\nshow B1\n",
-    replies: b"ok\nok\nok\nok\nok\n125000\nok\nspent work\n",
-    refused: false,
-};
 
 #[test]
 fn budgets(rt: HostRuntime) -> Result<(), Fail> {
@@ -231,7 +233,25 @@ fn budgets(rt: HostRuntime) -> Result<(), Fail> {
 }
 
 #[test]
-fn work(rt: HostRuntime) -> Result<(), Fail> {
-    assert!(rt; holds(rt.alloc(), &WORK)?);
+fn work_by_the_first(rt: HostRuntime) -> Result<(), Fail> {
+    for row in &WORK {
+        assert!(rt; holds_by(rt.alloc(), row, "first")?, "{:?}", row.script);
+    }
+    Ok(())
+}
+
+#[test]
+fn work_by_the_last(rt: HostRuntime) -> Result<(), Fail> {
+    for row in &WORK {
+        assert!(rt; holds_by(rt.alloc(), row, "last")?, "{:?}", row.script);
+    }
+    Ok(())
+}
+
+#[test]
+fn work_by_turns(rt: HostRuntime) -> Result<(), Fail> {
+    for row in &WORK {
+        assert!(rt; holds_by(rt.alloc(), row, "turn")?, "{:?}", row.script);
+    }
     Ok(())
 }
