@@ -2,7 +2,10 @@
 //! the contract of a function that does nothing.
 #![tactic(auto)]
 
-ghost use Rattle.gl_ahead.specs.Laws.{AheadStays, AheadOnward, AheadComposes, PickByAhead, PicksExtend, KeepingIsPicking, SpentWithin, BoundsStay, RangeDemands, RoundDemands, FormulaDemands, ArgumentsDemand, CellDemands};
+ghost use Rattle.gl_ahead.specs.Laws.{AheadStays, AheadOnward, AheadComposes, PickByAhead};
+ghost use Rattle.gl_ahead.specs.Laws.{PicksExtend, KeepingIsPicking, SpentWithin, BoundsStay};
+ghost use Rattle.gl_ahead.specs.Laws.{RangeDemands, RoundDemands, FormulaDemands, ArgumentsDemand};
+ghost use Rattle.gl_ahead.specs.Laws.{CellDemands};
 
 /// What is ahead of a query.
 pub fn ahead<K, O, A, R>()

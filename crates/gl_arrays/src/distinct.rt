@@ -35,7 +35,8 @@ fn new_rows(alloc: Global, v: &Value) -> Result<Vec<u16>, NoMemory>
     requires { IsTrue (is_sound_value (value_tree v.now)) }
     ensures few { IfOk result (λ ks. vec_len ks ≤ max_cells) }
     ensures some { IfOk result (λ ks. 1 ≤ vec_len ks) }
-    ensures rows { IfOk result (λ ks. map (row (value_tree v.now)) ks.items ≡ F.new_rows [] (L.rows (value_tree v.now))) }
+    ensures rows { IfOk result (λ ks.
+        map (row (value_tree v.now)) ks.items ≡ F.new_rows [] (L.rows (value_tree v.now))) }
 {
     let rows = extents(v).0;
     let mut seen = IndexSet::new(alloc);
@@ -52,7 +53,8 @@ fn new_rows(alloc: Global, v: &Value) -> Result<Vec<u16>, NoMemory>
 fn distinct(alloc: Global, v: &Value) -> Result<Value, NoMemory>
     requires { IsTrue (is_sound_value (value_tree v.now)) }
     ensures sound { IfOk result (λ r. IsTrue (is_sound_value (value_tree r))) }
-    ensures value { IfOk result (λ r. value_tree r ≡ from_rows (F.new_rows [] (L.rows (value_tree v.now)))) }
+    ensures value { IfOk result (λ r.
+        value_tree r ≡ from_rows (F.new_rows [] (L.rows (value_tree v.now)))) }
 {
     let rows = new_rows(alloc, v)?;
     listed_rows(alloc, v, &rows)

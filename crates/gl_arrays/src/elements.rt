@@ -73,8 +73,14 @@ fn sought(x: &Value) -> Result<&Scalar, ErrKind>
 
 /// What LOOKUP looks for, where the keys and the values are columns with equally many rows.
 fn sought_in<'a>(x: &'a Value, keys: &Value, values: &Value) -> Result<&'a Scalar, ErrKind>
-    ensures columns { OnOk result (IsTrue (are_columns (value_tree keys.now) (value_tree values.now))) }
-    ensures value { continued (λ s. Ok (V.Value.One (F.looked_up (scalar_tree s.now) (elements (value_tree keys.now)) (elements (value_tree values.now))))) result
+    ensures columns { OnOk result (
+        IsTrue (are_columns (value_tree keys.now) (value_tree values.now))) }
+    ensures value { continued
+        (λ s.
+        Ok
+        (V.Value.One
+        (F.looked_up (scalar_tree s.now) (elements (value_tree keys.now))
+        (elements (value_tree values.now))))) result
         ≡ F.lookup (value_tree x.now) (value_tree keys.now) (value_tree values.now) }
 {
     let s = sought(x)?;
@@ -93,8 +99,10 @@ fn looked_up(x: &Scalar, keys: &Value, values: &Value) -> Result<Scalar, NoMemor
     requires keys { IsTrue (is_sound_value (value_tree keys.now)) }
     requires values { IsTrue (is_sound_value (value_tree values.now)) }
     ensures sound { IfOk result (λ y. IsTrue (is_sound_scalar (scalar_tree y))) }
-    ensures value { IfOk result (λ y. scalar_tree y
-        ≡ F.looked_up (scalar_tree x.now) (elements (value_tree keys.now)) (elements (value_tree values.now))) }
+    ensures value { IfOk result (λ y.
+        scalar_tree y
+        ≡ F.looked_up (scalar_tree x.now) (elements (value_tree keys.now))
+        (elements (value_tree values.now))) }
 {
     let (rows, _) = extents(keys);
     for i in 0..rows {
@@ -117,8 +125,10 @@ pub fn lookup(_alloc: Global, x: &Value, keys: &Value, values: &Value) -> Result
     requires keys { IsTrue (is_sound_value (value_tree keys.now)) }
     requires values { IsTrue (is_sound_value (value_tree values.now)) }
     ensures sound { IfOk result (λ y. IsTrue (is_sound_scalar (scalar_tree y))) }
-    ensures value { IfOk result (λ y. V.Value.One (scalar_tree y)
-        ≡ F.value_or_error (F.lookup (value_tree x.now) (value_tree keys.now) (value_tree values.now))) }
+    ensures value { IfOk result (λ y.
+        V.Value.One (scalar_tree y)
+        ≡ F.value_or_error
+        (F.lookup (value_tree x.now) (value_tree keys.now) (value_tree values.now))) }
 {
     match sought_in(x, keys, values) {
         Ok(s) => looked_up(s, keys, values),

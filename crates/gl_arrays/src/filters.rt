@@ -51,7 +51,9 @@ fn keeps_at(keep: &Value, i: u16) -> bool
 fn no_fault(keep: &Value) -> Result<(), ErrKind>
     requires { IsTrue (is_sound_value (value_tree keep.now)) }
     ensures { continued (λ u. Ok u) result
-        ≡ F.no_fault (F.first_fault F.truth_fault (column_from (value_tree keep.now) 0 (shape (value_tree keep.now)).rows)) }
+        ≡ F.no_fault
+        (F.first_fault F.truth_fault
+        (column_from (value_tree keep.now) 0 (shape (value_tree keep.now)).rows)) }
 {
     let rows = extents(keep).0;
     for i in 0..rows {
@@ -67,7 +69,10 @@ fn no_fault(keep: &Value) -> Result<(), ErrKind>
 fn kept_rows(alloc: Global, keep: &Value) -> Result<Vec<u16>, NoMemory>
     requires { IsTrue (is_sound_value (value_tree keep.now)) }
     ensures few { IfOk result (λ ks. vec_len ks ≤ max_cells) }
-    ensures rows { IfOk result (λ ks. ks.items ≡ filter (keeps_row (value_tree keep.now)) (range_with_len 0 (shape (value_tree keep.now)).rows)) }
+    ensures rows { IfOk result (λ ks.
+        ks.items
+        ≡ filter (keeps_row (value_tree keep.now))
+        (range_with_len 0 (shape (value_tree keep.now)).rows)) }
 {
     let rows = extents(keep).0;
     let mut kept = Vec::new(alloc);
@@ -82,8 +87,12 @@ fn kept_rows(alloc: Global, keep: &Value) -> Result<Vec<u16>, NoMemory>
 /// The tests of FILTER, in their order.
 fn can_filter(v: &Value, keep: &Value) -> Result<(), ErrKind>
     requires { IsTrue (is_sound_value (value_tree keep.now)) }
-    ensures column { OnOk result (IsTrue (F.is_column_beside (value_tree keep.now) (value_tree v.now))) }
-    ensures value { continued (λ u. F.some_rows E.ErrKind.Na (F.kept_rows (elements (value_tree keep.now)) (L.rows (value_tree v.now)))) result
+    ensures column { OnOk result (
+        IsTrue (F.is_column_beside (value_tree keep.now) (value_tree v.now))) }
+    ensures value { continued
+        (λ u.
+        F.some_rows E.ErrKind.Na
+        (F.kept_rows (elements (value_tree keep.now)) (L.rows (value_tree v.now)))) result
         ≡ F.filter_rows (value_tree v.now) (value_tree keep.now) }
 {
     no_error(v)?;
@@ -101,8 +110,11 @@ fn filtered(alloc: Global, v: &Value, keep: &Value) -> Result<Value, NoMemory>
     requires value { IsTrue (is_sound_value (value_tree v.now)) }
     requires keep { IsTrue (is_sound_value (value_tree keep.now)) }
     ensures sound { IfOk result (λ r. IsTrue (is_sound_value (value_tree r))) }
-    ensures value { IfOk result (λ r. value_tree r
-        ≡ F.value_or_error (F.some_rows E.ErrKind.Na (F.kept_rows (elements (value_tree keep.now)) (L.rows (value_tree v.now))))) }
+    ensures value { IfOk result (λ r.
+        value_tree r
+        ≡ F.value_or_error
+        (F.some_rows E.ErrKind.Na
+        (F.kept_rows (elements (value_tree keep.now)) (L.rows (value_tree v.now))))) }
 {
     let kept = kept_rows(alloc, keep)?;
     if kept.len() == 0 {
@@ -122,7 +134,8 @@ pub fn filter(alloc: Global, v: &Value, keep: &Value) -> Result<Value, NoMemory>
     requires value { IsTrue (is_sound_value (value_tree v.now)) }
     requires keep { IsTrue (is_sound_value (value_tree keep.now)) }
     ensures sound { IfOk result (λ r. IsTrue (is_sound_value (value_tree r))) }
-    ensures value { IfOk result (λ r. value_tree r ≡ F.value_or_error (F.filter_rows (value_tree v.now) (value_tree keep.now))) }
+    ensures value { IfOk result (λ r.
+        value_tree r ≡ F.value_or_error (F.filter_rows (value_tree v.now) (value_tree keep.now))) }
 {
     match can_filter(v, keep) {
         Ok(()) => filtered(alloc, v, keep),

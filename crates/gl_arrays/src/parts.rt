@@ -62,7 +62,8 @@ fn left_over(n: i64, extent: u16) -> Span
 fn item_after(v: &Value, row: u16, col: u16, i: u16, j: u16) -> Result<Scalar, NoMemory>
     requires { IsTrue (is_sound_value (value_tree v.now)) }
     ensures sound { IfOk result (λ x. IsTrue (is_sound_scalar (scalar_tree x))) }
-    ensures value { IfOk result (λ x. scalar_tree x ≡ L.item (value_tree v.now) (row + i) (col + j)) }
+    ensures value { IfOk result (λ x.
+        scalar_tree x ≡ L.item (value_tree v.now) (row + i) (col + j)) }
 {
     match row.checked_add(i) {
         Some(r) => match col.checked_add(j) {
@@ -78,8 +79,11 @@ fn item_after(v: &Value, row: u16, col: u16, i: u16, j: u16) -> Result<Scalar, N
 fn part(alloc: Global, v: &Value, rows: Span, cols: Span) -> Result<Value, NoMemory>
     requires { IsTrue (is_sound_value (value_tree v.now)) }
     ensures sound { IfOk result (λ r. IsTrue (is_sound_value (value_tree r))) }
-    ensures value { IfOk result (λ r. value_tree r
-        ≡ F.value_or_error (F.some_rows E.ErrKind.Value (window (value_tree v.now) rows.start rows.count cols.start cols.count))) }
+    ensures value { IfOk result (λ r.
+        value_tree r
+        ≡ F.value_or_error
+        (F.some_rows E.ErrKind.Value
+        (window (value_tree v.now) rows.start rows.count cols.start cols.count))) }
 {
     if rows.count == 0 || cols.count == 0 {
         return Ok(Value::One(Scalar::Err(ErrKind::Value)));
@@ -93,7 +97,10 @@ fn part(alloc: Global, v: &Value, rows: Span, cols: Span) -> Result<Value, NoMem
 /// The rows and columns that TAKE keeps.
 fn kept_spans(v: &Value, m: &Value, n: &Value) -> Result<(Span, Span), ErrKind>
     requires { IsTrue (is_sound_value (value_tree v.now)) }
-    ensures { continued (λ s. F.some_rows E.ErrKind.Value (window (value_tree v.now) s.0.start s.0.count s.1.start s.1.count)) result
+    ensures { continued
+        (λ s.
+        F.some_rows E.ErrKind.Value
+        (window (value_tree v.now) s.0.start s.0.count s.1.start s.1.count)) result
         ≡ F.part_of F.kept_part (value_tree v.now) (value_tree m.now) (value_tree n.now) }
 {
     no_error(v)?;
@@ -106,7 +113,10 @@ fn kept_spans(v: &Value, m: &Value, n: &Value) -> Result<(Span, Span), ErrKind>
 /// The rows and columns that DROP leaves.
 fn left_spans(v: &Value, m: &Value, n: &Value) -> Result<(Span, Span), ErrKind>
     requires { IsTrue (is_sound_value (value_tree v.now)) }
-    ensures { continued (λ s. F.some_rows E.ErrKind.Value (window (value_tree v.now) s.0.start s.0.count s.1.start s.1.count)) result
+    ensures { continued
+        (λ s.
+        F.some_rows E.ErrKind.Value
+        (window (value_tree v.now) s.0.start s.0.count s.1.start s.1.count)) result
         ≡ F.part_of F.left_over_part (value_tree v.now) (value_tree m.now) (value_tree n.now) }
 {
     no_error(v)?;
@@ -127,8 +137,10 @@ pub fn take(alloc: Global, v: &Value, m: &Value, n: &Value) -> Result<Value, NoM
     requires rows { IsTrue (is_sound_value (value_tree m.now)) }
     requires columns { IsTrue (is_sound_value (value_tree n.now)) }
     ensures sound { IfOk result (λ r. IsTrue (is_sound_value (value_tree r))) }
-    ensures value { IfOk result (λ r. value_tree r
-        ≡ F.value_or_error (F.part_of F.kept_part (value_tree v.now) (value_tree m.now) (value_tree n.now))) }
+    ensures value { IfOk result (λ r.
+        value_tree r
+        ≡ F.value_or_error
+        (F.part_of F.kept_part (value_tree v.now) (value_tree m.now) (value_tree n.now))) }
 {
     match kept_spans(v, m, n) {
         Ok((rows, cols)) => part(alloc, v, rows, cols),
@@ -147,8 +159,10 @@ pub fn drop_part(alloc: Global, v: &Value, m: &Value, n: &Value) -> Result<Value
     requires rows { IsTrue (is_sound_value (value_tree m.now)) }
     requires columns { IsTrue (is_sound_value (value_tree n.now)) }
     ensures sound { IfOk result (λ r. IsTrue (is_sound_value (value_tree r))) }
-    ensures value { IfOk result (λ r. value_tree r
-        ≡ F.value_or_error (F.part_of F.left_over_part (value_tree v.now) (value_tree m.now) (value_tree n.now))) }
+    ensures value { IfOk result (λ r.
+        value_tree r
+        ≡ F.value_or_error
+        (F.part_of F.left_over_part (value_tree v.now) (value_tree m.now) (value_tree n.now))) }
 {
     match left_spans(v, m, n) {
         Ok((rows, cols)) => part(alloc, v, rows, cols),

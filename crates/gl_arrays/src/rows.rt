@@ -32,7 +32,8 @@ pub fn listed_rows(alloc: Global, v: &Value, rows: &[u16]) -> Result<Value, NoMe
     requires some { 1 ≤ length rows.now }
     requires few { length rows.now ≤ max_cells }
     ensures sound { IfOk result (λ r. IsTrue (is_sound_value (value_tree r))) }
-    ensures value { IfOk result (λ r. value_tree r ≡ from_rows (map (row (value_tree v.now)) rows.now)) }
+    ensures value { IfOk result (λ r.
+        value_tree r ≡ from_rows (map (row (value_tree v.now)) rows.now)) }
 {
     let cols = extents(v).1;
     table(alloc, rows.len() as u16, cols, |i, j| {

@@ -37,7 +37,8 @@ pub fn fitting(rows: u64, cols: u64) -> Option<(u16, u16)>
 /// The extents that SEQUENCE is called with.
 fn extents_of(m: &Value, n: &Value) -> Result<(u64, u64), ErrKind>
     ensures positive { IfOk result (λ s. (1 ≤ s.0) × (1 ≤ s.1)) }
-    ensures value { continued (λ s. Ok (L.table (size s.0 s.1) (numbered s.1))) result ≡ F.sequence (value_tree m.now) (value_tree n.now) }
+    ensures value { continued (λ s. Ok (L.table (size s.0 s.1) (numbered s.1))) result
+        ≡ F.sequence (value_tree m.now) (value_tree n.now) }
 {
     let rows = number(m)?;
     let cols = number(n)?;
@@ -77,7 +78,8 @@ pub fn sequence(alloc: Global, m: &Value, n: &Value) -> Result<Value, NoMemory>
     requires rows { IsTrue (is_sound_value (value_tree m.now)) }
     requires columns { IsTrue (is_sound_value (value_tree n.now)) }
     ensures sound { IfOk result (λ r. IsTrue (is_sound_value (value_tree r))) }
-    ensures value { IfOk result (λ r. value_tree r ≡ F.value_or_error (F.sequence (value_tree m.now) (value_tree n.now))) }
+    ensures value { IfOk result (λ r.
+        value_tree r ≡ F.value_or_error (F.sequence (value_tree m.now) (value_tree n.now))) }
 {
     match extents_of(m, n) {
         Ok((rows, cols)) => counting(alloc, rows, cols),

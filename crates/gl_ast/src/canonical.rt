@@ -5,7 +5,8 @@ ghost use Rattle.std.specs.List.{join_with_byte};
 ghost use Rattle.std.specs.String.{string_bytes};
 ghost use Rattle.gl_calculus.specs.Notation as notation;
 ghost use Rattle.gl_language.specs.Text as text;
-ghost use Rattle.gl_ast.specs.View.{formula_tree, argument_trees, operand_trees, level_tree, op_tree};
+ghost use Rattle.gl_ast.specs.View.{formula_tree, argument_trees, operand_trees, level_tree};
+ghost use Rattle.gl_ast.specs.View.{op_tree};
 
 use crate::literal::{put, put_literal};
 use crate::notation::{put_address, put_int, put_range, put_truth};
@@ -72,7 +73,8 @@ fn needs_parens(minus: u8, at: u8, f: &Formula) -> bool
 }
 
 fn put_spill(alloc: Global, out: &mut String, a: Addr) -> Result<(), NoMemory>
-    ensures { OnOk result (string_bytes out.new ≡ string_bytes out.old ++ (notation.address_text a ++ 35 ∷ [])) }
+    ensures { OnOk result (
+        string_bytes out.new ≡ string_bytes out.old ++ (notation.address_text a ++ 35 ∷ [])) }
 {
     put_address(alloc, out, a)?;
     out.push_str("#")?;
@@ -81,7 +83,8 @@ fn put_spill(alloc: Global, out: &mut String, a: Addr) -> Result<(), NoMemory>
 
 /// The comma in front of an argument that isn't the first.
 fn comma(out: &mut String, more: bool) -> Result<(), NoMemory>
-    ensures { OnOk result (string_bytes out.new ≡ string_bytes out.old ++ (if more then 44 ∷ [] else [])) }
+    ensures { OnOk result (
+        string_bytes out.new ≡ string_bytes out.old ++ (if more then 44 ∷ [] else [])) }
 {
     if more {
         out.push_str(",")?;
@@ -92,7 +95,8 @@ fn comma(out: &mut String, more: bool) -> Result<(), NoMemory>
 /// What stands before the second argument of a `LET`.
 #[tactic(auto, using(crate::proofs::Printing::head_rules))]
 fn put_let(out: &mut String, v: &str) -> Result<(), NoMemory>
-    ensures { OnOk result (string_bytes out.new ≡ string_bytes out.old ++ (76 ∷ 69 ∷ 84 ∷ 40 ∷ v.now ++ 44 ∷ [])) }
+    ensures { OnOk result (
+        string_bytes out.new ≡ string_bytes out.old ++ (76 ∷ 69 ∷ 84 ∷ 40 ∷ v.now ++ 44 ∷ [])) }
 {
     put(out, "LET(")?;
     put(out, v)?;
@@ -104,7 +108,9 @@ fn put_let(out: &mut String, v: &str) -> Result<(), NoMemory>
 #[cycle(print)]
 #[tactic(auto, using(crate::proofs::Printing::placed_rules))]
 fn placed(alloc: Global, out: &mut String, at: u8, minus: u8, f: &Formula) -> Result<(), NoMemory>
-    ensures { OnOk result (string_bytes out.new ≡ string_bytes out.old ++ text.placed_text at minus (formula_tree f.now)) }
+    ensures { OnOk result (
+        string_bytes out.new
+        ≡ string_bytes out.old ++ text.placed_text at minus (formula_tree f.now)) }
 {
     if needs_parens(minus, at, f) {
         put(out, "(")?;
@@ -120,7 +126,9 @@ fn placed(alloc: Global, out: &mut String, at: u8, minus: u8, f: &Formula) -> Re
 #[cycle(print)]
 #[tactic(auto, using(crate::proofs::Printing::body_rules))]
 fn body(alloc: Global, out: &mut String, minus: u8, f: &Formula) -> Result<(), NoMemory>
-    ensures { OnOk result (string_bytes out.new ≡ string_bytes out.old ++ text.text_behind minus (formula_tree f.now)) }
+    ensures { OnOk result (
+        string_bytes out.new
+        ≡ string_bytes out.old ++ text.text_behind minus (formula_tree f.now)) }
 {
     match f {
         Formula::Int(n) => put_int(alloc, out, *n),
@@ -168,7 +176,9 @@ fn body(alloc: Global, out: &mut String, minus: u8, f: &Formula) -> Result<(), N
 #[cycle(print)]
 #[tactic(auto, using(crate::proofs::Printing::operand_rules))]
 fn operands(alloc: Global, out: &mut String, at: u8, all: &[(Op, Formula)]) -> Result<(), NoMemory>
-    ensures { OnOk result (string_bytes out.new ≡ string_bytes out.old ++ text.operands_text at (operand_trees all.now)) }
+    ensures { OnOk result (
+        string_bytes out.new
+        ≡ string_bytes out.old ++ text.operands_text at (operand_trees all.now)) }
 {
     for operand in all {
         put(out, operand.0.sign())?;
@@ -181,7 +191,9 @@ fn operands(alloc: Global, out: &mut String, at: u8, all: &[(Op, Formula)]) -> R
 #[cycle(print)]
 #[tactic(auto, using(crate::proofs::Printing::argument_rules))]
 fn arguments(alloc: Global, out: &mut String, all: &[Formula]) -> Result<(), NoMemory>
-    ensures { OnOk result (string_bytes out.new ≡ string_bytes out.old ++ join_with_byte 44 (text.texts (argument_trees all.now))) }
+    ensures { OnOk result (
+        string_bytes out.new
+        ≡ string_bytes out.old ++ join_with_byte 44 (text.texts (argument_trees all.now))) }
 {
     let mut more = false;
     for x in all {

@@ -26,7 +26,8 @@ pub fn put(out: &mut String, t: &str) -> Result<(), NoMemory>
 }
 
 fn put_escaped(out: &mut String, t: &str) -> Result<(), NoMemory>
-    ensures { OnOk result (string_bytes out.new ≡ string_bytes out.old ++ flat_map text.escaped t.now) }
+    ensures { OnOk result (
+        string_bytes out.new ≡ string_bytes out.old ++ flat_map text.escaped t.now) }
 {
     for c in t.chars() {
         put_char(out, c)?;
@@ -36,7 +37,8 @@ fn put_escaped(out: &mut String, t: &str) -> Result<(), NoMemory>
 
 #[tactic(auto, using(crate::proofs::Escapes::char_rules))]
 fn put_char(out: &mut String, c: char) -> Result<(), NoMemory>
-    ensures { OnOk result (string_bytes out.new ≡ string_bytes out.old ++ flat_map text.escaped (encode_utf8 c)) }
+    ensures { OnOk result (
+        string_bytes out.new ≡ string_bytes out.old ++ flat_map text.escaped (encode_utf8 c)) }
 {
     match c {
         '\\' => put(out, "\\\\"),
@@ -56,7 +58,8 @@ fn put_other(out: &mut String, c: char) -> Result<(), NoMemory>
     requires feed { c ≢ 10 }
     requires return_ { c ≢ 13 }
     requires tab { c ≢ 9 }
-    ensures { OnOk result (string_bytes out.new ≡ string_bytes out.old ++ flat_map text.escaped (encode_utf8 c)) }
+    ensures { OnOk result (
+        string_bytes out.new ≡ string_bytes out.old ++ flat_map text.escaped (encode_utf8 c)) }
 {
     if c < ' ' || c == '\x7f' {
         return put_hex(out, c as u8);
@@ -80,7 +83,10 @@ fn hex_digit(d: u8) -> char
 /// A control character by its number.
 fn put_hex(out: &mut String, b: u8) -> Result<(), NoMemory>
     requires { b < 128 }
-    ensures { OnOk result (string_bytes out.new ≡ string_bytes out.old ++ (92 ∷ 120 ∷ text.hex_digit (b / 16) ∷ text.hex_digit (b % 16) ∷ [])) }
+    ensures { OnOk result (
+        string_bytes out.new
+        ≡ string_bytes out.old
+        ++ (92 ∷ 120 ∷ text.hex_digit (b / 16) ∷ text.hex_digit (b % 16) ∷ [])) }
 {
     out.push_str("\\x")?;
     out.push(hex_digit(b / 16))?;

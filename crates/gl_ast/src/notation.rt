@@ -30,7 +30,8 @@ pub fn put_number(alloc: Global, out: &mut String, n: usize) -> Result<(), NoMem
 fn put_column(out: &mut String, col: u16) -> Result<(), NoMemory>
     requires some { 1 ≤ col }
     requires few { col ≤ 702 }
-    ensures { OnOk result (string_bytes out.new ≡ string_bytes out.old ++ notation.column_text col) }
+    ensures { OnOk result (
+        string_bytes out.new ≡ string_bytes out.old ++ notation.column_text col) }
 {
     if col <= 26 {
         out.push((64 + col as u8) as char)?;

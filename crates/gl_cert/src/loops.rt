@@ -32,8 +32,11 @@ pub fn is_among(keys: &IndexSet<Key>, key: &Key) -> bool
 
 /// Puts a key into a set.
 fn add(keys: &mut IndexSet<Key>, key: &Key) -> Result<(), NoMemory>
-    ensures { IfOk result (λ _. (j : K.Key) → has_member same_key j (map key_tree keys.new.keys)
-        ≡ cond (same_key j (key_tree key.now)) true (has_member same_key j (map key_tree keys.old.keys))) }
+    ensures { IfOk result (λ _.
+        (j : K.Key)
+        → has_member same_key j (map key_tree keys.new.keys)
+        ≡ cond (same_key j (key_tree key.now)) true
+        (has_member same_key j (map key_tree keys.old.keys))) }
 {
     let key = key.share()?;
     keys.insert(key)?;

@@ -1,5 +1,6 @@
 //! Notes are made and looked up.
-ghost use Rattle.std.specs.Prelude.{◌≡◌, ◌<◌, ◌^◌, [], ◌∷◌, ◌++◌, None, map, option_map, length, IsTrue, OnOk, OnErr, IfOk, IfSome};
+ghost use Rattle.std.specs.Prelude.{◌≡◌, ◌<◌, ◌^◌, [], ◌∷◌, ◌++◌, None, map, option_map, length};
+ghost use Rattle.std.specs.Prelude.{IsTrue, OnOk, OnErr, IfOk, IfSome};
 ghost use Rattle.std.specs.Option.{option_copied};
 ghost use Rattle.gl_query.specs.Query.{Ready};
 ghost use Rattle.gl_calculus.specs.Key.{same_key};
@@ -29,7 +30,8 @@ fn add(outcomes: &mut IndexMap<Key, Outcome>, key: Key, outcome: Outcome) -> Res
     requires { noted same_key (claim_trees outcomes.old.entries) (key_tree key) ≡ None }
     ensures ok { OnOk result (claim_trees outcomes.new.entries
         ≡ claim_trees outcomes.old.entries ++ (key_tree key, outcome_tree outcome) ∷ []) }
-    ensures err { OnErr result (claim_trees outcomes.new.entries ≡ claim_trees outcomes.old.entries) }
+    ensures err { OnErr result (
+        claim_trees outcomes.new.entries ≡ claim_trees outcomes.old.entries) }
 {
     match outcomes.insert(key, outcome) {
         Ok(_) => Ok(()),
@@ -51,7 +53,8 @@ impl Notes {
     pub fn outcome(&self, key: &Key) -> Option<&Outcome>
         ensures value { option_map outcome_tree (option_copied result)
             ≡ noted same_key (claims self.now) (key_tree key.now) }
-        ensures sound { IfSome result (λ o. IsSoundFound (key_tree key.now) (Ready (outcome_tree o.now))) }
+        ensures sound { IfSome result (λ o.
+            IsSoundFound (key_tree key.now) (Ready (outcome_tree o.now))) }
     {
         outcome_in(&self.outcomes, key)
     }

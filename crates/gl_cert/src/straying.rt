@@ -1,5 +1,6 @@
 //! Which notes of a certificate follow from those before them.
-ghost use Rattle.std.specs.Prelude.{◌≡◌, ◌≤◌, ◌<◌, ◌+◌, ◌^◌, [], ◌∷◌, ◌++◌, true, None, length, map, IsTrue, IfOk};
+ghost use Rattle.std.specs.Prelude.{◌≡◌, ◌≤◌, ◌<◌, ◌+◌, ◌^◌, [], ◌∷◌, ◌++◌, true, None, length};
+ghost use Rattle.std.specs.Prelude.{map, IsTrue, IfOk};
 ghost use Rattle.gl_query.specs.Query.{Ready};
 ghost use Rattle.gl_calculus.specs.Evaluation.{program};
 ghost use Rattle.gl_calculus.specs.Key.{same_key};
@@ -74,9 +75,11 @@ fn note_follows<L: Watch>(
     steps: &mut Steps<L>,
 ) -> Result<bool, NoMemory>
     requires sound { IsTrue (is_sound_key (key_tree key.now)) }
-    ensures follows { IfOk result (λ b. b ≡ follows same_key same_outcome (is_proper (sheet cells.now))
-        (program (version_tree version) (sheet cells.now) w.now)
-        (claims notes.old) (key_tree key.now, outcome_tree outcome.now)) }
+    ensures follows { IfOk result (λ b.
+        b
+        ≡ follows same_key same_outcome (is_proper (sheet cells.now))
+        (program (version_tree version) (sheet cells.now) w.now) (claims notes.old)
+        (key_tree key.now, outcome_tree outcome.now)) }
     ensures noted { IfOk result (λ b. b ≡ true → claims notes.new
         ≡ claims notes.old ++ (key_tree key.now, outcome_tree outcome.now) ∷ []) }
     ensures steps { steps.new ≤ steps.old + 1 }

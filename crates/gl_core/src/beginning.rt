@@ -1,5 +1,6 @@
 //! A state in which keys with notes are resolved.
-ghost use Rattle.std.specs.Prelude.{◌≡◌, ◌+◌, ◌^◌, ◌<◌, ◌≤◌, ◌++◌, ◌∷◌, [], ℕ, length, vec_len, vec_capacity, IfOk};
+ghost use Rattle.std.specs.Prelude.{◌≡◌, ◌+◌, ◌^◌, ◌<◌, ◌≤◌, ◌++◌, ◌∷◌, [], ℕ, length, vec_len};
+ghost use Rattle.std.specs.Prelude.{vec_capacity, IfOk};
 ghost use Rattle.gl_query.specs.Lists.{AreDistinct};
 ghost use Rattle.gl_calculus.specs.Limits.{max_demanded};
 ghost use Rattle.gl_core.specs.Numbers.{Each, IsIndex};

@@ -1,5 +1,6 @@
 //! Keys by numbers.
-ghost use Rattle.std.specs.Prelude.{◌≡◌, ◌<◌, ◌^◌, [], Some, None, IsTrue, length, slice_get, IfOk, OnErr};
+ghost use Rattle.std.specs.Prelude.{◌≡◌, ◌<◌, ◌^◌, [], Some, None, IsTrue, length, slice_get, IfOk};
+ghost use Rattle.std.specs.Prelude.{OnErr};
 ghost use Rattle.gl_calculus.specs.Sound.{is_sound_key};
 ghost use Rattle.gl_demand.specs.View.{key_tree};
 ghost use Rattle.gl_core.specs.Numbers.{Grows, IsNumber, AreBooked};

@@ -1,5 +1,6 @@
 //! Ledgers from tables of notes, and back.
-ghost use Rattle.std.specs.Prelude.{◌≡◌, ◌<◌, ◌++◌, ◌∷◌, [], false, Some, length, map, slice_get, OnOk, IfOk};
+ghost use Rattle.std.specs.Prelude.{◌≡◌, ◌<◌, ◌++◌, ◌∷◌, [], false, Some, length, map, slice_get};
+ghost use Rattle.std.specs.Prelude.{OnOk, IfOk};
 ghost use Rattle.gl_calculus.specs.Grid.{Range};
 ghost use Rattle.gl_memo.specs.Notes.{notes_of};
 ghost use Rattle.gl_memo.specs.declared.memo.Noted.{Noted};

@@ -3,7 +3,9 @@
 ghost use Rattle.std.specs.Prelude.{◌≡◌, ◌-◌, ℕ, Some, IfNone, IfOk, length, map, slice_get};
 ghost use Rattle.gl_value.specs.View.{scalar_tree, value_tree, array_tree, sheet_tree, frame_tree};
 ghost use Rattle.gl_demand.specs.View.{key_tree};
-ghost use Rattle.gl_core.specs.Words.{HasWord, key_word, cell_word, frame_word, sheet_word, level_word, override_word, value_word, scalar_word, oracle_word, entry_word};
+ghost use Rattle.gl_core.specs.Words.{HasWord, key_word, cell_word, frame_word, sheet_word};
+ghost use Rattle.gl_core.specs.Words.{level_word, override_word, value_word, scalar_word};
+ghost use Rattle.gl_core.specs.Words.{oracle_word, entry_word};
 ghost use Rattle.gl_core.specs.Overrides.{plain_override};
 
 use gl_demand::Key;
@@ -123,8 +125,10 @@ fn first_word(overrides: &[(Addr, Value)]) -> u64
 }
 
 fn last_word(overrides: &[(Addr, Value)]) -> u64
-    ensures { result ≡ override_word
-        (slice_get (map plain_override overrides.now) (length (map plain_override overrides.now) - 1)) }
+    ensures { result
+        ≡ override_word
+        (slice_get (map plain_override overrides.now)
+        (length (map plain_override overrides.now) - 1)) }
 {
     match overrides.last() {
         Some(o) => override_word(o),

@@ -1,5 +1,6 @@
 //! Notes by numbers.
-ghost use Rattle.std.specs.Prelude.{◌≡◌, ◌<◌, ◌-◌, ◌^◌, ◌++◌, ◌∷◌, [], Some, IsTrue, length, map, slice_get, OnOk, OnErr, IfOk};
+ghost use Rattle.std.specs.Prelude.{◌≡◌, ◌<◌, ◌-◌, ◌^◌, ◌++◌, ◌∷◌, [], Some, IsTrue, length, map};
+ghost use Rattle.std.specs.Prelude.{slice_get, OnOk, OnErr, IfOk};
 ghost use Rattle.gl_query.specs.Lists.{Member, AreDistinct};
 ghost use Rattle.gl_query.specs.InOrder.{kept_after};
 ghost use Rattle.gl_calculus.specs.Key.{same_key};
@@ -8,7 +9,8 @@ ghost use Rattle.gl_plane.specs.Changes.{reaches};
 ghost use Rattle.gl_demand.specs.View.{key_tree};
 ghost use Rattle.gl_demand.specs.Sound.{AreSoundKeys};
 ghost use Rattle.gl_core.specs.State.{IsSoundNote};
-ghost use Rattle.gl_core.specs.Numbers.{Each, named, numbers_of, AreNumbers, Grows, IsIndex, IsRowOf};
+ghost use Rattle.gl_core.specs.Numbers.{Each, named, numbers_of, AreNumbers, Grows, IsIndex};
+ghost use Rattle.gl_core.specs.Numbers.{IsRowOf};
 ghost use Rattle.gl_core.specs.Ledger.{written, IsLedger};
 
 use crate::book::Book;
@@ -93,7 +95,8 @@ impl Ledger {
     pub fn numbers(&mut self, alloc: Global, keys: &[Key]) -> Result<Vec<u32>, NoMemory>
         requires kept { IsLedger self.old }
         requires sound { AreSoundKeys (map key_tree keys.now) }
-        ensures numbers { IfOk result (λ ns. AreNumbers self.new.book ns.items (map key_tree keys.now)) }
+        ensures numbers { IfOk result (λ ns.
+            AreNumbers self.new.book ns.items (map key_tree keys.now)) }
         ensures grows { Grows self.old.book self.new.book }
         ensures rows { self.new.rows.items ≡ self.old.rows.items }
         ensures kept { IsLedger self.new }
@@ -119,8 +122,13 @@ impl Ledger {
         requires there { by < length self.old.book }
         requires reads { Each (λ j. j < length self.old.book) reads.items }
         requires new { Member by (numbers_of self.old.rows.items) → ⊥ }
-        requires sound { IsSoundNote (named self.old.book (record { key = by; outcome = outcome; reads = reads.items; looked = looked.items })) }
-        ensures rows { OnOk result (self.new.rows.items ≡ self.old.rows.items ++ record { by = by; outcome = outcome; reads = reads; looked = looked } ∷ []) }
+        requires sound { IsSoundNote
+            (named self.old.book
+            (record { key = by; outcome = outcome; reads = reads.items; looked = looked.items })) }
+        ensures rows { OnOk result (
+            self.new.rows.items
+            ≡ self.old.rows.items
+            ++ record { by = by; outcome = outcome; reads = reads; looked = looked } ∷ []) }
         ensures err { OnErr result (self.new.rows.items ≡ self.old.rows.items) }
         ensures book { self.new.book ≡ self.old.book }
         ensures kept { IsLedger self.new }
@@ -144,7 +152,8 @@ impl Ledger {
     /// before.
     pub fn keep(&mut self, alloc: Global, changes: &Changes) -> Result<(), NoMemory>
         requires { IsLedger self.old }
-        ensures ok { OnOk result (written self.new ≡ kept_after same_key (reaches changes.now) [] (written self.old)) }
+        ensures ok { OnOk result (
+            written self.new ≡ kept_after same_key (reaches changes.now) [] (written self.old)) }
         ensures err { OnErr result (written self.new ≡ written self.old) }
         ensures kept { IsLedger self.new }
     {
@@ -156,7 +165,8 @@ impl Ledger {
 
     /// The places of the rows anew, some of which are gone.
     pub fn renumber(&mut self)
-        requires there { Each (λ n. n < length self.old.row_of.items) (numbers_of self.old.rows.items) }
+        requires there { Each (λ n. n < length self.old.row_of.items)
+            (numbers_of self.old.rows.items) }
         requires apart { AreDistinct (numbers_of self.old.rows.items) }
         requires few { length self.old.rows.items < 2 ^ 32 - 1 }
         ensures index { IsIndex (numbers_of self.new.rows.items) self.new.row_of.items }

@@ -1,5 +1,6 @@
 //! The core: known keys, each idle, waiting for another or resolved, and what a pick does.
-ghost use Rattle.std.specs.Prelude.{[], true, false, ◌≡◌, ◌≤◌, ◌<◌, ◌+◌, ◌-◌, ◌^◌, ℕ, length, map, slice_index, OnOk, OnErr, IfOk, IfErr, vec_len};
+ghost use Rattle.std.specs.Prelude.{[], true, false, ◌≡◌, ◌≤◌, ◌<◌, ◌+◌, ◌-◌, ◌^◌, ℕ, length, map};
+ghost use Rattle.std.specs.Prelude.{slice_index, OnOk, OnErr, IfOk, IfErr, vec_len};
 ghost use Rattle.gl_query.specs.Lists.{Member, AreDistinct, MoreThan};
 ghost use Rattle.gl_query.specs.Laws.{IsQuiet};
 ghost use Rattle.gl_query.specs.Machine as Machine;
@@ -19,7 +20,8 @@ ghost use Rattle.gl_order.specs.Rule.{PicksBelow, rule_of};
 ghost use Rattle.gl_memo.specs.Notes.{notes_of};
 ghost use Rattle.gl_demand.specs.View.{key_tree};
 ghost use Rattle.gl_demand.specs.Sound.{AreSoundKeys};
-ghost use Rattle.gl_core.specs.State.{state_of, seeds_of, notes_in, note_trees, is_noted, noted_after, HaveSoundParts, IsFor};
+ghost use Rattle.gl_core.specs.State.{state_of, seeds_of, notes_in, note_trees, is_noted};
+ghost use Rattle.gl_core.specs.State.{noted_after, HaveSoundParts, IsFor};
 ghost use Rattle.gl_query.specs.InOrder.{note_keys};
 ghost use Rattle.gl_core.specs.Table.{IsTable, AreIdle};
 ghost use Rattle.gl_demand.specs.Marks.{mark_trees};
@@ -80,7 +82,13 @@ impl Model for Core {
 
     ghost coded = { Prim.hlevel (codes, coded_key, coded_outcome, coded_note, coded_mark) };
 
-    ghost view = { λ c. record { state = table_of c.ledger c.entries; seeds = c.seeds; notes = written c.ledger; marks = mark_trees c.entries.marks.items } };
+    ghost view = { λ c.
+        record {
+          state = table_of c.ledger c.entries;
+          seeds = c.seeds;
+          notes = written c.ledger;
+          marks = mark_trees c.entries.marks.items;
+        } };
 
     ghost invariant = { λ c. IsCore c.ledger c.entries };
 }
@@ -137,13 +145,18 @@ impl Core {
         requires few { vec_len seeds ≤ max_demanded }
         requires apart { AreDistinct (map key_tree seeds.items) }
         requires sound_seeds { AreSoundKeys (map key_tree seeds.items) }
-        requires proper { (k : K.Key) → Member k (map key_tree seeds.items) → IsProperKey (sheet cells.now) k }
-        requires true_notes { AreTrue same_key (program (version_tree version) (sheet cells.now) w.now) (note_trees (notes_of kept)) }
+        requires proper { (k : K.Key)
+            → Member k (map key_tree seeds.items)
+            → IsProperKey (sheet cells.now) k }
+        requires true_notes { AreTrue same_key
+            (program (version_tree version) (sheet cells.now) w.now) (note_trees (notes_of kept)) }
         requires sound_notes { HaveSoundParts (note_trees (notes_of kept)) }
-        ensures state { IfOk result (λ core. state_of core ≡ Machine.start (map key_tree seeds.items)) }
+        ensures state { IfOk result (λ core.
+            state_of core ≡ Machine.start (map key_tree seeds.items)) }
         ensures seeds { IfOk result (λ core. seeds_of core ≡ map key_tree seeds.items) }
         ensures notes { IfOk result (λ core. notes_in core ≡ note_trees (notes_of kept)) }
-        ensures for_it { IfOk result (λ core. IsFor (version_tree version) (sheet cells.now) w.now core) }
+        ensures for_it { IfOk result (λ core.
+            IsFor (version_tree version) (sheet cells.now) w.now core) }
     {
         let mut ledger = ledger_of(alloc, &kept)?;
         let count = seeds.len();
@@ -167,13 +180,21 @@ impl Core {
     ) -> Result<Core, CoreFault>
         requires few { length places.now ≤ max_demanded }
         requires apart { AreDistinct (map (K.Cell V.Top) places.now) }
-        requires proper { (k : K.Key) → Member k (map (K.Cell V.Top) places.now) → IsProperKey (sheet cells.now) k }
-        requires true_notes { AreTrue same_key (program (version_tree version) (sheet cells.now) w.now) results }
+        requires proper { (k : K.Key)
+            → Member k (map (K.Cell V.Top) places.now)
+            → IsProperKey (sheet cells.now) k }
+        requires true_notes { AreTrue same_key
+            (program (version_tree version) (sheet cells.now) w.now) results }
         ensures seeds { IfOk result (λ core. seeds_of core ≡ map (K.Cell V.Top) places.now) }
         ensures notes { IfOk result (λ core. notes_in core ≡ results) }
         ensures ordered { IfOk result (λ core. AreOrdered [] (notes_in core)) }
-        ensures for_it { IfOk result (λ core. IsFor (version_tree version) (sheet cells.now) w.now core) }
-        ensures work { IfErr result (λ e. e ≡ CoreFault.Work → MoreThan max_demanded (Demanded (program (version_tree version) (sheet cells.now) w.now) (map (K.Cell V.Top) places.now))) }
+        ensures for_it { IfOk result (λ core.
+            IsFor (version_tree version) (sheet cells.now) w.now core) }
+        ensures work { IfErr result (λ e.
+            e ≡ CoreFault.Work
+            → MoreThan max_demanded
+            (Demanded (program (version_tree version) (sheet cells.now) w.now)
+            (map (K.Cell V.Top) places.now))) }
     {
         let mut ledger = results.into_ledger();
         match resumed(alloc, places, &mut ledger) {
@@ -210,15 +231,30 @@ impl Core {
     ) -> Result<Picked, NoMemory>
         requires there { i < length (idle_keys (state_of self.old)) }
         requires for_it { IsFor (version_tree version) (sheet cells.now) w.now self.old }
-        ensures state { OnOk result (state_of self.new ≡ Machine.pick same_key max_demanded (program (version_tree version) (sheet cells.now) w.now) (state_of self.old) i) }
-        ensures answer { IfOk result (λ picked. picked_tree picked ≡ answer_at same_key max_demanded (program (version_tree version) (sheet cells.now) w.now) (state_of self.old) (nth (idle_keys (state_of self.old)) i)) }
-        ensures notes { IfOk result (λ picked. note_keys (notes_in self.new) ≡ noted_after (notes_in self.old) (nth (idle_keys (state_of self.old)) i) (picked_tree picked)) }
+        ensures state { OnOk result (
+            state_of self.new
+            ≡ Machine.pick same_key max_demanded
+            (program (version_tree version) (sheet cells.now) w.now) (state_of self.old) i) }
+        ensures answer { IfOk result (λ picked.
+            picked_tree picked
+            ≡ answer_at same_key max_demanded
+            (program (version_tree version) (sheet cells.now) w.now) (state_of self.old)
+            (nth (idle_keys (state_of self.old)) i)) }
+        ensures notes { IfOk result (λ picked.
+            note_keys (notes_in self.new)
+            ≡ noted_after (notes_in self.old) (nth (idle_keys (state_of self.old)) i)
+            (picked_tree picked)) }
         ensures ordered { AreOrdered [] (notes_in self.old) → AreOrdered [] (notes_in self.new) }
         ensures err { OnErr result (self.new ≡ self.old) }
         ensures seeds { seeds_of self.new ≡ seeds_of self.old }
         ensures stays { IsFor (version_tree version) (sheet cells.now) w.now self.new }
-        ensures counted { AtMostCounted (is_noted (notes_in self.old)) (nth (idle_keys (state_of self.old)) i) steps.old steps.new }
-        ensures evaluated { IfOk result (λ picked. picked_tree picked ≡ Machine.Picked.Resolved → steps.new ≡ counted (is_noted (notes_in self.old)) (nth (idle_keys (state_of self.old)) i) steps.old) }
+        ensures counted { AtMostCounted (is_noted (notes_in self.old))
+            (nth (idle_keys (state_of self.old)) i) steps.old steps.new }
+        ensures evaluated { IfOk result (λ picked.
+            picked_tree picked ≡ Machine.Picked.Resolved
+            → steps.new
+            ≡ counted (is_noted (notes_in self.old)) (nth (idle_keys (state_of self.old)) i)
+            steps.old) }
     {
         let p = self.entries.statuses.idle_place(i as u32);
         pick_at(
@@ -248,15 +284,34 @@ impl Core {
         requires rule { PicksBelow (F.pre (rule_of order.now)) (F.post (rule_of order.now)) }
         requires kind { kind ≤ 2 }
         requires for_it { IsFor (version_tree version) (sheet cells.now) w.now self }
-        ensures quiet { IfOk result (λ q. IsQuiet same_key (program (version_tree version) (sheet cells.now) w.now) (seeds_of self) (state_of q)) }
+        ensures quiet { IfOk result (λ q.
+            IsQuiet same_key (program (version_tree version) (sheet cells.now) w.now)
+            (seeds_of self) (state_of q)) }
         ensures seeds { IfOk result (λ q. seeds_of q ≡ seeds_of self) }
         ensures stays { IfOk result (λ q. IsFor (version_tree version) (sheet cells.now) w.now q) }
-        ensures ordered { IfOk result (λ q. AreOrdered [] (notes_in self) → AreOrdered [] (notes_in q)) }
-        ensures work { IfErr result (λ e. e ≡ CoreFault.Work → MoreThan max_demanded (Demanded (program (version_tree version) (sheet cells.now) w.now) (seeds_of self))) }
-        ensures no_work { IfOk result (λ q. MoreThan max_demanded (Demanded (program (version_tree version) (sheet cells.now) w.now) (seeds_of self)) → ⊥) }
-        ensures most { IfOk result (λ q. AllowsKnown (program (version_tree version) (sheet cells.now) w.now) (is_noted (notes_in self)) (state_of q) steps.old steps.new) }
-        ensures most_work { IfErr result (λ e. e ≡ CoreFault.Work → AllowsDemanded (Demanded (program (version_tree version) (sheet cells.now) w.now) (seeds_of self)) (program (version_tree version) (sheet cells.now) w.now) (is_noted (notes_in self)) steps.old steps.new) }
-        ensures least { IfOk result (λ q. steps.new < 2 ^ 64 - 1 → steps.old + settled (is_noted (notes_in self)) (state_of q) ≤ steps.new + settled (is_noted (notes_in self)) (state_of self)) }
+        ensures ordered { IfOk result (λ q.
+            AreOrdered [] (notes_in self) → AreOrdered [] (notes_in q)) }
+        ensures work { IfErr result (λ e.
+            e ≡ CoreFault.Work
+            → MoreThan max_demanded
+            (Demanded (program (version_tree version) (sheet cells.now) w.now) (seeds_of self))) }
+        ensures no_work { IfOk result (λ q.
+            MoreThan max_demanded
+            (Demanded (program (version_tree version) (sheet cells.now) w.now) (seeds_of self))
+            → ⊥) }
+        ensures most { IfOk result (λ q.
+            AllowsKnown (program (version_tree version) (sheet cells.now) w.now)
+            (is_noted (notes_in self)) (state_of q) steps.old steps.new) }
+        ensures most_work { IfErr result (λ e.
+            e ≡ CoreFault.Work
+            → AllowsDemanded
+            (Demanded (program (version_tree version) (sheet cells.now) w.now) (seeds_of self))
+            (program (version_tree version) (sheet cells.now) w.now) (is_noted (notes_in self))
+            steps.old steps.new) }
+        ensures least { IfOk result (λ q.
+            steps.new < 2 ^ 64 - 1
+            → steps.old + settled (is_noted (notes_in self)) (state_of q)
+            ≤ steps.new + settled (is_noted (notes_in self)) (state_of self)) }
     {
         let mut core = self;
         let mut turn = 0u64;

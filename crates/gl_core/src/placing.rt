@@ -1,5 +1,6 @@
 //! The places of keys by their short forms.
-ghost use Rattle.std.specs.Prelude.{◌≡◌, ◌<◌, ◌^◌, ◌⊎◌, Some, None, IsTrue, length, position, slice_get, OnOk, OnErr, IfOk};
+ghost use Rattle.std.specs.Prelude.{◌≡◌, ◌<◌, ◌^◌, ◌⊎◌, Some, None, IsTrue, length, position};
+ghost use Rattle.std.specs.Prelude.{slice_get, OnOk, OnErr, IfOk};
 ghost use Rattle.gl_query.specs.Lists.{Member};
 ghost use Rattle.gl_calculus.specs.Key as K;
 ghost use Rattle.gl_calculus.specs.Sound.{is_sound_key};
@@ -31,7 +32,8 @@ pub fn place_key(
     ensures short { IsShort interner.new (key_pairs keys.new.entries) }
     ensures number { IfOk result
         (λ n. slice_get (seconds (key_pairs keys.new.entries)) n ≡ Some (key_tree key)) }
-    ensures grows { Grows (seconds (key_pairs keys.old.entries)) (seconds (key_pairs keys.new.entries)) }
+    ensures grows { Grows (seconds (key_pairs keys.old.entries))
+        (seconds (key_pairs keys.new.entries)) }
     ensures members { (k : K.Key) → Member k (seconds (key_pairs keys.new.entries))
         → Member k (seconds (key_pairs keys.old.entries)) ⊎ (k ≡ key_tree key) }
     ensures err { OnErr result (keys.new.entries ≡ keys.old.entries) }

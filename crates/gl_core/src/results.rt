@@ -103,8 +103,10 @@ impl Results {
 
     /// The outcome of a key: `None` exactly where it has no note.
     pub fn outcome(&self, k: &Key) -> Option<&Outcome>
-        ensures value { option_map outcome_tree (option_copied result) ≡ outcome_in self.now (key_tree k.now) }
-        ensures sound { IfSome result (λ o. IsSoundFound (key_tree k.now) (Ready (outcome_tree o.now))) }
+        ensures value { option_map outcome_tree (option_copied result)
+            ≡ outcome_in self.now (key_tree k.now) }
+        ensures sound { IfSome result (λ o.
+            IsSoundFound (key_tree k.now) (Ready (outcome_tree o.now))) }
     {
         match self.ledger.book.find(k) {
             Some(n) => row_outcome(&self.ledger, self.ledger.row(n)),
@@ -133,7 +135,8 @@ impl Results {
     /// address, and each that read a key whose note goes. After `NoMemory` the results are as
     /// before.
     pub fn keep(&mut self, alloc: Global, changes: &Changes) -> Result<(), NoMemory>
-        ensures ok { OnOk result (self.new ≡ kept_after same_key (reaches changes.now) [] self.old) }
+        ensures ok { OnOk result (
+            self.new ≡ kept_after same_key (reaches changes.now) [] self.old) }
         ensures the { OnOk result (AreTheKept (reaches changes.now) self.old self.new) }
         ensures closed { AreClosed self.old }
         ensures err { OnErr result (self.new ≡ self.old) }

@@ -1,5 +1,7 @@
 //! What a round knows at its start.
-ghost use Rattle.std.specs.Prelude.{◌≡◌, ◌<◌, ◌≤◌, ◌++◌, ◌&&◌, ◌∷◌, [], ℕ, List, All, Some, not, if◌then◌else◌, length, map, filter, slice_get, IfOk, OnOk, IfErr, vec_len};
+ghost use Rattle.std.specs.Prelude.{◌≡◌, ◌<◌, ◌≤◌, ◌++◌, ◌&&◌, ◌∷◌, [], ℕ, List, All, Some, not};
+ghost use Rattle.std.specs.Prelude.{if◌then◌else◌, length, map, filter, slice_get, IfOk, OnOk};
+ghost use Rattle.std.specs.Prelude.{IfErr, vec_len};
 ghost use Rattle.gl_query.specs.Lists.{AreDistinct};
 ghost use Rattle.gl_query.specs.InOrder.{AreOrdered};
 ghost use Rattle.gl_calculus.specs.Limits.{max_demanded};

@@ -1,5 +1,6 @@
 //! The fields of records at their addresses.
-ghost use Rattle.std.specs.Prelude.{◌≡◌, ◌+◌, ◌<◌, ◌≤◌, ◌^◌, ◌∷◌, [], map, length, IsTrue, IfOk, OnOk, SomeIff};
+ghost use Rattle.std.specs.Prelude.{◌≡◌, ◌+◌, ◌<◌, ◌≤◌, ◌^◌, ◌∷◌, [], map, length, IsTrue, IfOk};
+ghost use Rattle.std.specs.Prelude.{OnOk, SomeIff};
 ghost use Rattle.std.specs.List.{list_all};
 ghost use Rattle.std.specs.Str.{is_utf8};
 ghost use Rattle.csv.specs.Records.{fields_of};
@@ -50,7 +51,8 @@ fn place_record(
 ) -> Result<(), CsvFault>
     requires text { IsTrue (list_all is_utf8 (fields_of byte_record.now)) }
     requires proper { AreProper list.old.items }
-    ensures adds { Adds (fields_of_record (addr col row) (fields_of byte_record.now)) list.old.items list.new.items result }
+    ensures adds { Adds (fields_of_record (addr col row) (fields_of byte_record.now)) list.old.items
+        list.new.items result }
     ensures proper { OnOk result (AreProper list.new.items) }
 {
     let mut j = 0;
@@ -74,7 +76,8 @@ fn place_field(
 ) -> Result<(), CsvFault>
     requires text { IsTrue (is_utf8 field.now) }
     requires proper { AreProper list.old.items }
-    ensures adds { Adds (fields_of_record (addr (col + j) row) (field.now ∷ [])) list.old.items list.new.items result }
+    ensures adds { Adds (fields_of_record (addr (col + j) row) (field.now ∷ [])) list.old.items
+        list.new.items result }
     ensures proper { OnOk result (AreProper list.new.items) }
 {
     if field.is_empty() {

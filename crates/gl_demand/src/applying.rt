@@ -34,7 +34,8 @@ const MAX_ARGUMENTS: usize = 16;
 /// formed formula has, and stacks of no value, are refused.
 pub fn apply(alloc: Global, fun: Fun, values: &[Value]) -> Result<Value, Halt>
     requires sound { AreSound values.now }
-    ensures value { IfOk result (λ v. value_tree v ≡ F.apply (fun_tree fun) (map value_tree values.now)) }
+    ensures value { IfOk result (λ v.
+        value_tree v ≡ F.apply (fun_tree fun) (map value_tree values.now)) }
     ensures err { IfErr result (λ h. h ≡ Halt.NoMemory) }
     ensures sound { IfOk result (λ v. IsTrue (is_sound_value (value_tree v))) }
 {
@@ -52,7 +53,8 @@ pub fn apply(alloc: Global, fun: Fun, values: &[Value]) -> Result<Value, Halt>
 fn applied(alloc: Global, fun: Fun, values: &[Value]) -> Result<Value, NoMemory>
     requires few { length values.now ≤ max_arguments }
     requires sound { AreSound values.now }
-    ensures value { IfOk result (λ v. value_tree v ≡ F.apply (fun_tree fun) (map value_tree values.now)) }
+    ensures value { IfOk result (λ v.
+        value_tree v ≡ F.apply (fun_tree fun) (map value_tree values.now)) }
     ensures sound { IfOk result (λ v. IsTrue (is_sound_value (value_tree v))) }
 {
     match fun {
@@ -101,7 +103,8 @@ fn below(alloc: Global, values: &[Value]) -> Result<Value, NoMemory>
 fn by_number(alloc: Global, fun: Fun, values: &[Value]) -> Result<Value, NoMemory>
     requires fixed { takes_any (fun_tree fun) ≡ false }
     requires sound { AreSound values.now }
-    ensures value { IfOk result (λ v. value_tree v ≡ F.apply (fun_tree fun) (map value_tree values.now)) }
+    ensures value { IfOk result (λ v.
+        value_tree v ≡ F.apply (fun_tree fun) (map value_tree values.now)) }
     ensures sound { IfOk result (λ v. IsTrue (is_sound_value (value_tree v))) }
 {
     match values {
@@ -140,7 +143,8 @@ fn on_none(fun: Fun) -> Value
 fn on_one(alloc: Global, fun: Fun, v: &Value) -> Result<Value, NoMemory>
     requires fixed { takes_any (fun_tree fun) ≡ false }
     requires sound { IsTrue (is_sound_value (value_tree v.now)) }
-    ensures value { IfOk result (λ r. value_tree r ≡ F.apply (fun_tree fun) (value_tree v.now ∷ [])) }
+    ensures value { IfOk result (λ r.
+        value_tree r ≡ F.apply (fun_tree fun) (value_tree v.now ∷ [])) }
     ensures sound { IfOk result (λ r. IsTrue (is_sound_value (value_tree r))) }
 {
     match fun {
@@ -163,7 +167,8 @@ fn on_two(alloc: Global, fun: Fun, u: &Value, v: &Value) -> Result<Value, NoMemo
     requires fixed { takes_any (fun_tree fun) ≡ false }
     requires first { IsTrue (is_sound_value (value_tree u.now)) }
     requires second { IsTrue (is_sound_value (value_tree v.now)) }
-    ensures value { IfOk result (λ r. value_tree r ≡ F.apply (fun_tree fun) (value_tree u.now ∷ value_tree v.now ∷ [])) }
+    ensures value { IfOk result (λ r.
+        value_tree r ≡ F.apply (fun_tree fun) (value_tree u.now ∷ value_tree v.now ∷ [])) }
     ensures sound { IfOk result (λ r. IsTrue (is_sound_value (value_tree r))) }
 {
     match fun {
@@ -183,7 +188,9 @@ fn on_three(alloc: Global, fun: Fun, u: &Value, v: &Value, w: &Value) -> Result<
     requires first { IsTrue (is_sound_value (value_tree u.now)) }
     requires second { IsTrue (is_sound_value (value_tree v.now)) }
     requires third { IsTrue (is_sound_value (value_tree w.now)) }
-    ensures value { IfOk result (λ r. value_tree r ≡ F.apply (fun_tree fun) (value_tree u.now ∷ value_tree v.now ∷ value_tree w.now ∷ [])) }
+    ensures value { IfOk result (λ r.
+        value_tree r
+        ≡ F.apply (fun_tree fun) (value_tree u.now ∷ value_tree v.now ∷ value_tree w.now ∷ [])) }
     ensures sound { IfOk result (λ r. IsTrue (is_sound_value (value_tree r))) }
 {
     match fun {

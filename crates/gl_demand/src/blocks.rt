@@ -71,7 +71,9 @@ impl Blocks for CopyBlocks<'_> {
 impl CopyBlocks<'_> {
     /// The address has content, and is not the root.
     fn is_other_content(&self, root: Addr, a: Addr) -> bool
-        ensures { result ≡ (has_content_in (sheet self.now.cells.now) (sheet_tree self.now.sheet.now) a && not (same_addr a root)) }
+        ensures { result
+            ≡ (has_content_in (sheet self.now.cells.now) (sheet_tree self.now.sheet.now) a
+            && not (same_addr a root)) }
     {
         if a == root {
             false

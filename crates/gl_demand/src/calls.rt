@@ -33,7 +33,12 @@ pub fn call<K: Known>(
     xs: &[Formula],
     trail: &mut Trail,
 ) -> Result<Value, Halt>
-    ensures walk { Walks (world (sheet ctx.now.cells.now) ctx.now.w.now (K.outcomes ctx.now.known.now)) (E.call (version_tree ctx.now.version) (frame_tree ctx.now.env.now) (fun_tree fun) (E.arguments (version_tree ctx.now.version) (frame_tree ctx.now.env.now) (bindings_of scope.now.bindings.items) (argument_trees xs.now))) value_tree trail.old result trail.new }
+    ensures walk { Walks
+        (world (sheet ctx.now.cells.now) ctx.now.w.now (K.outcomes ctx.now.known.now))
+        (E.call (version_tree ctx.now.version) (frame_tree ctx.now.env.now) (fun_tree fun)
+        (E.arguments (version_tree ctx.now.version) (frame_tree ctx.now.env.now)
+        (bindings_of scope.now.bindings.items) (argument_trees xs.now))) value_tree trail.old result
+        trail.new }
     ensures sound { IfOk result (λ v. IsTrue (is_sound_value (value_tree v))) }
 {
     match fun {
@@ -57,7 +62,12 @@ fn call_if<K: Known>(
     xs: &[Formula],
     trail: &mut Trail,
 ) -> Result<Value, Halt>
-    ensures walk { Walks (world (sheet ctx.now.cells.now) ctx.now.w.now (K.outcomes ctx.now.known.now)) (E.call (version_tree ctx.now.version) (frame_tree ctx.now.env.now) F.Fun.If (E.arguments (version_tree ctx.now.version) (frame_tree ctx.now.env.now) (bindings_of scope.now.bindings.items) (argument_trees xs.now))) value_tree trail.old result trail.new }
+    ensures walk { Walks
+        (world (sheet ctx.now.cells.now) ctx.now.w.now (K.outcomes ctx.now.known.now))
+        (E.call (version_tree ctx.now.version) (frame_tree ctx.now.env.now) F.Fun.If
+        (E.arguments (version_tree ctx.now.version) (frame_tree ctx.now.env.now)
+        (bindings_of scope.now.bindings.items) (argument_trees xs.now))) value_tree trail.old result
+        trail.new }
     ensures sound { IfOk result (λ v. IsTrue (is_sound_value (value_tree v))) }
 {
     match xs {
@@ -89,7 +99,12 @@ fn call_if_error<K: Known>(
     xs: &[Formula],
     trail: &mut Trail,
 ) -> Result<Value, Halt>
-    ensures walk { Walks (world (sheet ctx.now.cells.now) ctx.now.w.now (K.outcomes ctx.now.known.now)) (E.call (version_tree ctx.now.version) (frame_tree ctx.now.env.now) F.Fun.IfError (E.arguments (version_tree ctx.now.version) (frame_tree ctx.now.env.now) (bindings_of scope.now.bindings.items) (argument_trees xs.now))) value_tree trail.old result trail.new }
+    ensures walk { Walks
+        (world (sheet ctx.now.cells.now) ctx.now.w.now (K.outcomes ctx.now.known.now))
+        (E.call (version_tree ctx.now.version) (frame_tree ctx.now.env.now) F.Fun.IfError
+        (E.arguments (version_tree ctx.now.version) (frame_tree ctx.now.env.now)
+        (bindings_of scope.now.bindings.items) (argument_trees xs.now))) value_tree trail.old result
+        trail.new }
     ensures sound { IfOk result (λ v. IsTrue (is_sound_value (value_tree v))) }
 {
     match xs {
@@ -117,7 +132,12 @@ fn call_sheet<K: Known>(
     xs: &[Formula],
     trail: &mut Trail,
 ) -> Result<Value, Halt>
-    ensures walk { Walks (world (sheet ctx.now.cells.now) ctx.now.w.now (K.outcomes ctx.now.known.now)) (E.call (version_tree ctx.now.version) (frame_tree ctx.now.env.now) F.Fun.Sheet (E.arguments (version_tree ctx.now.version) (frame_tree ctx.now.env.now) (bindings_of scope.now.bindings.items) (argument_trees xs.now))) value_tree trail.old result trail.new }
+    ensures walk { Walks
+        (world (sheet ctx.now.cells.now) ctx.now.w.now (K.outcomes ctx.now.known.now))
+        (E.call (version_tree ctx.now.version) (frame_tree ctx.now.env.now) F.Fun.Sheet
+        (E.arguments (version_tree ctx.now.version) (frame_tree ctx.now.env.now)
+        (bindings_of scope.now.bindings.items) (argument_trees xs.now))) value_tree trail.old result
+        trail.new }
     ensures sound { IfOk result (λ v. IsTrue (is_sound_value (value_tree v))) }
 {
     match xs {
@@ -135,7 +155,12 @@ fn call_update<K: Known>(
     xs: &[Formula],
     trail: &mut Trail,
 ) -> Result<Value, Halt>
-    ensures walk { Walks (world (sheet ctx.now.cells.now) ctx.now.w.now (K.outcomes ctx.now.known.now)) (E.call (version_tree ctx.now.version) (frame_tree ctx.now.env.now) F.Fun.Update (E.arguments (version_tree ctx.now.version) (frame_tree ctx.now.env.now) (bindings_of scope.now.bindings.items) (argument_trees xs.now))) value_tree trail.old result trail.new }
+    ensures walk { Walks
+        (world (sheet ctx.now.cells.now) ctx.now.w.now (K.outcomes ctx.now.known.now))
+        (E.call (version_tree ctx.now.version) (frame_tree ctx.now.env.now) F.Fun.Update
+        (E.arguments (version_tree ctx.now.version) (frame_tree ctx.now.env.now)
+        (bindings_of scope.now.bindings.items) (argument_trees xs.now))) value_tree trail.old result
+        trail.new }
     ensures sound { IfOk result (λ v. IsTrue (is_sound_value (value_tree v))) }
 {
     match xs {
@@ -159,7 +184,12 @@ fn call_view<K: Known>(
     xs: &[Formula],
     trail: &mut Trail,
 ) -> Result<Value, Halt>
-    ensures walk { Walks (world (sheet ctx.now.cells.now) ctx.now.w.now (K.outcomes ctx.now.known.now)) (E.call (version_tree ctx.now.version) (frame_tree ctx.now.env.now) F.Fun.View (E.arguments (version_tree ctx.now.version) (frame_tree ctx.now.env.now) (bindings_of scope.now.bindings.items) (argument_trees xs.now))) value_tree trail.old result trail.new }
+    ensures walk { Walks
+        (world (sheet ctx.now.cells.now) ctx.now.w.now (K.outcomes ctx.now.known.now))
+        (E.call (version_tree ctx.now.version) (frame_tree ctx.now.env.now) F.Fun.View
+        (E.arguments (version_tree ctx.now.version) (frame_tree ctx.now.env.now)
+        (bindings_of scope.now.bindings.items) (argument_trees xs.now))) value_tree trail.old result
+        trail.new }
     ensures sound { IfOk result (λ v. IsTrue (is_sound_value (value_tree v))) }
 {
     match xs {
@@ -180,7 +210,12 @@ fn call_group<K: Known>(
     xs: &[Formula],
     trail: &mut Trail,
 ) -> Result<Value, Halt>
-    ensures walk { Walks (world (sheet ctx.now.cells.now) ctx.now.w.now (K.outcomes ctx.now.known.now)) (E.call (version_tree ctx.now.version) (frame_tree ctx.now.env.now) F.Fun.G (E.arguments (version_tree ctx.now.version) (frame_tree ctx.now.env.now) (bindings_of scope.now.bindings.items) (argument_trees xs.now))) value_tree trail.old result trail.new }
+    ensures walk { Walks
+        (world (sheet ctx.now.cells.now) ctx.now.w.now (K.outcomes ctx.now.known.now))
+        (E.call (version_tree ctx.now.version) (frame_tree ctx.now.env.now) F.Fun.G
+        (E.arguments (version_tree ctx.now.version) (frame_tree ctx.now.env.now)
+        (bindings_of scope.now.bindings.items) (argument_trees xs.now))) value_tree trail.old result
+        trail.new }
     ensures sound { IfOk result (λ v. IsTrue (is_sound_value (value_tree v))) }
 {
     match xs {
@@ -215,7 +250,12 @@ fn call_this<K: Known>(
     xs: &[Formula],
     trail: &mut Trail,
 ) -> Result<Value, Halt>
-    ensures walk { Walks (world (sheet ctx.now.cells.now) ctx.now.w.now (K.outcomes ctx.now.known.now)) (E.call (version_tree ctx.now.version) (frame_tree ctx.now.env.now) F.Fun.This (E.arguments (version_tree ctx.now.version) (frame_tree ctx.now.env.now) (bindings_of scope.now.bindings.items) (argument_trees xs.now))) value_tree trail.old result trail.new }
+    ensures walk { Walks
+        (world (sheet ctx.now.cells.now) ctx.now.w.now (K.outcomes ctx.now.known.now))
+        (E.call (version_tree ctx.now.version) (frame_tree ctx.now.env.now) F.Fun.This
+        (E.arguments (version_tree ctx.now.version) (frame_tree ctx.now.env.now)
+        (bindings_of scope.now.bindings.items) (argument_trees xs.now))) value_tree trail.old result
+        trail.new }
     ensures sound { IfOk result (λ v. IsTrue (is_sound_value (value_tree v))) }
 {
     match xs {
@@ -234,7 +274,12 @@ fn applied<K: Known>(
     xs: &[Formula],
     trail: &mut Trail,
 ) -> Result<Value, Halt>
-    ensures walk { Walks (world (sheet ctx.now.cells.now) ctx.now.w.now (K.outcomes ctx.now.known.now)) (plain_call (fun_tree fun) (E.arguments (version_tree ctx.now.version) (frame_tree ctx.now.env.now) (bindings_of scope.now.bindings.items) (argument_trees xs.now))) value_tree trail.old result trail.new }
+    ensures walk { Walks
+        (world (sheet ctx.now.cells.now) ctx.now.w.now (K.outcomes ctx.now.known.now))
+        (plain_call (fun_tree fun)
+        (E.arguments (version_tree ctx.now.version) (frame_tree ctx.now.env.now)
+        (bindings_of scope.now.bindings.items) (argument_trees xs.now))) value_tree trail.old result
+        trail.new }
     ensures sound { IfOk result (λ v. IsTrue (is_sound_value (value_tree v))) }
 {
     let mut values = Vec::new(ctx.alloc);

@@ -39,7 +39,9 @@ pub enum Replacement {
 /// What IF does at a condition.
 #[tactic(auto, using(gl_value::specs::Forms::trees))]
 pub fn chooses(version: Version, c: &Value) -> Choice
-    ensures { (p q : Eval V.Value) → E.choose (version_tree version) (value_tree c.now) p q ≡ by_choice result (value_tree c.now) p q }
+    ensures { (p q : Eval V.Value)
+        → E.choose (version_tree version) (value_tree c.now) p q
+        ≡ by_choice result (value_tree c.now) p q }
 {
     match c {
         Value::One(x) => chooses_at(version, x),
@@ -50,7 +52,9 @@ pub fn chooses(version: Version, c: &Value) -> Choice
 /// What IF does at a condition that is one scalar.
 #[tactic(auto, using(gl_value::specs::Forms::trees))]
 fn chooses_at(version: Version, x: &Scalar) -> Choice
-    ensures { (p q : Eval V.Value) → E.choose (version_tree version) (V.One (scalar_tree x.now)) p q ≡ by_choice result (V.One (scalar_tree x.now)) p q }
+    ensures { (p q : Eval V.Value)
+        → E.choose (version_tree version) (V.One (scalar_tree x.now)) p q
+        ≡ by_choice result (V.One (scalar_tree x.now)) p q }
 {
     match x {
         Scalar::Bool(true) => Choice::First,
@@ -65,7 +69,8 @@ fn chooses_at(version: Version, x: &Scalar) -> Choice
 
 /// What IF does at an array of conditions.
 fn chooses_at_each(version: Version) -> Choice
-    ensures { (c : V.Value) (p q : Eval V.Value) → E.choose_each (version_tree version) c p q ≡ by_choice result c p q }
+    ensures { (c : V.Value) (p q : Eval V.Value)
+        → E.choose_each (version_tree version) c p q ≡ by_choice result c p q }
 {
     match version {
         Version::One => Choice::Fails(ErrKind::Value),
@@ -76,7 +81,9 @@ fn chooses_at_each(version: Version) -> Choice
 /// What IFERROR does at its first value.
 #[tactic(auto, using(gl_value::specs::Forms::trees))]
 pub fn replaces(version: Version, v: &Value) -> Replacement
-    ensures { (q : Eval V.Value) → E.replace (version_tree version) (value_tree v.now) q ≡ by_replacement result (value_tree v.now) q }
+    ensures { (q : Eval V.Value)
+        → E.replace (version_tree version) (value_tree v.now) q
+        ≡ by_replacement result (value_tree v.now) q }
 {
     match v {
         Value::One(x) => replaces_at(version, x),
@@ -87,7 +94,9 @@ pub fn replaces(version: Version, v: &Value) -> Replacement
 /// What IFERROR does at a first value that is one scalar.
 #[tactic(auto, using(gl_value::specs::Forms::trees))]
 fn replaces_at(version: Version, x: &Scalar) -> Replacement
-    ensures { (q : Eval V.Value) → E.replace (version_tree version) (V.One (scalar_tree x.now)) q ≡ by_replacement result (V.One (scalar_tree x.now)) q }
+    ensures { (q : Eval V.Value)
+        → E.replace (version_tree version) (V.One (scalar_tree x.now)) q
+        ≡ by_replacement result (V.One (scalar_tree x.now)) q }
 {
     match x {
         Scalar::Err(_) => Replacement::Other,
@@ -101,7 +110,8 @@ fn replaces_at(version: Version, x: &Scalar) -> Replacement
 
 /// What IFERROR does at a first value that is an array.
 fn replaces_at_each(version: Version) -> Replacement
-    ensures { (v : V.Value) (q : Eval V.Value) → E.replace_each (version_tree version) v q ≡ by_replacement result v q }
+    ensures { (v : V.Value) (q : Eval V.Value)
+        → E.replace_each (version_tree version) v q ≡ by_replacement result v q }
 {
     match version {
         Version::One => Replacement::Own,
@@ -112,8 +122,11 @@ fn replaces_at_each(version: Version) -> Replacement
 /// One of two scalars by a condition, where a blank is FALSE and an error passes.
 #[tactic(auto, using(gl_value::specs::Forms::trees))]
 fn pick(c: &Scalar, x: &Scalar, y: &Scalar) -> Result<Scalar, NoMemory>
-    ensures value { IfOk result (λ z. scalar_tree z ≡ E.chosen (scalar_tree c.now) (scalar_tree x.now) (scalar_tree y.now)) }
-    ensures sound { IsTrue (is_sound_scalar (scalar_tree x.now)) → IsTrue (is_sound_scalar (scalar_tree y.now)) → IfOk result (λ z. IsTrue (is_sound_scalar (scalar_tree z))) }
+    ensures value { IfOk result (λ z.
+        scalar_tree z ≡ E.chosen (scalar_tree c.now) (scalar_tree x.now) (scalar_tree y.now)) }
+    ensures sound { IsTrue (is_sound_scalar (scalar_tree x.now))
+        → IsTrue (is_sound_scalar (scalar_tree y.now))
+        → IfOk result (λ z. IsTrue (is_sound_scalar (scalar_tree z))) }
 {
     match c {
         Scalar::Bool(true) => x.share(),
@@ -132,7 +145,8 @@ pub fn chosen(alloc: Global, c: &Value, u: &Value, v: &Value) -> Result<Value, H
     requires condition { IsTrue (is_sound_value (value_tree c.now)) }
     requires first { IsTrue (is_sound_value (value_tree u.now)) }
     requires second { IsTrue (is_sound_value (value_tree v.now)) }
-    ensures value { IfOk result (λ x. value_tree x ≡ lift3 E.chosen (value_tree c.now) (value_tree u.now) (value_tree v.now)) }
+    ensures value { IfOk result (λ x.
+        value_tree x ≡ lift3 E.chosen (value_tree c.now) (value_tree u.now) (value_tree v.now)) }
     ensures err { IfErr result (λ h. h ≡ Halt.NoMemory) }
     ensures sound { IfOk result (λ x. IsTrue (is_sound_value (value_tree x))) }
 {
@@ -151,8 +165,11 @@ pub fn chosen(alloc: Global, c: &Value, u: &Value, v: &Value) -> Result<Value, H
 /// The second scalar in place of an error.
 #[tactic(auto, using(gl_value::specs::Forms::trees))]
 fn in_place(x: &Scalar, y: &Scalar) -> Result<Scalar, NoMemory>
-    ensures value { IfOk result (λ z. scalar_tree z ≡ E.in_place_of_error (scalar_tree x.now) (scalar_tree y.now)) }
-    ensures sound { IsTrue (is_sound_scalar (scalar_tree x.now)) → IsTrue (is_sound_scalar (scalar_tree y.now)) → IfOk result (λ z. IsTrue (is_sound_scalar (scalar_tree z))) }
+    ensures value { IfOk result (λ z.
+        scalar_tree z ≡ E.in_place_of_error (scalar_tree x.now) (scalar_tree y.now)) }
+    ensures sound { IsTrue (is_sound_scalar (scalar_tree x.now))
+        → IsTrue (is_sound_scalar (scalar_tree y.now))
+        → IfOk result (λ z. IsTrue (is_sound_scalar (scalar_tree z))) }
 {
     match x {
         Scalar::Err(_) => y.share(),
@@ -169,7 +186,8 @@ fn in_place(x: &Scalar, y: &Scalar) -> Result<Scalar, NoMemory>
 pub fn replaced(alloc: Global, u: &Value, v: &Value) -> Result<Value, Halt>
     requires first { IsTrue (is_sound_value (value_tree u.now)) }
     requires second { IsTrue (is_sound_value (value_tree v.now)) }
-    ensures value { IfOk result (λ x. value_tree x ≡ lift2 E.in_place_of_error (value_tree u.now) (value_tree v.now)) }
+    ensures value { IfOk result (λ x.
+        value_tree x ≡ lift2 E.in_place_of_error (value_tree u.now) (value_tree v.now)) }
     ensures err { IfErr result (λ h. h ≡ Halt.NoMemory) }
     ensures sound { IfOk result (λ x. IsTrue (is_sound_value (value_tree x))) }
 {

@@ -4,7 +4,8 @@ ghost use Rattle.gl_query.specs.Evaluation.{Demand};
 ghost use Rattle.gl_calculus.specs.Facts.{fact};
 ghost use Rattle.gl_calculus.specs.Key.{Cell, give, own_value};
 ghost use Rattle.gl_calculus.specs.Reference.{own, value_of};
-ghost use Rattle.gl_calculus.specs.Sound.{is_sound_frame, is_sound_key, is_sound_outcome, is_sound_value};
+ghost use Rattle.gl_calculus.specs.Sound.{is_sound_frame, is_sound_key, is_sound_outcome};
+ghost use Rattle.gl_calculus.specs.Sound.{is_sound_value};
 ghost use Rattle.gl_cells.specs.Sheet.{sheet};
 ghost use Rattle.gl_value.specs.View.{value_tree, frame_tree};
 ghost use Rattle.gl_demand.specs.View.{key_tree, outcome_tree};
@@ -27,7 +28,9 @@ pub fn demand<'a, K: Known>(
     trail: &mut Trail,
 ) -> Result<&'a Outcome, Halt>
     requires { IsTrue (is_sound_key (key_tree key)) }
-    ensures walk { Walks (world (sheet ctx.now.cells.now) ctx.now.w.now (K.outcomes ctx.now.known.now)) (Demand (key_tree key) give) (λ o. outcome_tree o.now) trail.old result trail.new }
+    ensures walk { Walks
+        (world (sheet ctx.now.cells.now) ctx.now.w.now (K.outcomes ctx.now.known.now))
+        (Demand (key_tree key) give) (λ o. outcome_tree o.now) trail.old result trail.new }
     ensures sound { IfOk result (λ o. IsTrue (is_sound_outcome (outcome_tree o.now))) }
 {
     match key.share() {
@@ -47,7 +50,9 @@ pub fn demand<'a, K: Known>(
 #[tactic(auto, using(gl_value::specs::Forms::trees))]
 fn value_in(outcome: &Outcome, trail: &Trail) -> Result<Option<Value>, Halt>
     requires { IsTrue (is_sound_outcome (outcome_tree outcome.now)) }
-    ensures walk { (w : World) → Walks w (own_value (outcome_tree outcome.now)) (option_map value_tree) trail.now result trail.now }
+    ensures walk { (w : World)
+        → Walks w (own_value (outcome_tree outcome.now)) (option_map value_tree) trail.now result
+        trail.now }
     ensures sound { IfOk result (λ v. IfSome v (λ x. IsTrue (is_sound_value (value_tree x)))) }
 {
     match outcome {
@@ -69,7 +74,10 @@ fn demanded<K: Known>(
     trail: &mut Trail,
 ) -> Result<Option<Value>, Halt>
     requires frame { IsTrue (is_sound_frame (frame_tree env.now)) }
-    ensures walk { Walks (world (sheet ctx.now.cells.now) ctx.now.w.now (K.outcomes ctx.now.known.now)) (Demand (Cell (frame_tree env.now) a) own_value) (option_map value_tree) trail.old result trail.new }
+    ensures walk { Walks
+        (world (sheet ctx.now.cells.now) ctx.now.w.now (K.outcomes ctx.now.known.now))
+        (Demand (Cell (frame_tree env.now) a) own_value) (option_map value_tree) trail.old result
+        trail.new }
     ensures sound { IfOk result (λ v. IfSome v (λ x. IsTrue (is_sound_value (value_tree x)))) }
 {
     match cell_key(env, a) {
@@ -104,7 +112,10 @@ pub fn own<K: Known>(
     trail: &mut Trail,
 ) -> Result<Option<Value>, Halt>
     requires frame { IsTrue (is_sound_frame (frame_tree env.now)) }
-    ensures walk { Walks (world (sheet ctx.now.cells.now) ctx.now.w.now (K.outcomes ctx.now.known.now)) (own (frame_tree env.now) (fact (sheet ctx.now.cells.now) ctx.now.w.now a)) (option_map value_tree) trail.old result trail.new }
+    ensures walk { Walks
+        (world (sheet ctx.now.cells.now) ctx.now.w.now (K.outcomes ctx.now.known.now))
+        (own (frame_tree env.now) (fact (sheet ctx.now.cells.now) ctx.now.w.now a))
+        (option_map value_tree) trail.old result trail.new }
     ensures sound { IfOk result (λ v. IfSome v (λ x. IsTrue (is_sound_value (value_tree x)))) }
 {
     match held_at(ctx.cells, env, a) {
@@ -124,7 +135,10 @@ fn value_of<K: Known>(
 ) -> Result<Option<Value>, Halt>
     requires frame { IsTrue (is_sound_frame (frame_tree env.now)) }
     requires held { IsSoundHeld (held_tree held.now) }
-    ensures walk { Walks (world (sheet ctx.now.cells.now) ctx.now.w.now (K.outcomes ctx.now.known.now)) (value_of (frame_tree env.now) a (Some (held_tree held.now))) (option_map value_tree) trail.old result trail.new }
+    ensures walk { Walks
+        (world (sheet ctx.now.cells.now) ctx.now.w.now (K.outcomes ctx.now.known.now))
+        (value_of (frame_tree env.now) a (Some (held_tree held.now))) (option_map value_tree)
+        trail.old result trail.new }
     ensures sound { IfOk result (λ v. IfSome v (λ x. IsTrue (is_sound_value (value_tree x)))) }
 {
     match held {

@@ -36,7 +36,8 @@ pub fn share_value(x: &Value) -> Result<Value, Halt>
 /// What an address with content shows: an array its corner, unless it is refused.
 pub fn shown(permit: Option<Permit>, v: &Value) -> Result<Scalar, Halt>
     requires { IsTrue (is_sound_value (value_tree v.now)) }
-    ensures value { IfOk result (λ x. scalar_tree x ≡ shown (option_map permit_tree permit) (value_tree v.now)) }
+    ensures value { IfOk result (λ x.
+        scalar_tree x ≡ shown (option_map permit_tree permit) (value_tree v.now)) }
     ensures err { IfErr result (λ h. h ≡ Halt.NoMemory) }
     ensures sound { IfOk result (λ x. IsTrue (is_sound_scalar (scalar_tree x))) }
 {

@@ -39,7 +39,10 @@ use std::rc::Rc;
 #[tactic(auto, using(gl_value::specs::Forms::trees), unfolding(gl_calculus::specs::Evaluation::cell_value))]
 fn content_value<K: Known>(ctx: &Context<K>, held: &Held, trail: &mut Trail) -> Result<Value, Halt>
     requires held { IsSoundHeld (held_tree held.now) }
-    ensures walk { Walks (world (sheet ctx.now.cells.now) ctx.now.w.now (K.outcomes ctx.now.known.now)) (E.cell_value (version_tree ctx.now.version) (frame_tree ctx.now.env.now) (Some (held_tree held.now))) value_tree trail.old result trail.new }
+    ensures walk { Walks
+        (world (sheet ctx.now.cells.now) ctx.now.w.now (K.outcomes ctx.now.known.now))
+        (E.cell_value (version_tree ctx.now.version) (frame_tree ctx.now.env.now)
+        (Some (held_tree held.now))) value_tree trail.old result trail.new }
     ensures sound { IfOk result (λ v. IsTrue (is_sound_value (value_tree v))) }
 {
     match held {
@@ -60,7 +63,11 @@ fn content_value<K: Known>(ctx: &Context<K>, held: &Held, trail: &mut Trail) -> 
 /// The value of a cell, which looks at its own address first.
 #[tactic(auto, using(gl_value::specs::Forms::trees), unfolding(gl_calculus::specs::Evaluation::cell_value))]
 fn cell_at<K: Known>(ctx: &Context<K>, a: Addr, trail: &mut Trail) -> Result<Value, Halt>
-    ensures walk { Walks (world (sheet ctx.now.cells.now) ctx.now.w.now (K.outcomes ctx.now.known.now)) (looked_cell (version_tree ctx.now.version) (frame_tree ctx.now.env.now) (own_content (content (sheet ctx.now.cells.now) a) (frame_tree ctx.now.env.now) a) a) value_tree trail.old result trail.new }
+    ensures walk { Walks
+        (world (sheet ctx.now.cells.now) ctx.now.w.now (K.outcomes ctx.now.known.now))
+        (looked_cell (version_tree ctx.now.version) (frame_tree ctx.now.env.now)
+        (own_content (content (sheet ctx.now.cells.now) a) (frame_tree ctx.now.env.now) a) a)
+        value_tree trail.old result trail.new }
     ensures sound { IfOk result (λ v. IsTrue (is_sound_value (value_tree v))) }
 {
     match look_at(a, trail) {
@@ -163,7 +170,9 @@ fn own_tells<K: Known>(ctx: &Context<K>, a: Addr) -> Result<bool, NoMemory> {
 /// that tells more.
 fn with_own<K: Known>(ctx: &Context<K>, a: Addr, ended: Ended) -> Result<Ended, NoMemory>
     ensures found { IfOk result (λ x. found_tree x.found ≡ found_tree ended.found) }
-    ensures ahead { IfOk result (λ x. (ahead_tree x.ahead ≡ ahead_tree ended.ahead) ⊎ (ahead_tree x.ahead ≡ Own (frame_tree ctx.now.env.now) a)) }
+    ensures ahead { IfOk result (λ x.
+        (ahead_tree x.ahead ≡ ahead_tree ended.ahead)
+        ⊎ (ahead_tree x.ahead ≡ Own (frame_tree ctx.now.env.now) a)) }
 {
     match own_tells(ctx, a) {
         Ok(true) => match ctx.env.share() {
@@ -180,9 +189,17 @@ fn with_own<K: Known>(ctx: &Context<K>, a: Addr, ended: Ended) -> Result<Ended, 
 
 /// How the evaluation of a cell ends.
 fn evaluate_cell<K: Known>(ctx: &Context<K>, a: Addr, trail: &mut Trail) -> Result<Ended, NoMemory>
-    ensures walk { IfOk result (λ x. walk (world (sheet ctx.now.cells.now) ctx.now.w.now (K.outcomes ctx.now.known.now)) (E.evaluation (version_tree ctx.now.version) (Cell (frame_tree ctx.now.env.now) a)) (trail_tree trail.old) ≡ (found_tree x.found, trail_tree trail.new)) }
-    ensures ahead { IfOk result (λ x. IsAheadOf (world (sheet ctx.now.cells.now) ctx.now.w.now (K.outcomes ctx.now.known.now)) (E.evaluation (version_tree ctx.now.version) (Cell (frame_tree ctx.now.env.now) a)) x.ahead) }
-    ensures sound { IfOk result (λ x. IsSoundFound (Cell (frame_tree ctx.now.env.now) a) (found_tree x.found)) }
+    ensures walk { IfOk result (λ x.
+        walk (world (sheet ctx.now.cells.now) ctx.now.w.now (K.outcomes ctx.now.known.now))
+        (E.evaluation (version_tree ctx.now.version) (Cell (frame_tree ctx.now.env.now) a))
+        (trail_tree trail.old)
+        ≡ (found_tree x.found, trail_tree trail.new)) }
+    ensures ahead { IfOk result (λ x.
+        IsAheadOf (world (sheet ctx.now.cells.now) ctx.now.w.now (K.outcomes ctx.now.known.now))
+        (E.evaluation (version_tree ctx.now.version) (Cell (frame_tree ctx.now.env.now) a))
+        x.ahead) }
+    ensures sound { IfOk result (λ x.
+        IsSoundFound (Cell (frame_tree ctx.now.env.now) a) (found_tree x.found)) }
 {
     match cell_at(ctx, a, trail) {
         Ok(v) => Ok(ready(Outcome::Value(v))),
@@ -207,9 +224,16 @@ fn evaluate_copy<K: Known>(
     trail: &mut Trail,
 ) -> Result<Ended, NoMemory>
     requires { IsTrue (is_sound_sheet (sheet_tree s.now.value)) }
-    ensures walk { IfOk result (λ x. walk (world (sheet ctx.now.cells.now) ctx.now.w.now (K.outcomes ctx.now.known.now)) (E.evaluation (version_tree ctx.now.version) (Settle (sheet_tree s.now.value))) (trail_tree trail.old) ≡ (found_tree x.found, trail_tree trail.new)) }
-    ensures ahead { IfOk result (λ x. IsAheadOf (world (sheet ctx.now.cells.now) ctx.now.w.now (K.outcomes ctx.now.known.now)) (E.evaluation (version_tree ctx.now.version) (Settle (sheet_tree s.now.value))) x.ahead) }
-    ensures sound { IfOk result (λ x. IsSoundFound (Settle (sheet_tree s.now.value)) (found_tree x.found)) }
+    ensures walk { IfOk result (λ x.
+        walk (world (sheet ctx.now.cells.now) ctx.now.w.now (K.outcomes ctx.now.known.now))
+        (E.evaluation (version_tree ctx.now.version) (Settle (sheet_tree s.now.value)))
+        (trail_tree trail.old)
+        ≡ (found_tree x.found, trail_tree trail.new)) }
+    ensures ahead { IfOk result (λ x.
+        IsAheadOf (world (sheet ctx.now.cells.now) ctx.now.w.now (K.outcomes ctx.now.known.now))
+        (E.evaluation (version_tree ctx.now.version) (Settle (sheet_tree s.now.value))) x.ahead) }
+    ensures sound { IfOk result (λ x.
+        IsSoundFound (Settle (sheet_tree s.now.value)) (found_tree x.found)) }
 {
     match settle(ctx, s, trail) {
         Ok(oracle) => settled(ctx.alloc, oracle),
@@ -229,8 +253,13 @@ pub fn evaluate<K: Known>(
 ) -> Result<Ended, NoMemory>
     requires key { IsTrue (is_sound_key (key_tree key.now)) }
     requires known { IsSoundTable (K.outcomes known.now) }
-    ensures walk { IfOk result (λ x. walk (world (sheet cells.now) w.now (K.outcomes known.now)) (E.evaluation (version_tree version) (key_tree key.now)) (trail_tree trail.old) ≡ (found_tree x.found, trail_tree trail.new)) }
-    ensures ahead { IfOk result (λ x. IsAheadOf (world (sheet cells.now) w.now (K.outcomes known.now)) (E.evaluation (version_tree version) (key_tree key.now)) x.ahead) }
+    ensures walk { IfOk result (λ x.
+        walk (world (sheet cells.now) w.now (K.outcomes known.now))
+        (E.evaluation (version_tree version) (key_tree key.now)) (trail_tree trail.old)
+        ≡ (found_tree x.found, trail_tree trail.new)) }
+    ensures ahead { IfOk result (λ x.
+        IsAheadOf (world (sheet cells.now) w.now (K.outcomes known.now))
+        (E.evaluation (version_tree version) (key_tree key.now)) x.ahead) }
     ensures sound { IfOk result (λ x. IsSoundFound (key_tree key.now) (found_tree x.found)) }
 {
     match key {

@@ -31,7 +31,11 @@ pub fn eval<K: Known>(
     f: &Formula,
     trail: &mut Trail,
 ) -> Result<Value, Halt>
-    ensures walk { Walks (world (sheet ctx.now.cells.now) ctx.now.w.now (K.outcomes ctx.now.known.now)) (E.eval (version_tree ctx.now.version) (frame_tree ctx.now.env.now) (bindings_of scope.now.bindings.items) (formula_tree f.now)) value_tree trail.old result trail.new }
+    ensures walk { Walks
+        (world (sheet ctx.now.cells.now) ctx.now.w.now (K.outcomes ctx.now.known.now))
+        (E.eval (version_tree ctx.now.version) (frame_tree ctx.now.env.now)
+        (bindings_of scope.now.bindings.items) (formula_tree f.now)) value_tree trail.old result
+        trail.new }
     ensures sound { IfOk result (λ v. IsTrue (is_sound_value (value_tree v))) }
 {
     match f {

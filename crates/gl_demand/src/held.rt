@@ -4,7 +4,8 @@ ghost use Rattle.gl_language.specs.Content.{IsProperContent};
 ghost use Rattle.std.specs.Option.{option_copied};
 ghost use Rattle.gl_calculus.specs.Formula.{content, Cells as Sheet};
 ghost use Rattle.gl_calculus.specs.Facts.{fact};
-ghost use Rattle.gl_calculus.specs.Reference.{own_content, content_in, held_top, home, in_region, status_in, cover_in};
+ghost use Rattle.gl_calculus.specs.Reference.{own_content, content_in, held_top, home, in_region};
+ghost use Rattle.gl_calculus.specs.Reference.{status_in, cover_in};
 ghost use Rattle.gl_calculus.specs.Sound.{is_sound_frame, is_sound_value};
 ghost use Rattle.gl_cells.specs.Sheet.{sheet};
 ghost use Rattle.gl_cells.specs.Content.{content_tree};
@@ -66,7 +67,8 @@ fn nearest_override(env: &Env, a: Addr) -> Option<&Value>
 /// The same value, which is sound.
 fn override_in(env: &Env, a: Addr) -> Option<&Value>
     requires { IsTrue (is_sound_frame (frame_tree env.now)) }
-    ensures value { option_map value_tree (option_copied result) ≡ override_in (frame_tree env.now) a }
+    ensures value { option_map value_tree (option_copied result)
+        ≡ override_in (frame_tree env.now) a }
     ensures sound { IfSome result (λ v. IsTrue (is_sound_value (value_tree v.now))) }
 {
     nearest_override(env, a)
@@ -87,7 +89,8 @@ fn held_top(content: &Content) -> Held<'_>
 #[tactic(auto, using(crate::proofs::Frames::content_nearest))]
 pub fn content_in<'a>(cells: &'a Cells, env: &'a Env, a: Addr) -> Option<Held<'a>>
     requires { IsTrue (is_sound_frame (frame_tree env.now)) }
-    ensures value { option_map held_tree result ≡ content_in (content (sheet cells.now) a) (frame_tree env.now) a }
+    ensures value { option_map held_tree result
+        ≡ content_in (content (sheet cells.now) a) (frame_tree env.now) a }
     ensures sound { IfSome result (λ h. IsSoundHeld (held_tree h)) }
 {
     match override_in(env, a) {
@@ -102,7 +105,8 @@ pub fn content_in<'a>(cells: &'a Cells, env: &'a Env, a: Addr) -> Option<Held<'a
 /// What an address holds that is in the region of the frame.
 pub fn held_at<'a>(cells: &'a Cells, env: &'a Env, a: Addr) -> Option<Held<'a>>
     requires { IsTrue (is_sound_frame (frame_tree env.now)) }
-    ensures value { option_map held_tree result ≡ own_content (content (sheet cells.now) a) (frame_tree env.now) a }
+    ensures value { option_map held_tree result
+        ≡ own_content (content (sheet cells.now) a) (frame_tree env.now) a }
     ensures sound { IfSome result (λ h. IsSoundHeld (held_tree h)) }
 {
     if in_region(env, a) {
@@ -126,7 +130,8 @@ fn in_region(env: &Env, a: Addr) -> bool
 /// What the oracle of a frame says of an address.
 #[tactic(auto, using(gl_value::specs::Forms::trees))]
 pub fn status_in(w: &Oracle, env: &Env, a: Addr) -> Option<Permit>
-    ensures { (S : Sheet) → option_map permit_tree result ≡ status_in (fact S w.now a) (frame_tree env.now) }
+    ensures { (S : Sheet)
+        → option_map permit_tree result ≡ status_in (fact S w.now a) (frame_tree env.now) }
 {
     match env {
         Env::Top => w.status(a),
@@ -137,7 +142,8 @@ pub fn status_in(w: &Oracle, env: &Env, a: Addr) -> Option<Permit>
 /// The root that spills over an address in a frame, with the address's row and column offsets.
 #[tactic(auto, using(gl_value::specs::Forms::trees))]
 pub fn cover_in(w: &Oracle, env: &Env, a: Addr) -> Option<(Addr, u16, u16)>
-    ensures { (S : Sheet) → result ≡ option_map offsets (cover_in (fact S w.now a) (frame_tree env.now)) }
+    ensures { (S : Sheet)
+        → result ≡ option_map offsets (cover_in (fact S w.now a) (frame_tree env.now)) }
 {
     match env {
         Env::Top => w.cover(a),

@@ -17,7 +17,8 @@ pub trait Known {
 
     /// The outcome of a key: `None` exactly where it is not known.
     fn get(&self, k: &Key) -> Option<&Outcome>
-        ensures { option_map outcome_tree (option_copied result) ≡ outcomes self.now (key_tree k.now) };
+        ensures { option_map outcome_tree (option_copied result)
+            ≡ outcomes self.now (key_tree k.now) };
 }
 
 /// What an evaluation finds: the key's outcome, or the first key that it demands without known outcome.

@@ -7,7 +7,8 @@ ghost use Rattle.gl_calculus.specs.Reference.{own_content, cover_in};
 ghost use Rattle.gl_calculus.specs.Sound.{is_sound_frame, is_sound_key};
 ghost use Rattle.gl_cells.specs.Sheet.{sheet};
 ghost use Rattle.gl_value.specs.View.{frame_tree};
-ghost use Rattle.gl_ahead.specs.Demands.{is_value, held_keys, own_keys, cover_keys, shown_keys, address_keys};
+ghost use Rattle.gl_ahead.specs.Demands.{is_value, held_keys, own_keys, cover_keys, shown_keys};
+ghost use Rattle.gl_ahead.specs.Demands.{address_keys};
 ghost use Rattle.gl_ahead.specs.Reading.{Area, Round, keys_from};
 ghost use Rattle.gl_demand.specs.View.{key_tree, outcome_tree};
 ghost use Rattle.gl_demand.specs.Held.{held_tree};
@@ -42,7 +43,9 @@ pub enum Passing {
 #[tactic(auto, using(gl_value::specs::Forms::trees))]
 fn held_key(env: &Env, a: Addr, held: &Held) -> Result<Option<Key>, NoMemory>
     requires frame { IsTrue (is_sound_frame (frame_tree env.now)) }
-    ensures keys { IfOk result (λ k. one_key (option_map key_tree k) ≡ held_keys (frame_tree env.now) a (Some (held_tree held.now))) }
+    ensures keys { IfOk result (λ k.
+        one_key (option_map key_tree k)
+        ≡ held_keys (frame_tree env.now) a (Some (held_tree held.now))) }
     ensures sound { IfOk result (λ k. IfSome k (λ x. IsTrue (is_sound_key (key_tree x)))) }
 {
     match held {
@@ -58,7 +61,10 @@ fn held_key(env: &Env, a: Addr, held: &Held) -> Result<Option<Key>, NoMemory>
 /// The key that the own value of an address demands.
 fn own_key(cells: &Cells, env: &Env, a: Addr) -> Result<Option<Key>, NoMemory>
     requires frame { IsTrue (is_sound_frame (frame_tree env.now)) }
-    ensures keys { (w : Plain) → IfOk result (λ k. one_key (option_map key_tree k) ≡ own_keys (frame_tree env.now) (fact (sheet cells.now) w a)) }
+    ensures keys { (w : Plain)
+        → IfOk result (λ k.
+        one_key (option_map key_tree k)
+        ≡ own_keys (frame_tree env.now) (fact (sheet cells.now) w a)) }
     ensures sound { IfOk result (λ k. IfSome k (λ x. IsTrue (is_sound_key (key_tree x)))) }
 {
     match held_at(cells, env, a) {
@@ -70,7 +76,10 @@ fn own_key(cells: &Cells, env: &Env, a: Addr) -> Result<Option<Key>, NoMemory>
 /// The key that the root demands which covers an address, if one does.
 fn cover_key(cells: &Cells, w: &Oracle, env: &Env, a: Addr) -> Result<Option<Key>, NoMemory>
     requires frame { IsTrue (is_sound_frame (frame_tree env.now)) }
-    ensures keys { IfOk result (λ k. one_key (option_map key_tree k) ≡ cover_keys (fact (sheet cells.now) w.now) (frame_tree env.now) (cover_in (fact (sheet cells.now) w.now a) (frame_tree env.now))) }
+    ensures keys { IfOk result (λ k.
+        one_key (option_map key_tree k)
+        ≡ cover_keys (fact (sheet cells.now) w.now) (frame_tree env.now)
+        (cover_in (fact (sheet cells.now) w.now a) (frame_tree env.now))) }
     ensures sound { IfOk result (λ k. IfSome k (λ x. IsTrue (is_sound_key (key_tree x)))) }
 {
     match cover_in(w, env, a) {
@@ -82,7 +91,11 @@ fn cover_key(cells: &Cells, w: &Oracle, env: &Env, a: Addr) -> Result<Option<Key
 /// The key that an address of the frame's region demands.
 fn home_key(cells: &Cells, w: &Oracle, env: &Env, a: Addr) -> Result<Option<Key>, NoMemory>
     requires frame { IsTrue (is_sound_frame (frame_tree env.now)) }
-    ensures keys { IfOk result (λ k. one_key (option_map key_tree k) ≡ shown_keys (fact (sheet cells.now) w.now) (frame_tree env.now) (fact (sheet cells.now) w.now a) (own_content (content (sheet cells.now) a) (frame_tree env.now) a)) }
+    ensures keys { IfOk result (λ k.
+        one_key (option_map key_tree k)
+        ≡ shown_keys (fact (sheet cells.now) w.now) (frame_tree env.now)
+        (fact (sheet cells.now) w.now a)
+        (own_content (content (sheet cells.now) a) (frame_tree env.now) a)) }
     ensures sound { IfOk result (λ k. IfSome k (λ x. IsTrue (is_sound_key (key_tree x)))) }
 {
     match held_at(cells, env, a) {
@@ -94,7 +107,10 @@ fn home_key(cells: &Cells, w: &Oracle, env: &Env, a: Addr) -> Result<Option<Key>
 /// The key that an address demands, which is read in its home frame.
 fn key_at(cells: &Cells, w: &Oracle, env: &Env, a: Addr) -> Result<Option<Key>, NoMemory>
     requires frame { IsTrue (is_sound_frame (frame_tree env.now)) }
-    ensures keys { IfOk result (λ k. one_key (option_map key_tree k) ≡ address_keys (fact (sheet cells.now) w.now) (frame_tree env.now) (fact (sheet cells.now) w.now a)) }
+    ensures keys { IfOk result (λ k.
+        one_key (option_map key_tree k)
+        ≡ address_keys (fact (sheet cells.now) w.now) (frame_tree env.now)
+        (fact (sheet cells.now) w.now a)) }
     ensures sound { IfOk result (λ k. IfSome k (λ x. IsTrue (is_sound_key (key_tree x)))) }
 {
     home_key(cells, w, sound_home(env, a), a)
@@ -148,7 +164,10 @@ pub fn pass_address<K: Known>(
     known: &K,
 ) -> Result<Passing, NoMemory>
     requires frame { IsTrue (is_sound_frame (frame_tree env.now)) }
-    ensures { IfOk result (IsPassing (K.outcomes known.now) (address_keys (fact (sheet cells.now) w.now) (frame_tree env.now) (fact (sheet cells.now) w.now a))) }
+    ensures { IfOk result
+        (IsPassing (K.outcomes known.now)
+        (address_keys (fact (sheet cells.now) w.now) (frame_tree env.now)
+        (fact (sheet cells.now) w.now a))) }
 {
     match key_at(cells, w, env, a) {
         Ok(key) => Ok(pass_by(known, key)),
@@ -159,7 +178,10 @@ pub fn pass_address<K: Known>(
 /// What an address of a round says of those behind it.
 fn pass_own<K: Known>(cells: &Cells, env: &Env, a: Addr, known: &K) -> Result<Passing, NoMemory>
     requires frame { IsTrue (is_sound_frame (frame_tree env.now)) }
-    ensures { (w : Plain) → IfOk result (IsPassing (K.outcomes known.now) (own_keys (frame_tree env.now) (fact (sheet cells.now) w a))) }
+    ensures { (w : Plain)
+        → IfOk result
+        (IsPassing (K.outcomes known.now)
+        (own_keys (frame_tree env.now) (fact (sheet cells.now) w a))) }
 {
     match own_key(cells, env, a) {
         Ok(key) => Ok(pass_by(known, key)),
@@ -175,7 +197,9 @@ fn lacked_in_area<K: Known>(
     from: u32,
     known: &K,
 ) -> Result<Option<Lacked>, NoMemory>
-    ensures { IfOk result (IsNext (K.outcomes known.now) (keys_from (sheet cells.now) w.now (Area (frame_tree x.now.env) x.now.range)) from) }
+    ensures { IfOk result
+        (IsNext (K.outcomes known.now)
+        (keys_from (sheet cells.now) w.now (Area (frame_tree x.now.env) x.now.range)) from) }
 {
     for i in from..x.range.cells() {
         match pass_address(cells, w, &x.env, x.range.place(i), known) {
@@ -197,7 +221,10 @@ fn lacked_in_round<K: Known>(
     from: u32,
     known: &K,
 ) -> Result<Option<Lacked>, NoMemory>
-    ensures { (w : Plain) → IfOk result (IsNext (K.outcomes known.now) (keys_from (sheet cells.now) w (Round (frame_tree x.now.env) x.now.range)) from) }
+    ensures { (w : Plain)
+        → IfOk result
+        (IsNext (K.outcomes known.now)
+        (keys_from (sheet cells.now) w (Round (frame_tree x.now.env) x.now.range)) from) }
 {
     for i in from..x.range.cells() {
         match pass_own(cells, &x.env, x.range.place(i), known) {
@@ -222,7 +249,9 @@ pub fn next_lacked<K: Known>(
     from: u32,
     known: &K,
 ) -> Result<Option<Lacked>, NoMemory>
-    ensures { IfOk result (IsNext (K.outcomes known.now) (keys_from (sheet cells.now) w.now (ahead_tree ahead.now)) from) }
+    ensures { IfOk result
+        (IsNext (K.outcomes known.now) (keys_from (sheet cells.now) w.now (ahead_tree ahead.now))
+        from) }
 {
     match ahead {
         Ahead::Nothing => Ok(None),

@@ -1,5 +1,6 @@
 //! The laws of equality and of hashes.
-ghost use Rattle.gl_demand.specs.Laws.{KeysCompareByTree, KeysHashByTree, OutcomesCompareByTree, OutcomesHashByTree};
+ghost use Rattle.gl_demand.specs.Laws.{KeysCompareByTree, KeysHashByTree, OutcomesCompareByTree};
+ghost use Rattle.gl_demand.specs.Laws.{OutcomesHashByTree};
 
 /// Keys are equal, and hash alike, where their plain keys are equal.
 pub fn keys_compare_by_tree()

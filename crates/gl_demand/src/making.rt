@@ -24,7 +24,8 @@ use gl_value::{Env, ErrKind, Made, Scalar, Value, sheet, update};
 #[tactic(auto, using(gl_value::specs::Forms::trees))]
 fn made_value(made: Made) -> Result<Value, Halt>
     requires { IsTrue (is_sound_made (made_tree made)) }
-    ensures walk { (w : World) (t : Trail) → Walks w (E.made (made_tree made)) value_tree t result t }
+    ensures walk { (w : World) (t : Trail)
+        → Walks w (E.made (made_tree made)) value_tree t result t }
     ensures sound { IfOk result (λ v. IsTrue (is_sound_value (value_tree v))) }
 {
     match made {
@@ -38,7 +39,10 @@ fn made_value(made: Made) -> Result<Value, Halt>
 /// The sheet value of a place as it is written, made in the frame of the evaluation.
 #[tactic(auto, using(gl_value::specs::Forms::trees))]
 pub fn sheet_of<K: Known>(ctx: &Context<K>, place: &Formula) -> Result<Value, Halt>
-    ensures walk { (w : World) (t : Trail) → Walks w (E.made (S.sheet (frame_tree ctx.now.env.now) (E.written_range (formula_tree place.now)))) value_tree t result t }
+    ensures walk { (w : World) (t : Trail)
+        → Walks w
+        (E.made (S.sheet (frame_tree ctx.now.env.now) (E.written_range (formula_tree place.now))))
+        value_tree t result t }
     ensures sound { IfOk result (λ v. IsTrue (is_sound_value (value_tree v))) }
 {
     match sheet(ctx.alloc, ctx.env, written_range(place)) {
@@ -52,7 +56,10 @@ pub fn sheet_of<K: Known>(ctx: &Context<K>, place: &Formula) -> Result<Value, Ha
 pub fn updated<K: Known>(ctx: &Context<K>, u: &Value, a: Addr, v: Value) -> Result<Value, Halt>
     requires first { IsTrue (is_sound_value (value_tree u.now)) }
     requires second { IsTrue (is_sound_value (value_tree v)) }
-    ensures walk { (w : World) (t : Trail) → Walks w (E.on_sheet (λ s. E.made (S.update (frame_tree ctx.now.env.now) s a (value_tree v))) (value_tree u.now)) value_tree t result t }
+    ensures walk { (w : World) (t : Trail)
+        → Walks w
+        (E.on_sheet (λ s. E.made (S.update (frame_tree ctx.now.env.now) s a (value_tree v)))
+        (value_tree u.now)) value_tree t result t }
     ensures sound { IfOk result (λ v. IsTrue (is_sound_value (value_tree v))) }
 {
     match u {
@@ -66,7 +73,10 @@ pub fn updated<K: Known>(ctx: &Context<K>, u: &Value, a: Addr, v: Value) -> Resu
 fn updated_scalar<K: Known>(ctx: &Context<K>, x: &Scalar, a: Addr, v: Value) -> Result<Value, Halt>
     requires first { IsTrue (is_sound_value (V.One (scalar_tree x.now))) }
     requires second { IsTrue (is_sound_value (value_tree v)) }
-    ensures walk { (w : World) (t : Trail) → Walks w (E.on_sheet (λ s. E.made (S.update (frame_tree ctx.now.env.now) s a (value_tree v))) (V.One (scalar_tree x.now))) value_tree t result t }
+    ensures walk { (w : World) (t : Trail)
+        → Walks w
+        (E.on_sheet (λ s. E.made (S.update (frame_tree ctx.now.env.now) s a (value_tree v)))
+        (V.One (scalar_tree x.now))) value_tree t result t }
     ensures sound { IfOk result (λ v. IsTrue (is_sound_value (value_tree v))) }
 {
     match x {

@@ -49,7 +49,9 @@ impl Trail {
 fn insert(reads: &mut IndexSet<Key>, key: Key) -> Result<(), NoMemory>
     requires sound { IsTrue (is_sound_key (key_tree key)) }
     requires all { AreSoundKeys (map key_tree reads.old.keys) }
-    ensures ok { OnOk result (map key_tree reads.new.keys ≡ insert_key same_key (map key_tree reads.old.keys) (key_tree key)) }
+    ensures ok { OnOk result (
+        map key_tree reads.new.keys
+        ≡ insert_key same_key (map key_tree reads.old.keys) (key_tree key)) }
     ensures all { AreSoundKeys (map key_tree reads.new.keys) }
 {
     reads.insert(key)?;

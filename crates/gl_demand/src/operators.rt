@@ -21,7 +21,8 @@ use std::rc::RcStr;
 /// A text literal. One longer than `MAX_TEXT` bytes, which no well formed formula has, is refused.
 #[tactic(auto, using(gl_value::specs::Forms::trees))]
 pub fn text(t: &RcStr) -> Result<Value, Halt>
-    ensures value { IfOk result (λ v. value_tree v ≡ V.Value.One (V.Scalar.Text (rc_str_bytes t.now))) }
+    ensures value { IfOk result (λ v.
+        value_tree v ≡ V.Value.One (V.Scalar.Text (rc_str_bytes t.now))) }
     ensures err { IfErr result (λ h. h ≡ Halt.NoMemory) }
     ensures sound { IfOk result (λ v. IsTrue (is_sound_value (value_tree v))) }
 {
@@ -63,7 +64,8 @@ pub fn negated(alloc: Global, v: &Value) -> Result<Value, Halt>
 pub fn compared(alloc: Global, op: Op, u: &Value, v: &Value) -> Result<Value, Halt>
     requires first { IsTrue (is_sound_value (value_tree u.now)) }
     requires second { IsTrue (is_sound_value (value_tree v.now)) }
-    ensures value { IfOk result (λ x. value_tree x ≡ lift2 (O.compare (op_tree op)) (value_tree u.now) (value_tree v.now)) }
+    ensures value { IfOk result (λ x.
+        value_tree x ≡ lift2 (O.compare (op_tree op)) (value_tree u.now) (value_tree v.now)) }
     ensures err { IfErr result (λ h. h ≡ Halt.NoMemory) }
     ensures sound { IfOk result (λ x. IsTrue (is_sound_value (value_tree x))) }
 {
@@ -75,7 +77,8 @@ pub fn compared(alloc: Global, op: Op, u: &Value, v: &Value) -> Result<Value, Ha
 
 /// An operator of a chain on two scalars.
 fn operate(alloc: Global, op: Op, x: &Scalar, y: &Scalar) -> Result<Scalar, NoMemory>
-    ensures value { IfOk result (λ z. scalar_tree z ≡ O.operate (op_tree op) (scalar_tree x.now) (scalar_tree y.now)) }
+    ensures value { IfOk result (λ z.
+        scalar_tree z ≡ O.operate (op_tree op) (scalar_tree x.now) (scalar_tree y.now)) }
     ensures sound { IfOk result (λ z. IsTrue (is_sound_scalar (scalar_tree z))) }
 {
     match op {
@@ -98,7 +101,8 @@ fn operate(alloc: Global, op: Op, x: &Scalar, y: &Scalar) -> Result<Scalar, NoMe
 pub fn operated(alloc: Global, op: Op, u: &Value, v: &Value) -> Result<Value, Halt>
     requires first { IsTrue (is_sound_value (value_tree u.now)) }
     requires second { IsTrue (is_sound_value (value_tree v.now)) }
-    ensures value { IfOk result (λ x. value_tree x ≡ lift2 (O.operate (op_tree op)) (value_tree u.now) (value_tree v.now)) }
+    ensures value { IfOk result (λ x.
+        value_tree x ≡ lift2 (O.operate (op_tree op)) (value_tree u.now) (value_tree v.now)) }
     ensures err { IfErr result (λ h. h ≡ Halt.NoMemory) }
     ensures sound { IfOk result (λ x. IsTrue (is_sound_value (value_tree x))) }
 {

@@ -5,7 +5,8 @@ ghost use Rattle.gl_calculus.specs.Sound.{is_sound_frame};
 ghost use Rattle.gl_cells.specs.Sheet.{sheet};
 ghost use Rattle.gl_ast.specs.View.{fun_tree, formula_tree, argument_trees, operand_trees};
 ghost use Rattle.gl_value.specs.View.{frame_tree};
-ghost use Rattle.gl_ahead.specs.Demands.{first_reads, call_reads, begun_reads, argument_reads, operand_reads};
+ghost use Rattle.gl_ahead.specs.Demands.{first_reads, call_reads, begun_reads, argument_reads};
+ghost use Rattle.gl_ahead.specs.Demands.{operand_reads};
 ghost use Rattle.gl_ahead.specs.Reading.{Own, keys_from};
 ghost use Rattle.gl_demand.specs.Lacking.{IsNext};
 ghost use Rattle.gl_demand.specs.Passing.{Passes, own_keys_from};
@@ -72,7 +73,8 @@ impl Way {
 
 /// What the addresses of a range say of those behind them.
 fn pass_range<K: Known>(x: &Lookup<K>, r: &Range, way: &mut Way) -> Result<Passing, NoMemory>
-    ensures { Passes (world (sheet x.now.cells.now) x.now.w.now (K.outcomes x.now.known.now)) (frame_tree x.now.env.now) (λ on. addresses r.now ++ on) way.old result way.new }
+    ensures { Passes (world (sheet x.now.cells.now) x.now.w.now (K.outcomes x.now.known.now))
+        (frame_tree x.now.env.now) (λ on. addresses r.now ++ on) way.old result way.new }
 {
     for i in way.enter(r.cells())..r.cells() {
         match pass_address(x.cells, x.w, x.env, r.place(i), x.known) {
@@ -91,7 +93,8 @@ fn pass_range<K: Known>(x: &Lookup<K>, r: &Range, way: &mut Way) -> Result<Passi
 #[cycle(own_reads)]
 #[tactic(auto, using(gl_ast::specs::Forms::trees))]
 fn pass_formula<K: Known>(x: &Lookup<K>, f: &Formula, way: &mut Way) -> Result<Passing, NoMemory>
-    ensures { Passes (world (sheet x.now.cells.now) x.now.w.now (K.outcomes x.now.known.now)) (frame_tree x.now.env.now) (first_reads (formula_tree f.now)) way.old result way.new }
+    ensures { Passes (world (sheet x.now.cells.now) x.now.w.now (K.outcomes x.now.known.now))
+        (frame_tree x.now.env.now) (first_reads (formula_tree f.now)) way.old result way.new }
 {
     match f {
         Formula::Int(_) | Formula::Text(_) | Formula::Bool(_) | Formula::Var(_) => Ok(Passing::On),
@@ -127,8 +130,12 @@ fn pass_behind<K: Known>(
     f: &Formula,
     way: &mut Way,
 ) -> Result<Passing, NoMemory>
-    ensures { (reads : List Addr → List Addr) (start : Way) → Passes (world (sheet x.now.cells.now) x.now.w.now (K.outcomes x.now.known.now)) (frame_tree x.now.env.now) reads start (Ok before) way.old
-        → Passes (world (sheet x.now.cells.now) x.now.w.now (K.outcomes x.now.known.now)) (frame_tree x.now.env.now) (λ on. reads (first_reads (formula_tree f.now) on)) start result way.new }
+    ensures { (reads : List Addr → List Addr) (start : Way)
+        → Passes (world (sheet x.now.cells.now) x.now.w.now (K.outcomes x.now.known.now))
+        (frame_tree x.now.env.now) reads start (Ok before) way.old
+        → Passes (world (sheet x.now.cells.now) x.now.w.now (K.outcomes x.now.known.now))
+        (frame_tree x.now.env.now) (λ on. reads (first_reads (formula_tree f.now) on)) start result
+        way.new }
 {
     match before {
         Passing::On => pass_formula(x, f, way),
@@ -144,7 +151,8 @@ fn pass_operands<K: Known>(
     rest: &[(Op, Formula)],
     way: &mut Way,
 ) -> Result<Passing, NoMemory>
-    ensures { Passes (world (sheet x.now.cells.now) x.now.w.now (K.outcomes x.now.known.now)) (frame_tree x.now.env.now) (operand_reads (operand_trees rest.now)) way.old result way.new }
+    ensures { Passes (world (sheet x.now.cells.now) x.now.w.now (K.outcomes x.now.known.now))
+        (frame_tree x.now.env.now) (operand_reads (operand_trees rest.now)) way.old result way.new }
 {
     for operand in rest {
         match pass_formula(x, &operand.1, way) {
@@ -166,7 +174,8 @@ fn pass_arguments<K: Known>(
     xs: &[Formula],
     way: &mut Way,
 ) -> Result<Passing, NoMemory>
-    ensures { Passes (world (sheet x.now.cells.now) x.now.w.now (K.outcomes x.now.known.now)) (frame_tree x.now.env.now) (argument_reads (argument_trees xs.now)) way.old result way.new }
+    ensures { Passes (world (sheet x.now.cells.now) x.now.w.now (K.outcomes x.now.known.now))
+        (frame_tree x.now.env.now) (argument_reads (argument_trees xs.now)) way.old result way.new }
 {
     for argument in xs {
         match pass_formula(x, argument, way) {
@@ -184,7 +193,9 @@ fn pass_arguments<K: Known>(
 /// What the first argument says. Behind it nothing is known.
 #[cycle(own_reads)]
 fn pass_first<K: Known>(x: &Lookup<K>, xs: &[Formula], way: &mut Way) -> Result<Passing, NoMemory>
-    ensures { Passes (world (sheet x.now.cells.now) x.now.w.now (K.outcomes x.now.known.now)) (frame_tree x.now.env.now) (λ on. begun_reads (argument_trees xs.now)) way.old result way.new }
+    ensures { Passes (world (sheet x.now.cells.now) x.now.w.now (K.outcomes x.now.known.now))
+        (frame_tree x.now.env.now) (λ on. begun_reads (argument_trees xs.now)) way.old result
+        way.new }
 {
     match xs {
         [first, ..] => match pass_formula(x, first, way) {
@@ -207,7 +218,11 @@ fn pass_call<K: Known>(
     xs: &[Formula],
     way: &mut Way,
 ) -> Result<Passing, NoMemory>
-    ensures { Passes (world (sheet x.now.cells.now) x.now.w.now (K.outcomes x.now.known.now)) (frame_tree x.now.env.now) (λ on. call_reads (fun_tree fun) (begun_reads (argument_trees xs.now)) (argument_reads (argument_trees xs.now) on)) way.old result way.new }
+    ensures { Passes (world (sheet x.now.cells.now) x.now.w.now (K.outcomes x.now.known.now))
+        (frame_tree x.now.env.now)
+        (λ on.
+        call_reads (fun_tree fun) (begun_reads (argument_trees xs.now))
+        (argument_reads (argument_trees xs.now) on)) way.old result way.new }
 {
     match fun {
         Fun::If | Fun::IfError | Fun::Update | Fun::View => pass_first(x, xs, way),
@@ -222,7 +237,10 @@ pub fn lacked_in_formula<K: Known>(
     f: &Formula,
     from: u32,
 ) -> Result<Option<Lacked>, NoMemory>
-    ensures { IfOk result (IsNext (K.outcomes x.now.known.now) (own_keys_from (world (sheet x.now.cells.now) x.now.w.now (K.outcomes x.now.known.now)) (frame_tree x.now.env.now) (first_reads (formula_tree f.now) [])) from) }
+    ensures { IfOk result
+        (IsNext (K.outcomes x.now.known.now)
+        (own_keys_from (world (sheet x.now.cells.now) x.now.w.now (K.outcomes x.now.known.now))
+        (frame_tree x.now.env.now) (first_reads (formula_tree f.now) [])) from) }
 {
     let mut way = Way {
         skip: from,
@@ -249,7 +267,9 @@ pub fn lacked_in_own<K: Known>(
     from: u32,
     known: &K,
 ) -> Result<Option<Lacked>, NoMemory>
-    ensures { IfOk result (IsNext (K.outcomes known.now) (keys_from (sheet cells.now) w.now (Own (frame_tree x.now.env) x.now.address)) from) }
+    ensures { IfOk result
+        (IsNext (K.outcomes known.now)
+        (keys_from (sheet cells.now) w.now (Own (frame_tree x.now.env) x.now.address)) from) }
 {
     match held_at(cells, &x.env, x.address) {
         Some(held) => match held {

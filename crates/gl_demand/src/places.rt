@@ -1,5 +1,6 @@
 //! The addresses of a sheet value's region that have content.
-ghost use Rattle.std.specs.Prelude.{◌≡◌, ◌*◌, ◌≤◌, ◌++◌, ◌∷◌, [], IsTrue, IfOk, OnOk, if◌then◌else◌, length, option_map};
+ghost use Rattle.std.specs.Prelude.{◌≡◌, ◌*◌, ◌≤◌, ◌++◌, ◌∷◌, [], IsTrue, IfOk, OnOk};
+ghost use Rattle.std.specs.Prelude.{if◌then◌else◌, length, option_map};
 ghost use Rattle.gl_calculus.specs.Limits.{grid_rows, grid_cols};
 ghost use Rattle.gl_calculus.specs.Value.{In};
 ghost use Rattle.gl_calculus.specs.Formula.{content};
@@ -21,7 +22,8 @@ use std::alloc::Global;
 #[tactic(auto, using(gl_value::specs::Forms::trees))]
 pub fn held_in<'a>(cells: &'a Cells, s: &'a SheetVal, a: Addr) -> Option<Held<'a>>
     requires { IsTrue (is_sound_sheet (sheet_tree s.now)) }
-    ensures { option_map held_tree result ≡ own_content (content (sheet cells.now) a) (In (sheet_tree s.now) []) a }
+    ensures { option_map held_tree result
+        ≡ own_content (content (sheet cells.now) a) (In (sheet_tree s.now) []) a }
 {
     if s.region.covers(a) {
         nearest(cells, s, a)
@@ -34,7 +36,8 @@ pub fn held_in<'a>(cells: &'a Cells, s: &'a SheetVal, a: Addr) -> Option<Held<'a
 #[tactic(auto, using(gl_value::specs::Forms::trees, crate::proofs::Frames::parent_sound))]
 fn nearest<'a>(cells: &'a Cells, s: &'a SheetVal, a: Addr) -> Option<Held<'a>>
     requires { IsTrue (is_sound_sheet (sheet_tree s.now)) }
-    ensures { option_map held_tree result ≡ content_in (content (sheet cells.now) a) (In (sheet_tree s.now) []) a }
+    ensures { option_map held_tree result
+        ≡ content_in (content (sheet cells.now) a) (In (sheet_tree s.now) []) a }
 {
     match s.get_override(a) {
         Some(v) => Some(Held::Value(v)),

@@ -1,5 +1,6 @@
 //! How ranges are read: their addresses in row-major order, in one reference.
-ghost use Rattle.std.specs.Prelude.{◌≡◌, ◌*◌, [], IsTrue, IfOk, IfErr, SomeIff, length, map, vec_len};
+ghost use Rattle.std.specs.Prelude.{◌≡◌, ◌*◌, [], IsTrue, IfOk, IfErr, SomeIff, length, map};
+ghost use Rattle.std.specs.Prelude.{vec_len};
 ghost use Rattle.gl_calculus.specs.Grid.{addresses, extents};
 ghost use Rattle.gl_calculus.specs.Facts.{facts};
 ghost use Rattle.gl_calculus.specs.Reference as R;
@@ -31,7 +32,10 @@ fn read_range<K: Known>(
     trail: &mut Trail,
 ) -> Result<Vec<Scalar>, Halt>
     requires frame { IsTrue (is_sound_frame (frame_tree env.now)) }
-    ensures walk { EndsWalk (world (sheet ctx.now.cells.now) ctx.now.w.now (K.outcomes ctx.now.known.now)) (R.deref_all (frame_tree env.now) [] (facts (sheet ctx.now.cells.now) ctx.now.w.now r.now)) (λ v. map scalar_tree v.items) trail.old result trail.new }
+    ensures walk { EndsWalk
+        (world (sheet ctx.now.cells.now) ctx.now.w.now (K.outcomes ctx.now.known.now))
+        (R.deref_all (frame_tree env.now) [] (facts (sheet ctx.now.cells.now) ctx.now.w.now r.now))
+        (λ v. map scalar_tree v.items) trail.old result trail.new }
     ensures sound { IfOk result (λ v. IsTrue (are_sound (item_trees v.items))) }
     ensures count { IfOk result (λ v. vec_len v ≡ length (addresses r.now)) }
 {
@@ -99,7 +103,9 @@ pub fn at_range<K: Known>(
     trail: &mut Trail,
 ) -> Result<Value, Halt>
     requires frame { IsTrue (is_sound_frame (frame_tree env.now)) }
-    ensures walk { Walks (world (sheet ctx.now.cells.now) ctx.now.w.now (K.outcomes ctx.now.known.now)) (R.at_range (frame_tree env.now) r.now) value_tree trail.old result trail.new }
+    ensures walk { Walks
+        (world (sheet ctx.now.cells.now) ctx.now.w.now (K.outcomes ctx.now.known.now))
+        (R.at_range (frame_tree env.now) r.now) value_tree trail.old result trail.new }
     ensures sound { IfOk result (λ v. IsTrue (is_sound_value (value_tree v))) }
 {
     match size_of(r) {

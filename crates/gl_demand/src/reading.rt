@@ -1,5 +1,6 @@
 //! How an address and a spilled array are read in a frame.
-ghost use Rattle.std.specs.Prelude.{◌≡◌, Some, List, [], ◌∷◌, IsTrue, IfOk, IfErr, IfSome, OnOk, option_map};
+ghost use Rattle.std.specs.Prelude.{◌≡◌, Some, List, [], ◌∷◌, IsTrue, IfOk, IfErr, IfSome, OnOk};
+ghost use Rattle.std.specs.Prelude.{option_map};
 ghost use Rattle.gl_calculus.specs.Grid.{single};
 ghost use Rattle.gl_calculus.specs.Facts.{Fact, fact, find_fact};
 ghost use Rattle.gl_calculus.specs.Oracle.{Cover};
@@ -35,8 +36,10 @@ pub fn look_at(a: Addr, trail: &mut Trail) -> Result<(), Halt>
 
 /// Looks at a root, unless the reference has looked at it.
 fn look_once(seen: &mut IndexSet<Addr>, root: Addr, trail: &mut Trail) -> Result<(), Halt>
-    ensures walk { (w : World) (s : List Fact) → AreSeen w seen.old.keys s
-        → Walks w (R.seen_or_looked root (find_fact s root)) (λ u. fact w.cells w.oracle root) trail.old result trail.new }
+    ensures walk { (w : World) (s : List Fact)
+        → AreSeen w seen.old.keys s
+        → Walks w (R.seen_or_looked root (find_fact s root)) (λ u. fact w.cells w.oracle root)
+        trail.old result trail.new }
     ensures seen { (w : World) (s : List Fact) → AreSeen w seen.old.keys s
         → OnOk result (AreSeen w seen.new.keys (fact w.cells w.oracle root ∷ s)) }
 {
@@ -59,8 +62,13 @@ fn covered_by<K: Known>(
     trail: &mut Trail,
 ) -> Result<Scalar, Halt>
     requires frame { IsTrue (is_sound_frame (frame_tree env.now)) }
-    ensures read { (s : List Fact) → AreSeen (world (sheet ctx.now.cells.now) ctx.now.w.now (K.outcomes ctx.now.known.now)) seen.old.keys s
-        → ReadsOne (world (sheet ctx.now.cells.now) ctx.now.w.now (K.outcomes ctx.now.known.now)) (R.covered (frame_tree env.now) s (Some (record { root = cover.0; rows = cover.1; cols = cover.2 }))) trail.old result seen.new.keys trail.new }
+    ensures read { (s : List Fact)
+        → AreSeen (world (sheet ctx.now.cells.now) ctx.now.w.now (K.outcomes ctx.now.known.now))
+        seen.old.keys s
+        → ReadsOne (world (sheet ctx.now.cells.now) ctx.now.w.now (K.outcomes ctx.now.known.now))
+        (R.covered (frame_tree env.now) s
+        (Some (record { root = cover.0; rows = cover.1; cols = cover.2 }))) trail.old result
+        seen.new.keys trail.new }
     ensures sound { IfOk result (λ x. IsTrue (is_sound_scalar (scalar_tree x))) }
 {
     match look_once(seen, cover.0, trail) {
@@ -81,8 +89,13 @@ fn covered<K: Known>(
     trail: &mut Trail,
 ) -> Result<Scalar, Halt>
     requires frame { IsTrue (is_sound_frame (frame_tree env.now)) }
-    ensures read { (s : List Fact) → AreSeen (world (sheet ctx.now.cells.now) ctx.now.w.now (K.outcomes ctx.now.known.now)) seen.old.keys s
-        → ReadsOne (world (sheet ctx.now.cells.now) ctx.now.w.now (K.outcomes ctx.now.known.now)) (R.covered (frame_tree env.now) s (R.cover_in (fact (sheet ctx.now.cells.now) ctx.now.w.now a) (frame_tree env.now))) trail.old result seen.new.keys trail.new }
+    ensures read { (s : List Fact)
+        → AreSeen (world (sheet ctx.now.cells.now) ctx.now.w.now (K.outcomes ctx.now.known.now))
+        seen.old.keys s
+        → ReadsOne (world (sheet ctx.now.cells.now) ctx.now.w.now (K.outcomes ctx.now.known.now))
+        (R.covered (frame_tree env.now) s
+        (R.cover_in (fact (sheet ctx.now.cells.now) ctx.now.w.now a) (frame_tree env.now)))
+        trail.old result seen.new.keys trail.new }
     ensures sound { IfOk result (λ x. IsTrue (is_sound_scalar (scalar_tree x))) }
 {
     match cover_in(ctx.w, env, a) {
@@ -102,8 +115,12 @@ fn shown_by<K: Known>(
 ) -> Result<Scalar, Halt>
     requires frame { IsTrue (is_sound_frame (frame_tree env.now)) }
     requires own { IfSome own.now (λ x. IsTrue (is_sound_value (value_tree x))) }
-    ensures read { (s : List Fact) → AreSeen (world (sheet ctx.now.cells.now) ctx.now.w.now (K.outcomes ctx.now.known.now)) seen.old.keys s
-        → ReadsOne (world (sheet ctx.now.cells.now) ctx.now.w.now (K.outcomes ctx.now.known.now)) (R.shown_by (frame_tree env.now) s (fact (sheet ctx.now.cells.now) ctx.now.w.now a) (option_map value_tree own.now)) trail.old result seen.new.keys trail.new }
+    ensures read { (s : List Fact)
+        → AreSeen (world (sheet ctx.now.cells.now) ctx.now.w.now (K.outcomes ctx.now.known.now))
+        seen.old.keys s
+        → ReadsOne (world (sheet ctx.now.cells.now) ctx.now.w.now (K.outcomes ctx.now.known.now))
+        (R.shown_by (frame_tree env.now) s (fact (sheet ctx.now.cells.now) ctx.now.w.now a)
+        (option_map value_tree own.now)) trail.old result seen.new.keys trail.new }
     ensures sound { IfOk result (λ x. IsTrue (is_sound_scalar (scalar_tree x))) }
 {
     match own {
@@ -121,8 +138,12 @@ fn deref_home<K: Known>(
     trail: &mut Trail,
 ) -> Result<Scalar, Halt>
     requires frame { IsTrue (is_sound_frame (frame_tree env.now)) }
-    ensures read { (s : List Fact) → AreSeen (world (sheet ctx.now.cells.now) ctx.now.w.now (K.outcomes ctx.now.known.now)) seen.old.keys s
-        → ReadsOne (world (sheet ctx.now.cells.now) ctx.now.w.now (K.outcomes ctx.now.known.now)) (deref_in (frame_tree env.now) s (fact (sheet ctx.now.cells.now) ctx.now.w.now a)) trail.old result seen.new.keys trail.new }
+    ensures read { (s : List Fact)
+        → AreSeen (world (sheet ctx.now.cells.now) ctx.now.w.now (K.outcomes ctx.now.known.now))
+        seen.old.keys s
+        → ReadsOne (world (sheet ctx.now.cells.now) ctx.now.w.now (K.outcomes ctx.now.known.now))
+        (deref_in (frame_tree env.now) s (fact (sheet ctx.now.cells.now) ctx.now.w.now a)) trail.old
+        result seen.new.keys trail.new }
     ensures sound { IfOk result (λ x. IsTrue (is_sound_scalar (scalar_tree x))) }
 {
     match own(ctx, env, a, trail) {
@@ -140,8 +161,12 @@ pub fn deref<K: Known>(
     trail: &mut Trail,
 ) -> Result<Scalar, Halt>
     requires frame { IsTrue (is_sound_frame (frame_tree env.now)) }
-    ensures read { (s : List Fact) → AreSeen (world (sheet ctx.now.cells.now) ctx.now.w.now (K.outcomes ctx.now.known.now)) seen.old.keys s
-        → ReadsOne (world (sheet ctx.now.cells.now) ctx.now.w.now (K.outcomes ctx.now.known.now)) (R.deref (frame_tree env.now) s (fact (sheet ctx.now.cells.now) ctx.now.w.now a)) trail.old result seen.new.keys trail.new }
+    ensures read { (s : List Fact)
+        → AreSeen (world (sheet ctx.now.cells.now) ctx.now.w.now (K.outcomes ctx.now.known.now))
+        seen.old.keys s
+        → ReadsOne (world (sheet ctx.now.cells.now) ctx.now.w.now (K.outcomes ctx.now.known.now))
+        (R.deref (frame_tree env.now) s (fact (sheet ctx.now.cells.now) ctx.now.w.now a)) trail.old
+        result seen.new.keys trail.new }
     ensures sound { IfOk result (λ x. IsTrue (is_sound_scalar (scalar_tree x))) }
 {
     deref_home(ctx, sound_home(env, a), a, seen, trail)
@@ -164,7 +189,10 @@ fn deref_alone<K: Known>(
     trail: &mut Trail,
 ) -> Result<Scalar, Halt>
     requires frame { IsTrue (is_sound_frame (frame_tree env.now)) }
-    ensures read { ReadsAlone (world (sheet ctx.now.cells.now) ctx.now.w.now (K.outcomes ctx.now.known.now)) (R.deref (frame_tree env.now) [] (fact (sheet ctx.now.cells.now) ctx.now.w.now a)) trail.old result trail.new }
+    ensures read { ReadsAlone
+        (world (sheet ctx.now.cells.now) ctx.now.w.now (K.outcomes ctx.now.known.now))
+        (R.deref (frame_tree env.now) [] (fact (sheet ctx.now.cells.now) ctx.now.w.now a)) trail.old
+        result trail.new }
     ensures sound { IfOk result (λ x. IsTrue (is_sound_scalar (scalar_tree x))) }
 {
     let mut seen = IndexSet::new(ctx.alloc);
@@ -180,7 +208,9 @@ pub fn at_address<K: Known>(
     trail: &mut Trail,
 ) -> Result<Value, Halt>
     requires frame { IsTrue (is_sound_frame (frame_tree env.now)) }
-    ensures walk { Walks (world (sheet ctx.now.cells.now) ctx.now.w.now (K.outcomes ctx.now.known.now)) (R.at_address (frame_tree env.now) a) value_tree trail.old result trail.new }
+    ensures walk { Walks
+        (world (sheet ctx.now.cells.now) ctx.now.w.now (K.outcomes ctx.now.known.now))
+        (R.at_address (frame_tree env.now) a) value_tree trail.old result trail.new }
     ensures sound { IfOk result (λ v. IsTrue (is_sound_value (value_tree v))) }
 {
     match look_at(a, trail) {

@@ -25,7 +25,8 @@ fn same_name(x: &RcStr, y: &RcStr) -> bool
 /// The value of a variable; a blank where it is not bound, which no well formed formula has.
 #[tactic(auto, using(gl_value::specs::Forms::trees))]
 pub fn bound(scope: &Scope, name: &RcStr) -> Result<Value, Halt>
-    ensures value { IfOk result (λ v. value_tree v ≡ E.bound (bindings_of scope.now.bindings.items) (rc_str_bytes name.now)) }
+    ensures value { IfOk result (λ v.
+        value_tree v ≡ E.bound (bindings_of scope.now.bindings.items) (rc_str_bytes name.now)) }
     ensures err { IfErr result (λ h. h ≡ Halt.NoMemory) }
     ensures sound { IfOk result (λ v. IsTrue (is_sound_value (value_tree v))) }
 {
@@ -49,7 +50,8 @@ fn share_binding(x: &RcStr, v: &Value) -> Result<(RcStr, Value), NoMemory>
 
 /// Shares the bindings and appends them.
 fn share_onto(list: &mut Vec<(RcStr, Value)>, more: &[(RcStr, Value)]) -> Result<(), NoMemory>
-    ensures { OnOk result (bindings_of list.new.items ≡ bindings_of list.old.items ++ bindings_of more.now) }
+    ensures { OnOk result (
+        bindings_of list.new.items ≡ bindings_of list.old.items ++ bindings_of more.now) }
 {
     for (x, v) in more {
         list.push(share_binding(x, v)?)?;
@@ -59,7 +61,8 @@ fn share_onto(list: &mut Vec<(RcStr, Value)>, more: &[(RcStr, Value)]) -> Result
 
 /// One binding alone.
 fn first_binding(alloc: Global, name: &RcStr, value: Value) -> Result<Vec<(RcStr, Value)>, NoMemory>
-    ensures { IfOk result (λ v. bindings_of v.items ≡ (rc_str_bytes name.now, value_tree value) ∷ []) }
+    ensures { IfOk result (λ v.
+        bindings_of v.items ≡ (rc_str_bytes name.now, value_tree value) ∷ []) }
 {
     let name = name.clone()?;
     let mut list = Vec::new(alloc);
@@ -74,7 +77,9 @@ fn extended(
     name: &RcStr,
     value: Value,
 ) -> Result<Vec<(RcStr, Value)>, NoMemory>
-    ensures { IfOk result (λ v. bindings_of v.items ≡ (rc_str_bytes name.now, value_tree value) ∷ bindings_of scope.now.bindings.items) }
+    ensures { IfOk result (λ v.
+        bindings_of v.items
+        ≡ (rc_str_bytes name.now, value_tree value) ∷ bindings_of scope.now.bindings.items) }
 {
     let mut list = first_binding(alloc, name, value)?;
     share_onto(&mut list, &scope.bindings)?;
@@ -85,7 +90,9 @@ fn extended(
 #[tactic(auto, using(crate::proofs::Bindings::sound_more))]
 pub fn bind(alloc: Global, scope: &Scope, name: &RcStr, value: Value) -> Result<Scope, Halt>
     requires { IsTrue (is_sound_value (value_tree value)) }
-    ensures value { IfOk result (λ s. bindings_of s.bindings.items ≡ (rc_str_bytes name.now, value_tree value) ∷ bindings_of scope.now.bindings.items) }
+    ensures value { IfOk result (λ s.
+        bindings_of s.bindings.items
+        ≡ (rc_str_bytes name.now, value_tree value) ∷ bindings_of scope.now.bindings.items) }
     ensures err { IfErr result (λ h. h ≡ Halt.NoMemory) }
 {
     match extended(alloc, scope, name, value) {

@@ -1,12 +1,14 @@
 //! The settling of a copy.
-ghost use Rattle.std.specs.Prelude.{◌≡◌, ◌++◌, ◌∷◌, [], List, ◌<◌, ◌*◌, ◌≤◌, IsTrue, IfOk, IfErr, OnOk, map, length, option_map};
+ghost use Rattle.std.specs.Prelude.{◌≡◌, ◌++◌, ◌∷◌, [], List, ◌<◌, ◌*◌, ◌≤◌, IsTrue, IfOk, IfErr};
+ghost use Rattle.std.specs.Prelude.{OnOk, map, length, option_map};
 ghost use Rattle.gl_query.specs.Evaluation.{LookAt};
 ghost use Rattle.gl_calculus.specs.Limits.{grid_rows, grid_cols};
 ghost use Rattle.gl_calculus.specs.Grid.{AreInOrder, Addr as PlainAddr, Size as PlainSize};
 ghost use Rattle.gl_calculus.specs.Value.{region, In, Oracle as Plain};
 ghost use Rattle.gl_calculus.specs.Oracle.{AreSizes};
 ghost use Rattle.gl_calculus.specs.Facts.{fact, facts};
-ghost use Rattle.gl_calculus.specs.Evaluation.{arrays, rounds, copy_budget, takes_a_round, array_at};
+ghost use Rattle.gl_calculus.specs.Evaluation.{arrays, rounds, copy_budget, takes_a_round};
+ghost use Rattle.gl_calculus.specs.Evaluation.{array_at};
 ghost use Rattle.gl_calculus.specs.Sound.{is_sound_frame, is_sound_sheet};
 ghost use Rattle.gl_cells.specs.Sheet.{sheet};
 ghost use Rattle.gl_value.specs.View.{value_tree, sheet_tree, frame_tree};
@@ -42,7 +44,10 @@ pub fn settle<K: Known>(
     trail: &mut Trail,
 ) -> Result<Oracle, Halt>
     requires { IsTrue (is_sound_sheet (sheet_tree s.now.value)) }
-    ensures { Walks (world (sheet ctx.now.cells.now) ctx.now.w.now (K.outcomes ctx.now.known.now)) (LookAt (region (sheet_tree s.now.value)) (λ xs. rounds (sheet_tree s.now.value) xs (copy_budget (sheet_tree s.now.value) xs) [])) (λ o. o) trail.old result trail.new }
+    ensures { Walks (world (sheet ctx.now.cells.now) ctx.now.w.now (K.outcomes ctx.now.known.now))
+        (LookAt (region (sheet_tree s.now.value)) (λ xs.
+        rounds (sheet_tree s.now.value) xs (copy_budget (sheet_tree s.now.value) xs) [])) (λ o. o)
+        trail.old result trail.new }
 {
     match trail.look(s.region) {
         Ok(()) => settle_region(ctx, s, trail),
@@ -57,7 +62,9 @@ fn settle_region<K: Known>(
     trail: &mut Trail,
 ) -> Result<Oracle, Halt>
     requires { IsTrue (is_sound_sheet (sheet_tree s.now.value)) }
-    ensures { Walks (world (sheet ctx.now.cells.now) ctx.now.w.now (K.outcomes ctx.now.known.now)) (all_rounds (world (sheet ctx.now.cells.now) ctx.now.w.now (K.outcomes ctx.now.known.now)) (sheet_tree s.now.value)) (λ o. o) trail.old result trail.new }
+    ensures { Walks (world (sheet ctx.now.cells.now) ctx.now.w.now (K.outcomes ctx.now.known.now))
+        (all_rounds (world (sheet ctx.now.cells.now) ctx.now.w.now (K.outcomes ctx.now.known.now))
+        (sheet_tree s.now.value)) (λ o. o) trail.old result trail.new }
 {
     match places(ctx.alloc, ctx.cells, s) {
         Ok(places) => settle_places(ctx, s, &places, trail),
@@ -75,7 +82,9 @@ fn settle_places<K: Known>(
     requires sound { IsTrue (is_sound_sheet (sheet_tree s.now.value)) }
     requires all { places.now ≡ filled_places (sheet ctx.now.cells.now) (sheet_tree s.now.value) }
     requires few { length places.now ≤ grid_rows * grid_cols }
-    ensures { Walks (world (sheet ctx.now.cells.now) ctx.now.w.now (K.outcomes ctx.now.known.now)) (all_rounds (world (sheet ctx.now.cells.now) ctx.now.w.now (K.outcomes ctx.now.known.now)) (sheet_tree s.now.value)) (λ o. o) trail.old result trail.new }
+    ensures { Walks (world (sheet ctx.now.cells.now) ctx.now.w.now (K.outcomes ctx.now.known.now))
+        (all_rounds (world (sheet ctx.now.cells.now) ctx.now.w.now (K.outcomes ctx.now.known.now))
+        (sheet_tree s.now.value)) (λ o. o) trail.old result trail.new }
 {
     let budget = copy_budget(ctx.cells, s, places);
     let blocks = CopyBlocks {
@@ -110,7 +119,9 @@ fn copy_budget(cells: &Cells, s: &SheetVal, places: &[Addr]) -> u32
     requires sound { IsTrue (is_sound_sheet (sheet_tree s.now)) }
     requires all { places.now ≡ filled_places (sheet cells.now) (sheet_tree s.now) }
     requires few { length places.now ≤ grid_rows * grid_cols }
-    ensures { (w : Plain) → result ≡ copy_budget (sheet_tree s.now) (facts (sheet cells.now) w (region (sheet_tree s.now))) }
+    ensures { (w : Plain)
+        → result
+        ≡ copy_budget (sheet_tree s.now) (facts (sheet cells.now) w (region (sheet_tree s.now))) }
 {
     let mut count = 8;
     for a in places {
@@ -157,11 +168,20 @@ impl<K: Known> Round for CopyRound<'_, '_, K> {
 
     type Count = Trail;
 
-    ghost gives = { λ s. Gives (world (sheet s.ctx.now.cells.now) s.ctx.now.w.now (K.outcomes s.ctx.now.known.now)) (sheet_tree s.copy.now.value) };
+    ghost gives = { λ s.
+        Gives (world (sheet s.ctx.now.cells.now) s.ctx.now.w.now (K.outcomes s.ctx.now.known.now))
+        (sheet_tree s.copy.now.value) };
 
-    ghost fails = { λ s. Fails (world (sheet s.ctx.now.cells.now) s.ctx.now.w.now (K.outcomes s.ctx.now.known.now)) (sheet_tree s.copy.now.value) };
+    ghost fails = { λ s.
+        Fails (world (sheet s.ctx.now.cells.now) s.ctx.now.w.now (K.outcomes s.ctx.now.known.now))
+        (sheet_tree s.copy.now.value) };
 
-    ghost calls = { λ s c w r t d. (t ≡ s) × Walks (world (sheet s.ctx.now.cells.now) s.ctx.now.w.now (K.outcomes s.ctx.now.known.now)) (round_arrays (world (sheet s.ctx.now.cells.now) s.ctx.now.w.now (K.outcomes s.ctx.now.known.now)) (sheet_tree s.copy.now.value) w) (λ zs. zs) c r d };
+    ghost calls = { λ s c w r t d.
+        (t ≡ s)
+        × Walks (world (sheet s.ctx.now.cells.now) s.ctx.now.w.now (K.outcomes s.ctx.now.known.now))
+        (round_arrays
+        (world (sheet s.ctx.now.cells.now) s.ctx.now.w.now (K.outcomes s.ctx.now.known.now))
+        (sheet_tree s.copy.now.value) w) (λ zs. zs) c r d };
 
     fn sizes(&mut self, w: &Oracle, trail: &mut Trail) -> Result<Sizes, Halt> {
         match frame(self.ctx.alloc, self.copy, w) {
@@ -206,7 +226,11 @@ fn arrays_at<K: Known>(
 ) -> Result<Sizes, Halt>
     requires frame { IsTrue (is_sound_frame (frame_tree env.now)) }
     requires ordered { AreInOrder places.now }
-    ensures { EndsWalk (world (sheet ctx.now.cells.now) ctx.now.w.now (K.outcomes ctx.now.known.now)) (arrays (frame_tree env.now) (map (fact (sheet ctx.now.cells.now) ctx.now.w.now) places.now)) (λ zs. zs) trail.old result trail.new }
+    ensures { EndsWalk
+        (world (sheet ctx.now.cells.now) ctx.now.w.now (K.outcomes ctx.now.known.now))
+        (arrays (frame_tree env.now)
+        (map (fact (sheet ctx.now.cells.now) ctx.now.w.now) places.now)) (λ zs. zs) trail.old result
+        trail.new }
 {
     let mut sizes = Sizes::new(ctx.alloc);
     for a in places {
@@ -228,8 +252,13 @@ fn visit<K: Known>(
 ) -> Result<(), Halt>
     requires frame { IsTrue (is_sound_frame (frame_tree env.now)) }
     requires last { (z : PlainSize) → AreSizes (sizes.old ++ (a, z) ∷ []) }
-    ensures walk { Visits (world (sheet ctx.now.cells.now) ctx.now.w.now (K.outcomes ctx.now.known.now)) (frame_tree env.now) (fact (sheet ctx.now.cells.now) ctx.now.w.now a) sizes.old trail.old result sizes.new trail.new }
-    ensures ordered { (rest : List PlainAddr) → AreInOrder (map (λ x. x.0) sizes.old ++ a ∷ rest) → OnOk result (AreInOrder (map (λ x. x.0) sizes.new ++ rest)) }
+    ensures walk { Visits
+        (world (sheet ctx.now.cells.now) ctx.now.w.now (K.outcomes ctx.now.known.now))
+        (frame_tree env.now) (fact (sheet ctx.now.cells.now) ctx.now.w.now a) sizes.old trail.old
+        result sizes.new trail.new }
+    ensures ordered { (rest : List PlainAddr)
+        → AreInOrder (map (λ x. x.0) sizes.old ++ a ∷ rest)
+        → OnOk result (AreInOrder (map (λ x. x.0) sizes.new ++ rest)) }
 {
     match own(ctx, env, a, trail) {
         Ok(v) => add_array(sizes, a, v),

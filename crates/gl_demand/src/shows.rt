@@ -13,7 +13,8 @@ use gl_value::{Array, ErrKind, Scalar, Value};
 #[tactic(auto, using(gl_value::specs::Forms::trees))]
 pub fn shown(permit: Option<Permit>, v: &Value) -> Result<Scalar, NoMemory>
     requires { IsTrue (is_sound_value (value_tree v.now)) }
-    ensures value { IfOk result (λ x. scalar_tree x ≡ shown (option_map permit_tree permit) (value_tree v.now)) }
+    ensures value { IfOk result (λ x.
+        scalar_tree x ≡ shown (option_map permit_tree permit) (value_tree v.now)) }
     ensures sound { IfOk result (λ x. IsTrue (is_sound_scalar (scalar_tree x))) }
 {
     match v {
@@ -42,8 +43,11 @@ pub fn spilled(v: &Value, rows: u16, cols: u16) -> Result<Scalar, NoMemory>
 
 /// The same element, which is sound where the array is.
 fn element_or(a: &Array, i: u16, j: u16, beyond: Scalar) -> Result<Scalar, NoMemory>
-    ensures value { IfOk result (λ x. scalar_tree x ≡ item_or (scalar_tree beyond) (array_tree a.now) i j) }
-    ensures sound { IsTrue (is_sound_value (array_tree a.now)) → IsTrue (is_sound_scalar (scalar_tree beyond)) → IfOk result (λ x. IsTrue (is_sound_scalar (scalar_tree x))) }
+    ensures value { IfOk result (λ x.
+        scalar_tree x ≡ item_or (scalar_tree beyond) (array_tree a.now) i j) }
+    ensures sound { IsTrue (is_sound_value (array_tree a.now))
+        → IsTrue (is_sound_scalar (scalar_tree beyond))
+        → IfOk result (λ x. IsTrue (is_sound_scalar (scalar_tree x))) }
 {
     element_of(a, i, j, beyond)
 }
@@ -51,7 +55,8 @@ fn element_or(a: &Array, i: u16, j: u16, beyond: Scalar) -> Result<Scalar, NoMem
 /// The element of an array in a row and a column from 0, or the scalar that stands beyond it.
 #[tactic(auto, using(crate::proofs::Showing::item_some, crate::proofs::Showing::item_none))]
 fn element_of(a: &Array, i: u16, j: u16, beyond: Scalar) -> Result<Scalar, NoMemory>
-    ensures value { IfOk result (λ x. scalar_tree x ≡ item_or (scalar_tree beyond) (array_tree a.now) i j) }
+    ensures value { IfOk result (λ x.
+        scalar_tree x ≡ item_or (scalar_tree beyond) (array_tree a.now) i j) }
 {
     match a.item(i, j) {
         Some(x) => x.share(),

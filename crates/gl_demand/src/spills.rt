@@ -29,7 +29,10 @@ fn permitted<K: Known>(
     trail: &mut Trail,
 ) -> Result<Value, Halt>
     requires frame { IsTrue (is_sound_frame (frame_tree env.now)) }
-    ensures walk { (h : R.Held) → Walks (world (sheet ctx.now.cells.now) ctx.now.w.now (K.outcomes ctx.now.known.now)) (R.whole (frame_tree env.now) (fact (sheet ctx.now.cells.now) ctx.now.w.now a) (Some h) (Some Permitted)) value_tree trail.old result trail.new }
+    ensures walk { (h : R.Held)
+        → Walks (world (sheet ctx.now.cells.now) ctx.now.w.now (K.outcomes ctx.now.known.now))
+        (R.whole (frame_tree env.now) (fact (sheet ctx.now.cells.now) ctx.now.w.now a) (Some h)
+        (Some Permitted)) value_tree trail.old result trail.new }
     ensures sound { IfOk result (λ v. IsTrue (is_sound_value (value_tree v))) }
 {
     match own(ctx, env, a, trail) {
@@ -48,7 +51,10 @@ fn by_permit<K: Known>(
     trail: &mut Trail,
 ) -> Result<Value, Halt>
     requires frame { IsTrue (is_sound_frame (frame_tree env.now)) }
-    ensures walk { (h : R.Held) → Walks (world (sheet ctx.now.cells.now) ctx.now.w.now (K.outcomes ctx.now.known.now)) (R.whole (frame_tree env.now) (fact (sheet ctx.now.cells.now) ctx.now.w.now a) (Some h) (Some (permit_tree permit))) value_tree trail.old result trail.new }
+    ensures walk { (h : R.Held)
+        → Walks (world (sheet ctx.now.cells.now) ctx.now.w.now (K.outcomes ctx.now.known.now))
+        (R.whole (frame_tree env.now) (fact (sheet ctx.now.cells.now) ctx.now.w.now a) (Some h)
+        (Some (permit_tree permit))) value_tree trail.old result trail.new }
     ensures sound { IfOk result (λ v. IsTrue (is_sound_value (value_tree v))) }
 {
     match permit {
@@ -67,7 +73,10 @@ fn whole_by<K: Known>(
     trail: &mut Trail,
 ) -> Result<Value, Halt>
     requires frame { IsTrue (is_sound_frame (frame_tree env.now)) }
-    ensures walk { (h : R.Held) → Walks (world (sheet ctx.now.cells.now) ctx.now.w.now (K.outcomes ctx.now.known.now)) (R.whole (frame_tree env.now) (fact (sheet ctx.now.cells.now) ctx.now.w.now a) (Some h) (option_map permit_tree permit)) value_tree trail.old result trail.new }
+    ensures walk { (h : R.Held)
+        → Walks (world (sheet ctx.now.cells.now) ctx.now.w.now (K.outcomes ctx.now.known.now))
+        (R.whole (frame_tree env.now) (fact (sheet ctx.now.cells.now) ctx.now.w.now a) (Some h)
+        (option_map permit_tree permit)) value_tree trail.old result trail.new }
     ensures sound { IfOk result (λ v. IsTrue (is_sound_value (value_tree v))) }
 {
     match permit {
@@ -80,7 +89,12 @@ fn whole_by<K: Known>(
 #[tactic(auto, using(gl_value::specs::Forms::trees))]
 fn whole<K: Known>(ctx: &Context<K>, env: &Env, a: Addr, trail: &mut Trail) -> Result<Value, Halt>
     requires frame { IsTrue (is_sound_frame (frame_tree env.now)) }
-    ensures walk { Walks (world (sheet ctx.now.cells.now) ctx.now.w.now (K.outcomes ctx.now.known.now)) (R.whole (frame_tree env.now) (fact (sheet ctx.now.cells.now) ctx.now.w.now a) (R.own_content (content (sheet ctx.now.cells.now) a) (frame_tree env.now) a) (R.status_in (fact (sheet ctx.now.cells.now) ctx.now.w.now a) (frame_tree env.now))) value_tree trail.old result trail.new }
+    ensures walk { Walks
+        (world (sheet ctx.now.cells.now) ctx.now.w.now (K.outcomes ctx.now.known.now))
+        (R.whole (frame_tree env.now) (fact (sheet ctx.now.cells.now) ctx.now.w.now a)
+        (R.own_content (content (sheet ctx.now.cells.now) a) (frame_tree env.now) a)
+        (R.status_in (fact (sheet ctx.now.cells.now) ctx.now.w.now a) (frame_tree env.now)))
+        value_tree trail.old result trail.new }
     ensures sound { IfOk result (λ v. IsTrue (is_sound_value (value_tree v))) }
 {
     match held_at(ctx.cells, env, a) {
@@ -98,7 +112,9 @@ pub fn spill_of<K: Known>(
     trail: &mut Trail,
 ) -> Result<Value, Halt>
     requires frame { IsTrue (is_sound_frame (frame_tree env.now)) }
-    ensures walk { Walks (world (sheet ctx.now.cells.now) ctx.now.w.now (K.outcomes ctx.now.known.now)) (R.spill_of (frame_tree env.now) a) value_tree trail.old result trail.new }
+    ensures walk { Walks
+        (world (sheet ctx.now.cells.now) ctx.now.w.now (K.outcomes ctx.now.known.now))
+        (R.spill_of (frame_tree env.now) a) value_tree trail.old result trail.new }
     ensures sound { IfOk result (λ v. IsTrue (is_sound_value (value_tree v))) }
 {
     match look_at(a, trail) {

@@ -43,14 +43,22 @@ pub fn step<K: Known, L: Watch>(
     requires sound { IsTrue (is_sound_key (key_tree key.now)) }
     requires proper { IsProperKey (sheet cells.now) (key_tree key.now) }
     requires known { IsSoundTable (K.outcomes known.now) }
-    ensures found { IfOk result (λ t. found_tree t.found
-        ≡ found (K.outcomes known.now) (program (version_tree version) (sheet cells.now) w.now (key_tree key.now))) }
-    ensures reads { IfOk result (λ t. map key_tree t.reads.items
-        ≡ distinct same_key (asked (K.outcomes known.now) (program (version_tree version) (sheet cells.now) w.now (key_tree key.now)))) }
-    ensures looked { IfOk result (λ t. t.looked.items
-        ≡ looked (K.outcomes known.now) (program (version_tree version) (sheet cells.now) w.now (key_tree key.now))) }
-    ensures ahead { IfOk result (λ t. IsAhead is_value (program (version_tree version) (sheet cells.now) w.now (key_tree key.now)) (K.outcomes known.now)
-        (keys_from (sheet cells.now) w.now (ahead_tree t.ahead) 0)) }
+    ensures found { IfOk result (λ t.
+        found_tree t.found
+        ≡ found (K.outcomes known.now)
+        (program (version_tree version) (sheet cells.now) w.now (key_tree key.now))) }
+    ensures reads { IfOk result (λ t.
+        map key_tree t.reads.items
+        ≡ distinct same_key
+        (asked (K.outcomes known.now)
+        (program (version_tree version) (sheet cells.now) w.now (key_tree key.now)))) }
+    ensures looked { IfOk result (λ t.
+        t.looked.items
+        ≡ looked (K.outcomes known.now)
+        (program (version_tree version) (sheet cells.now) w.now (key_tree key.now))) }
+    ensures ahead { IfOk result (λ t.
+        IsAhead is_value (program (version_tree version) (sheet cells.now) w.now (key_tree key.now))
+        (K.outcomes known.now) (keys_from (sheet cells.now) w.now (ahead_tree t.ahead) 0)) }
     ensures sound_found { IfOk result (λ t. IsSoundFound (key_tree key.now) (found_tree t.found)) }
     ensures sound_reads { IfOk result (λ t. AreSoundKeys (map key_tree t.reads.items)) }
     ensures counted { steps.new ≡ one_more steps.old }

@@ -3,7 +3,8 @@ ghost use Rattle.std.specs.Prelude.{◌≡◌, IsTrue, IfOk, IfErr};
 ghost use Rattle.gl_ast.specs.View.{formula_tree};
 ghost use Rattle.gl_calculus.specs.Evaluation as E;
 ghost use Rattle.gl_calculus.specs.Key.{Settle, settled_oracle};
-ghost use Rattle.gl_calculus.specs.Sound.{is_sound_frame, is_sound_scalar, is_sound_sheet, is_sound_value};
+ghost use Rattle.gl_calculus.specs.Sound.{is_sound_frame, is_sound_scalar, is_sound_sheet};
+ghost use Rattle.gl_calculus.specs.Sound.{is_sound_value};
 ghost use Rattle.gl_calculus.specs.Value as V;
 ghost use Rattle.gl_calculus.specs.Value.{In};
 ghost use Rattle.gl_cells.specs.Sheet.{sheet};
@@ -36,7 +37,10 @@ pub fn at_written<K: Known>(
     trail: &mut Trail,
 ) -> Result<Value, Halt>
     requires frame { IsTrue (is_sound_frame (frame_tree env.now)) }
-    ensures walk { Walks (world (sheet ctx.now.cells.now) ctx.now.w.now (K.outcomes ctx.now.known.now)) (E.at_written (frame_tree env.now) (formula_tree f.now)) value_tree trail.old result trail.new }
+    ensures walk { Walks
+        (world (sheet ctx.now.cells.now) ctx.now.w.now (K.outcomes ctx.now.known.now))
+        (E.at_written (frame_tree env.now) (formula_tree f.now)) value_tree trail.old result
+        trail.new }
     ensures sound { IfOk result (λ v. IsTrue (is_sound_value (value_tree v))) }
 {
     match f {
@@ -59,7 +63,9 @@ fn shared(alloc: Global, oracle: Oracle) -> Result<Rc<Oracle>, Halt>
 
 /// The oracle that a settling comes to, which is never a value.
 fn oracle_in(alloc: Global, outcome: &Outcome, trail: &Trail) -> Result<Rc<Oracle>, Halt>
-    ensures { (w : World) → Walks w (settled_oracle (outcome_tree outcome.now)) (λ o. o.value) trail.now result trail.now }
+    ensures { (w : World)
+        → Walks w (settled_oracle (outcome_tree outcome.now)) (λ o. o.value) trail.now result
+        trail.now }
 {
     match outcome {
         Outcome::Settled(o) => match o.clone() {
@@ -89,7 +95,8 @@ fn settled<K: Known>(
     trail: &mut Trail,
 ) -> Result<Rc<Oracle>, Halt>
     requires { IsTrue (is_sound_sheet (sheet_tree s.now.value)) }
-    ensures { Walks (world (sheet ctx.now.cells.now) ctx.now.w.now (K.outcomes ctx.now.known.now)) (settling (sheet_tree s.now.value)) (λ o. o.value) trail.old result trail.new }
+    ensures { Walks (world (sheet ctx.now.cells.now) ctx.now.w.now (K.outcomes ctx.now.known.now))
+        (settling (sheet_tree s.now.value)) (λ o. o.value) trail.old result trail.new }
 {
     match settle_key(s) {
         Ok(key) => match demand(ctx, key, trail) {
@@ -121,7 +128,10 @@ fn read_under<K: Known>(
     trail: &mut Trail,
 ) -> Result<Value, Halt>
     requires { IsTrue (is_sound_sheet (sheet_tree s.now.value)) }
-    ensures walk { Walks (world (sheet ctx.now.cells.now) ctx.now.w.now (K.outcomes ctx.now.known.now)) (E.at_written (In (sheet_tree s.now.value) oracle.value) (formula_tree f.now)) value_tree trail.old result trail.new }
+    ensures walk { Walks
+        (world (sheet ctx.now.cells.now) ctx.now.w.now (K.outcomes ctx.now.known.now))
+        (E.at_written (In (sheet_tree s.now.value) oracle.value) (formula_tree f.now)) value_tree
+        trail.old result trail.new }
     ensures sound { IfOk result (λ v. IsTrue (is_sound_value (value_tree v))) }
 {
     match frame(s, oracle) {
@@ -138,7 +148,10 @@ fn read_in<K: Known>(
     trail: &mut Trail,
 ) -> Result<Value, Halt>
     requires { IsTrue (is_sound_sheet (sheet_tree s.now.value)) }
-    ensures walk { Walks (world (sheet ctx.now.cells.now) ctx.now.w.now (K.outcomes ctx.now.known.now)) (read_in (formula_tree f.now) (sheet_tree s.now.value)) value_tree trail.old result trail.new }
+    ensures walk { Walks
+        (world (sheet ctx.now.cells.now) ctx.now.w.now (K.outcomes ctx.now.known.now))
+        (read_in (formula_tree f.now) (sheet_tree s.now.value)) value_tree trail.old result
+        trail.new }
     ensures sound { IfOk result (λ v. IsTrue (is_sound_value (value_tree v))) }
 {
     match settled(ctx, s, trail) {
@@ -156,7 +169,10 @@ fn viewed_one<K: Known>(
     trail: &mut Trail,
 ) -> Result<Value, Halt>
     requires { IsTrue (is_sound_scalar (scalar_tree x.now)) }
-    ensures walk { Walks (world (sheet ctx.now.cells.now) ctx.now.w.now (K.outcomes ctx.now.known.now)) (E.on_sheet (read_in (formula_tree f.now)) (V.Value.One (scalar_tree x.now))) value_tree trail.old result trail.new }
+    ensures walk { Walks
+        (world (sheet ctx.now.cells.now) ctx.now.w.now (K.outcomes ctx.now.known.now))
+        (E.on_sheet (read_in (formula_tree f.now)) (V.Value.One (scalar_tree x.now))) value_tree
+        trail.old result trail.new }
     ensures sound { IfOk result (λ v. IsTrue (is_sound_value (value_tree v))) }
 {
     match x {
@@ -179,7 +195,10 @@ pub fn viewed<K: Known>(
     trail: &mut Trail,
 ) -> Result<Value, Halt>
     requires sound { IsTrue (is_sound_value (value_tree u.now)) }
-    ensures walk { Walks (world (sheet ctx.now.cells.now) ctx.now.w.now (K.outcomes ctx.now.known.now)) (E.on_sheet (read_in (formula_tree f.now)) (value_tree u.now)) value_tree trail.old result trail.new }
+    ensures walk { Walks
+        (world (sheet ctx.now.cells.now) ctx.now.w.now (K.outcomes ctx.now.known.now))
+        (E.on_sheet (read_in (formula_tree f.now)) (value_tree u.now)) value_tree trail.old result
+        trail.new }
     ensures sound { IfOk result (λ v. IsTrue (is_sound_value (value_tree v))) }
 {
     match u {

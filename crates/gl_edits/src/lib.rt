@@ -2,7 +2,8 @@
 //! in `specs/`, and their laws, each the contract of a function that does nothing.
 #![tactic(auto)]
 
-ghost use Rattle.gl_edits.specs.Laws.{OneJoin, SoundJoin, NoneTaken, OneMoreTaken, AllTaken, TakenAlike};
+ghost use Rattle.gl_edits.specs.Laws.{OneJoin, SoundJoin, NoneTaken, OneMoreTaken, AllTaken};
+ghost use Rattle.gl_edits.specs.Laws.{TakenAlike};
 
 /// Edits have one join, whatever their order and repeats.
 pub fn join_laws()

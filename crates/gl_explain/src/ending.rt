@@ -20,8 +20,12 @@ use std::alloc::Global;
 
 /// The budget that a key spends, if that is its outcome.
 pub fn spent(notes: &Notes, key: &Key) -> Option<Budget>
-    ensures some { IfSome result (λ b. noted same_key (claims notes.now) (key_tree key.now) ≡ Some (K.Abort (budget_tree b))) }
-    ensures none { IfNone result ((b : K.Budget) → noted same_key (claims notes.now) (key_tree key.now) ≡ Some (K.Abort b) → ⊥) }
+    ensures some { IfSome result (λ b.
+        noted same_key (claims notes.now) (key_tree key.now) ≡ Some (K.Abort (budget_tree b))) }
+    ensures none { IfNone result
+        ((b : K.Budget)
+        → noted same_key (claims notes.now) (key_tree key.now) ≡ Some (K.Abort b)
+        → ⊥) }
 {
     match notes.outcome(key) {
         Some(Outcome::Abort(b)) => Some(*b),
@@ -39,8 +43,12 @@ fn said(
     notes: &Notes,
     loops: &IndexSet<Key>,
 ) -> Result<Shown, NoMemory>
-    requires { says (sheet cells.now) w.now a (claims notes.now) (map key_tree loops.now.keys) ≡ None → ⊥ }
-    ensures { IfOk result (λ x. says (sheet cells.now) w.now a (claims notes.now) (map key_tree loops.now.keys) ≡ Some (shown_tree x)) }
+    requires { says (sheet cells.now) w.now a (claims notes.now) (map key_tree loops.now.keys)
+        ≡ None
+        → ⊥ }
+    ensures { IfOk result (λ x.
+        says (sheet cells.now) w.now a (claims notes.now) (map key_tree loops.now.keys)
+        ≡ Some (shown_tree x)) }
 {
     match says(cells, w, a, notes, loops) {
         Ok(Some(x)) => Ok(x),
@@ -68,12 +76,15 @@ pub fn made(
     notes: Notes,
     loops: IndexSet<Key>,
 ) -> Result<Cert, NoMemory>
-    requires said { says (sheet cells.now) w.now a (claims notes) (map key_tree loops.keys) ≡ None → ⊥ }
+    requires said { says (sheet cells.now) w.now a (claims notes) (map key_tree loops.keys) ≡ None
+        → ⊥ }
     requires few_notes { length (claims notes) < 2 ^ 32 }
     requires few_loops { length loops.keys < 2 ^ 32 }
     ensures notes { IfOk result (λ c. (cert_tree c).notes ≡ claims notes) }
     ensures loops { IfOk result (λ c. (cert_tree c).loops ≡ map key_tree loops.keys) }
-    ensures shown { IfOk result (λ c. says (sheet cells.now) w.now a (claims notes) (map key_tree loops.keys) ≡ Some (cert_tree c).shown) }
+    ensures shown { IfOk result (λ c.
+        says (sheet cells.now) w.now a (claims notes) (map key_tree loops.keys)
+        ≡ Some (cert_tree c).shown) }
 {
     let shown = said(cells, w, a, &notes, &loops)?;
     let notes = notes.into_list(alloc)?;

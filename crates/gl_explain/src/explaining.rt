@@ -38,8 +38,15 @@ fn ended(
 ) -> Result<Explained, NoMemory>
     requires root { key_at (sheet cells.now) w.now a ≡ Some (key_tree root.now) }
     requires sound { AreSoundKeys (map key_tree loops.keys) }
-    requires ended { (version : F.Version) × (n : ℕ) × (m : ℕ) × HasEnded version (sheet cells.now) w.now (key_tree root.now) n m (claims notes) (map key_tree loops.keys) }
-    ensures { IfOk result (λ x. (version : F.Version) (n m : ℕ) → HasEnded version (sheet cells.now) w.now (key_tree root.now) n m (claims notes) (map key_tree loops.keys)
+    requires ended { (version : F.Version)
+        × (n : ℕ)
+        × (m : ℕ)
+        × HasEnded version (sheet cells.now) w.now (key_tree root.now) n m (claims notes)
+        (map key_tree loops.keys) }
+    ensures { IfOk result (λ x.
+        (version : F.Version) (n m : ℕ)
+        → HasEnded version (sheet cells.now) w.now (key_tree root.now) n m (claims notes)
+        (map key_tree loops.keys)
         → IsExplained version (sheet cells.now) w.now a n m (explained_tree x)) }
 {
     match spent(&notes, root) {
@@ -62,7 +69,9 @@ fn decided<L: Watch>(
     steps: &mut Steps<L>,
 ) -> Result<Explained, NoMemory>
     requires { key_at (sheet cells.now) w.now a ≡ Some (key_tree root.now) }
-    ensures explained { IfOk result (λ x. IsExplained (version_tree version) (sheet cells.now) w.now a steps.old steps.new (explained_tree x)) }
+    ensures explained { IfOk result (λ x.
+        IsExplained (version_tree version) (sheet cells.now) w.now a steps.old steps.new
+        (explained_tree x)) }
     ensures later { steps.old ≤ steps.new }
 {
     match walk(alloc, cells, w, root, version, steps) {
@@ -75,7 +84,9 @@ fn decided<L: Watch>(
 /// The explanation of an address that no key decides.
 fn undecided(alloc: Global, cells: &Cells, w: &Oracle, a: Addr) -> Result<Explained, NoMemory>
     requires { key_at (sheet cells.now) w.now a ≡ None }
-    ensures { IfOk result (λ x. (version : F.Version) (n : ℕ) → IsExplained version (sheet cells.now) w.now a n n (explained_tree x)) }
+    ensures { IfOk result (λ x.
+        (version : F.Version) (n : ℕ)
+        → IsExplained version (sheet cells.now) w.now a n n (explained_tree x)) }
 {
     match made(alloc, cells, w, a, Notes::new(alloc), IndexSet::new(alloc)) {
         Ok(cert) => Ok(Explained::Cert(cert)),
@@ -92,7 +103,9 @@ fn explained<L: Watch>(
     version: Version,
     steps: &mut Steps<L>,
 ) -> Result<Explained, NoMemory>
-    ensures explained { IfOk result (λ x. IsExplained (version_tree version) (sheet cells.now) w.now a steps.old steps.new (explained_tree x)) }
+    ensures explained { IfOk result (λ x.
+        IsExplained (version_tree version) (sheet cells.now) w.now a steps.old steps.new
+        (explained_tree x)) }
     ensures later { steps.old ≤ steps.new }
 {
     match key_at(cells, w, a) {
@@ -116,14 +129,19 @@ pub fn certificate<L: Watch>(
     version: Version,
     steps: &mut Steps<L>,
 ) -> Result<Explained, NoMemory>
-    ensures explained { IfOk result (λ x. Explains (version_tree version) (sheet cells.now) w.now a (explained_tree x)) }
+    ensures explained { IfOk result (λ x.
+        Explains (version_tree version) (sheet cells.now) w.now a (explained_tree x)) }
     ensures accepted { IfOk result (λ x. (c : E.Certificate) → explained_tree x ≡ E.Cert c
         → verdict (version_tree version) (sheet cells.now) w.now a c ≡ E.Accepted) }
-    ensures certified { IfOk result (λ x. (i : ℕ) → IsAnswer (version_tree version) (sheet cells.now) (C.Settled w.now i)
+    ensures certified { IfOk result (λ x.
+        (i : ℕ)
+        → IsAnswer (version_tree version) (sheet cells.now) (C.Settled w.now i)
         → (c : E.Certificate) × (explained_tree x ≡ E.Cert c)) }
     ensures sound { IfOk result (λ x. (c : E.Certificate) → explained_tree x ≡ E.Cert c
         → AreSoundKeys (map (λ n. n.0) c.notes) × AreSoundKeys c.loops) }
-    ensures steps { IfOk result (λ x. AllowsWalk (version_tree version) (sheet cells.now) w.now a (explained_tree x) steps.old steps.new) }
+    ensures steps { IfOk result (λ x.
+        AllowsWalk (version_tree version) (sheet cells.now) w.now a (explained_tree x) steps.old
+        steps.new) }
     ensures later { steps.old ≤ steps.new }
 {
     // For its clause that the sheet is in order.

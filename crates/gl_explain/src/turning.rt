@@ -1,5 +1,6 @@
 //! One turn of a walk.
-ghost use Rattle.std.specs.Prelude.{◌≡◌, ◌≤◌, ◌<◌, ◌++◌, ◌∷◌, ℕ, [], None, map, length, IsTrue, IfOk, IfSome, IfNone};
+ghost use Rattle.std.specs.Prelude.{◌≡◌, ◌≤◌, ◌<◌, ◌++◌, ◌∷◌, ℕ, [], None, map, length, IsTrue};
+ghost use Rattle.std.specs.Prelude.{IfOk, IfSome, IfNone};
 ghost use Rattle.gl_query.specs.Query.{Ready};
 ghost use Rattle.gl_calculus.specs.Key as K;
 ghost use Rattle.gl_calculus.specs.Key.{same_key};
@@ -59,11 +60,15 @@ fn take_off(
     stack: &mut IndexSet<Key>,
     outcome: Outcome,
 ) -> Result<Turned, NoMemory>
-    requires top { (k : Key) → IsTop stack.old.keys k → (noted same_key (claims notes.old) (key_tree k) ≡ None)
-        × IsTrue (is_sound_key (key_tree k)) × IsSoundFound (key_tree k) (Ready (outcome_tree outcome)) }
+    requires top { (k : Key)
+        → IsTop stack.old.keys k
+        → (noted same_key (claims notes.old) (key_tree k) ≡ None)
+        × IsTrue (is_sound_key (key_tree k))
+        × IsSoundFound (key_tree k) (Ready (outcome_tree outcome)) }
     requires some { (k : Key) × IsTop stack.old.keys k }
-    ensures taken { IfOk result (λ t. IsTakenOff (outcome_tree outcome) (claims notes.old) (map key_tree stack.old.keys)
-        t (claims notes.new) (map key_tree stack.new.keys)) }
+    ensures taken { IfOk result (λ t.
+        IsTakenOff (outcome_tree outcome) (claims notes.old) (map key_tree stack.old.keys) t
+        (claims notes.new) (map key_tree stack.new.keys)) }
 {
     if let Some(key) = stack.pop() {
         notes.note(key, outcome)?;
@@ -107,18 +112,26 @@ pub fn turn<L: Watch>(
     version: Version,
     steps: &mut Steps<L>,
 ) -> Result<Turned, NoMemory>
-    requires walking { (root : K.Key) × (n : ℕ) × IsWalking (version_tree version) (sheet cells.now) w.now root n steps.old (claims notes.old) (map key_tree stack.old.keys) }
+    requires walking { (root : K.Key)
+        × (n : ℕ)
+        × IsWalking (version_tree version) (sheet cells.now) w.now root n steps.old
+        (claims notes.old) (map key_tree stack.old.keys) }
     requires sound { AreSoundKeys (map key_tree stack.old.keys) }
     requires marks { AreMarks (version_tree version) (sheet cells.now) w.now (claims notes.old)
         (map key_tree stack.old.keys) (mark_trees marks.old.items) }
-    ensures turned { IfOk result (λ t. (root : K.Key) (n : ℕ)
-        → IsWalking (version_tree version) (sheet cells.now) w.now root n steps.old (claims notes.old) (map key_tree stack.old.keys)
-        → IsTurned (version_tree version) (sheet cells.now) w.now root n steps.new (claims notes.new) (map key_tree stack.new.keys) t) }
+    ensures turned { IfOk result (λ t.
+        (root : K.Key) (n : ℕ)
+        → IsWalking (version_tree version) (sheet cells.now) w.now root n steps.old
+        (claims notes.old) (map key_tree stack.old.keys)
+        → IsTurned (version_tree version) (sheet cells.now) w.now root n steps.new
+        (claims notes.new) (map key_tree stack.new.keys) t) }
     ensures falls { IfOk result (λ t. t ≡ On → left (claims notes.new) (map key_tree stack.new.keys)
         < left (claims notes.old) (map key_tree stack.old.keys)) }
     ensures sound { IfOk result (λ _. AreSoundKeys (map key_tree stack.new.keys)) }
-    ensures marks { IfOk result (λ t. t ≡ On → AreMarks (version_tree version) (sheet cells.now) w.now
-        (claims notes.new) (map key_tree stack.new.keys) (mark_trees marks.new.items)) }
+    ensures marks { IfOk result (λ t.
+        t ≡ On
+        → AreMarks (version_tree version) (sheet cells.now) w.now (claims notes.new)
+        (map key_tree stack.new.keys) (mark_trees marks.new.items)) }
     ensures later { steps.old ≤ steps.new }
 {
     match top(stack) {

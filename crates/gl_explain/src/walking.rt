@@ -60,7 +60,9 @@ pub fn walk<L: Watch>(
 ) -> Result<Walked, NoMemory>
     requires sound { IsTrue (is_sound_key (key_tree root.now)) }
     requires proper { is_proper (sheet cells.now) (key_tree root.now) ≡ true }
-    ensures found { IfOk result (λ x. IsFound (version_tree version) (sheet cells.now) w.now (key_tree root.now) steps.old steps.new x) }
+    ensures found { IfOk result (λ x.
+        IsFound (version_tree version) (sheet cells.now) w.now (key_tree root.now) steps.old
+        steps.new x) }
     ensures later { steps.old ≤ steps.new }
 {
     let mut stack = stack_of(alloc, root)?;

@@ -22,7 +22,8 @@ impl Model for Area {
 
     ghost view = { λ a. range (addr a.left a.top) (addr a.right a.bottom) };
 
-    ghost inverse = { λ p. record { top = p.first.row; left = p.first.col; bottom = p.last.row; right = p.last.col } };
+    ghost inverse = { λ p.
+        record { top = p.first.row; left = p.first.col; bottom = p.last.row; right = p.last.col } };
 }
 
 impl Area {

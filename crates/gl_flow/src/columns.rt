@@ -1,9 +1,11 @@
 //! The last of the areas over each address of a column.
-ghost use Rattle.std.specs.Prelude.{◌≡◌, ◌≤◌, ◌<◌, ◌+◌, ◌++◌, ℕ, IsTrue, IfOk, OnOk, length, slice_get};
+ghost use Rattle.std.specs.Prelude.{◌≡◌, ◌≤◌, ◌<◌, ◌+◌, ◌++◌, ℕ, IsTrue, IfOk, OnOk, length};
+ghost use Rattle.std.specs.Prelude.{slice_get};
 ghost use Rattle.gl_calculus.specs.Limits.{grid_rows, max_formulas};
 ghost use Rattle.gl_graph.specs.Search.{last_of, passes};
 ghost use Rattle.gl_flow.specs.Places.{are_in_order};
-ghost use Rattle.gl_flow.specs.Columns.{AreRooted, IsColumn, IsStack, IsDown, IsGreatest, AreAbove, AreBelow, has_ended, new_over, is_in_row, one_more};
+ghost use Rattle.gl_flow.specs.Columns.{AreRooted, IsColumn, IsStack, IsDown, IsGreatest, AreAbove};
+ghost use Rattle.gl_flow.specs.Columns.{AreBelow, has_ended, new_over, is_in_row, one_more};
 
 use crate::boxes::Area;
 use gl_plane::{Addr, NoMemory};
@@ -22,7 +24,8 @@ fn has_ended(areas: &[Option<Area>], k: u16, row: u16) -> bool
 
 /// The last one does.
 fn is_behind(stack: &Vec<u16>, areas: &[Option<Area>], row: u16) -> bool
-    ensures { result ≡ passes (λ k. has_ended row (slice_get areas.now k)) (last_of stack.now.items) }
+    ensures { result
+        ≡ passes (λ k. has_ended row (slice_get areas.now k)) (last_of stack.now.items) }
 {
     match stack.last() {
         Some(k) => has_ended(areas, *k, row),
@@ -32,8 +35,12 @@ fn is_behind(stack: &Vec<u16>, areas: &[Option<Area>], row: u16) -> bool
 
 /// Drops the last ones that end above the row.
 fn cut(stack: &mut Vec<u16>, areas: &[Option<Area>], row: u16)
-    ensures stack { (column next : ℕ) → IsStack areas.now column row next stack.old.items → IsStack areas.now column row next stack.new.items }
-    ensures top { (column next : ℕ) → IsStack areas.now column row next stack.old.items → IsGreatest (IsDown areas.now column row next) (one_more (last_of stack.new.items)) }
+    ensures stack { (column next : ℕ)
+        → IsStack areas.now column row next stack.old.items
+        → IsStack areas.now column row next stack.new.items }
+    ensures top { (column next : ℕ)
+        → IsStack areas.now column row next stack.old.items
+        → IsGreatest (IsDown areas.now column row next) (one_more (last_of stack.new.items)) }
 {
     while is_behind(stack, areas, row) {
         let _ = stack.pop();
@@ -59,7 +66,8 @@ fn cover(
     k: usize,
 ) -> Result<(), NoMemory>
     requires { k ≤ max_formulas }
-    ensures { OnOk result (stack.new.items ≡ stack.old.items ++ new_over column k (slice_get areas.now k)) }
+    ensures { OnOk result (
+        stack.new.items ≡ stack.old.items ++ new_over column k (slice_get areas.now k)) }
 {
     match areas.get(k) {
         Some(Some(area)) => {

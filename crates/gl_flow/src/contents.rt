@@ -13,7 +13,8 @@ use gl_plane::Addr;
 
 /// The formula of a content, where it is one.
 fn formula_of(content: &Content) -> Option<&Formula>
-    ensures { option_map formula_tree (option_copied result) ≡ formula_in (Some (content_tree content.now)) }
+    ensures { option_map formula_tree (option_copied result)
+        ≡ formula_in (Some (content_tree content.now)) }
 {
     match content {
         Content::Const(_) => None,
@@ -23,7 +24,8 @@ fn formula_of(content: &Content) -> Option<&Formula>
 
 /// The formula at an address, where there is one.
 pub fn formula_at(cells: &Cells, a: Addr) -> Option<&Formula>
-    ensures { option_map formula_tree (option_copied result) ≡ formula_in (content (sheet cells.now) a) }
+    ensures { option_map formula_tree (option_copied result)
+        ≡ formula_in (content (sheet cells.now) a) }
 {
     match cells.content(a) {
         Some(c) => formula_of(c),

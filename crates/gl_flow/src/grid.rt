@@ -49,7 +49,8 @@ fn write_row(numbers: &mut Vec<u16>, i: usize, number: u16)
 /// Writes the number of an address, where its row is one of those that are kept.
 fn write(columns: &mut Vec<Vec<u16>>, a: Addr, number: u16)
     requires { grid_cols ≤ vec_len columns.old }
-    ensures numbers { number_lists columns.new.items ≡ written_at (number_lists columns.old.items) a number }
+    ensures numbers { number_lists columns.new.items
+        ≡ written_at (number_lists columns.old.items) a number }
     ensures sound { IsAddr a }
 {
     let i = a.col() as usize - 1;
@@ -83,7 +84,8 @@ fn fill(
     requires few { length places.now ≤ max_formulas }
     requires ordered { IsTrue (are_in_order places.now) }
     requires cleared { IsCleared (sheet cells.now) areas.now rows (number_lists columns.old.items) }
-    ensures { IsFilled (sheet cells.now) places.now areas.now rows (length places.now) (number_lists columns.new.items) }
+    ensures { IsFilled (sheet cells.now) places.now areas.now rows (length places.now)
+        (number_lists columns.new.items) }
 {
     for k in 0..places.len() {
         write(columns, places[k], k as u16 + 1);
@@ -104,7 +106,8 @@ pub fn grid_of(
     requires rooted { AreRooted places.now areas.now }
     requires rows { rows ≤ grid_rows }
     ensures shaped { IfOk result (λ v. IsShaped rows (number_lists v.items)) }
-    ensures sources { IfOk result (λ v. AreSources (sheet cells.now) places.now areas.now rows (number_lists v.items)) }
+    ensures sources { IfOk result (λ v.
+        AreSources (sheet cells.now) places.now areas.now rows (number_lists v.items)) }
 {
     let _contents = cells.contents();
     let mut columns = columns_of(alloc, places, areas, rows)?;

@@ -21,7 +21,10 @@ fn shape_at(
     spilled: &Spilled,
     a: Addr,
 ) -> Result<Option<Extents>, NoMemory>
-    ensures { IfOk result (λ s. s ≡ formula_shape (spilled_at spilled.now.any spilled.now.places.now spilled.now.shapes.now) (formula_in (content (sheet cells.now) a))) }
+    ensures { IfOk result (λ s.
+        s
+        ≡ formula_shape (spilled_at spilled.now.any spilled.now.places.now spilled.now.shapes.now)
+        (formula_in (content (sheet cells.now) a))) }
 {
     match formula_at(cells, a) {
         Some(f) => shape(alloc, spilled, &[], f),
@@ -36,7 +39,10 @@ fn level(
     spilled: &Spilled,
     places: &[Addr],
 ) -> Result<Vec<Option<Extents>>, NoMemory>
-    ensures { IfOk result (λ v. v.items ≡ level_shapes (sheet cells.now) (spilled_at spilled.now.any spilled.now.places.now spilled.now.shapes.now) places.now) }
+    ensures { IfOk result (λ v.
+        v.items
+        ≡ level_shapes (sheet cells.now)
+        (spilled_at spilled.now.any spilled.now.places.now spilled.now.shapes.now) places.now) }
 {
     let mut shapes = Vec::new(alloc);
     for a in places {
@@ -53,7 +59,8 @@ fn first_level(
     places: &[Addr],
 ) -> Result<Vec<Option<Extents>>, NoMemory>
     requires { IsTrue (are_in_order places.now) }
-    ensures { IfOk result (λ v. v.items ≡ level_shapes (sheet cells.now) (spilled_at true places.now []) places.now) }
+    ensures { IfOk result (λ v.
+        v.items ≡ level_shapes (sheet cells.now) (spilled_at true places.now []) places.now) }
 {
     let spilled = Spilled {
         places,
@@ -71,7 +78,9 @@ fn next_level(
     shapes: &[Option<Extents>],
 ) -> Result<Vec<Option<Extents>>, NoMemory>
     requires { IsTrue (are_in_order places.now) }
-    ensures { IfOk result (λ v. v.items ≡ level_shapes (sheet cells.now) (spilled_at false places.now shapes.now) places.now) }
+    ensures { IfOk result (λ v.
+        v.items
+        ≡ level_shapes (sheet cells.now) (spilled_at false places.now shapes.now) places.now) }
 {
     let spilled = Spilled {
         places,

@@ -21,7 +21,8 @@ use std::alloc::Global;
 pub fn network_of(alloc: Global, cells: &Cells, places: Vec<Addr>) -> Result<Network, NoMemory>
     requires places { places.items ≡ formula_addresses (sheet cells.now) }
     requires few { length places.items ≤ max_formulas }
-    ensures { IfOk result (λ net. IsPlanOf (sheet cells.now) (rows_read (plan net).pieces) (plan net)) }
+    ensures { IfOk result (λ net.
+        IsPlanOf (sheet cells.now) (rows_read (plan net).pieces) (plan net)) }
 {
     let _contents = cells.contents();
     let shapes = shapes_of(alloc, cells, &places)?;

@@ -14,7 +14,8 @@ pub struct Network {
     pub columns: Vec<Vec<u16>>,
     /// the last row of the areas of each block of formula cells
     pub bottoms: Vec<u32>,
-    ghost sound: { IsNetwork (plan_of places.items pieces.items areas.items columns.items) bottoms.items },
+    ghost sound: { IsNetwork (plan_of places.items pieces.items areas.items columns.items)
+        bottoms.items },
 }
 
 // One call wherever it is dropped, in place of one for each part.

@@ -6,7 +6,9 @@ ghost use Rattle.gl_cells.specs.Sheet.{sheet};
 ghost use Rattle.gl_ast.specs.View.{formula_tree, argument_trees, operand_trees};
 ghost use Rattle.gl_forecast.specs.Forecast as Fo;
 ghost use Rattle.gl_flow.specs.Contents.{formula_in};
-ghost use Rattle.gl_flow.specs.Pieces.{piece_tree, piece_trees, piece_lists, pieces_in, without_calls, piece_last, last_read, rows_read, IsRead, IsReadPiece, AreReadPieces, AreRead};
+ghost use Rattle.gl_flow.specs.Pieces.{piece_tree, piece_trees, piece_lists, pieces_in};
+ghost use Rattle.gl_flow.specs.Pieces.{without_calls, piece_last, last_read, rows_read, IsRead};
+ghost use Rattle.gl_flow.specs.Pieces.{IsReadPiece, AreReadPieces, AreRead};
 
 use crate::contents::formula_at;
 use gl_ast::{Formula, Op};
@@ -25,7 +27,9 @@ pub enum Piece {
 #[cycle(pieces)]
 #[tactic(auto, using(gl_ast::specs::Forms::trees, crate::proofs::Parts::pieces_then, crate::proofs::Parts::pieces_none))]
 fn pieces(list: &mut Vec<Piece>, f: &Formula) -> Result<(), NoMemory>
-    ensures { OnOk result (piece_trees list.new.items ≡ piece_trees list.old.items ++ without_calls (Fo.pieces (formula_tree f.now))) }
+    ensures { OnOk result (
+        piece_trees list.new.items
+        ≡ piece_trees list.old.items ++ without_calls (Fo.pieces (formula_tree f.now))) }
 {
     match f {
         Formula::Int(_) | Formula::Text(_) | Formula::Bool(_) | Formula::Var(_) => Ok(()),
@@ -53,7 +57,8 @@ fn pieces(list: &mut Vec<Piece>, f: &Formula) -> Result<(), NoMemory>
 }
 
 fn push(list: &mut Vec<Piece>, p: Piece) -> Result<(), NoMemory>
-    ensures { OnOk result (piece_trees list.new.items ≡ piece_trees list.old.items ++ piece_tree p ∷ []) }
+    ensures { OnOk result (
+        piece_trees list.new.items ≡ piece_trees list.old.items ++ piece_tree p ∷ []) }
 {
     list.push(p)?;
     Ok(())
@@ -61,7 +66,9 @@ fn push(list: &mut Vec<Piece>, p: Piece) -> Result<(), NoMemory>
 
 #[cycle(pieces)]
 fn arguments(list: &mut Vec<Piece>, xs: &[Formula]) -> Result<(), NoMemory>
-    ensures { OnOk result (piece_trees list.new.items ≡ piece_trees list.old.items ++ without_calls (Fo.all_pieces (argument_trees xs.now))) }
+    ensures { OnOk result (
+        piece_trees list.new.items
+        ≡ piece_trees list.old.items ++ without_calls (Fo.all_pieces (argument_trees xs.now))) }
 {
     for x in xs {
         pieces(list, x)?;
@@ -71,7 +78,9 @@ fn arguments(list: &mut Vec<Piece>, xs: &[Formula]) -> Result<(), NoMemory>
 
 #[cycle(pieces)]
 fn operands(list: &mut Vec<Piece>, xs: &[(Op, Formula)]) -> Result<(), NoMemory>
-    ensures { OnOk result (piece_trees list.new.items ≡ piece_trees list.old.items ++ without_calls (Fo.operand_pieces (operand_trees xs.now))) }
+    ensures { OnOk result (
+        piece_trees list.new.items
+        ≡ piece_trees list.old.items ++ without_calls (Fo.operand_pieces (operand_trees xs.now))) }
 {
     for x in xs {
         pieces(list, &x.1)?;
@@ -81,7 +90,8 @@ fn operands(list: &mut Vec<Piece>, xs: &[(Op, Formula)]) -> Result<(), NoMemory>
 
 /// What stands in the formula at an address.
 fn pieces_at(alloc: Global, cells: &Cells, a: Addr) -> Result<Vec<Piece>, NoMemory>
-    ensures { IfOk result (λ v. piece_trees v.items ≡ pieces_in (formula_in (content (sheet cells.now) a))) }
+    ensures { IfOk result (λ v.
+        piece_trees v.items ≡ pieces_in (formula_in (content (sheet cells.now) a))) }
 {
     let mut list = Vec::new(alloc);
     match formula_at(cells, a) {
@@ -93,7 +103,9 @@ fn pieces_at(alloc: Global, cells: &Cells, a: Addr) -> Result<Vec<Piece>, NoMemo
 
 /// What stands in each formula.
 pub fn pieces_of(alloc: Global, cells: &Cells, places: &[Addr]) -> Result<Vec<Vec<Piece>>, NoMemory>
-    ensures { IfOk result (λ v. piece_lists v.items ≡ map (λ a. pieces_in (formula_in (content (sheet cells.now) a))) places.now) }
+    ensures { IfOk result (λ v.
+        piece_lists v.items
+        ≡ map (λ a. pieces_in (formula_in (content (sheet cells.now) a))) places.now) }
 {
     let mut all = Vec::new(alloc);
     for a in places {

@@ -1,5 +1,6 @@
 //! The earlier formula cells whose areas meet one. Those that end above it are passed by blocks.
-ghost use Rattle.std.specs.Prelude.{◌≡◌, ◌≤◌, ◌<◌, ◌+◌, ◌/◌, ◌%◌, ◌∷◌, [], true, max, set, get_or, length, IfOk, IfSome, IfNone};
+ghost use Rattle.std.specs.Prelude.{◌≡◌, ◌≤◌, ◌<◌, ◌+◌, ◌/◌, ◌%◌, ◌∷◌, [], true, max, set, get_or};
+ghost use Rattle.std.specs.Prelude.{length, IfOk, IfSome, IfNone};
 ghost use Rattle.gl_calculus.specs.Limits.{max_formulas};
 ghost use Rattle.gl_flow.specs.Rivals.{AreBottoms, bottom_row, meets_box, rivals_from};
 
@@ -22,7 +23,8 @@ fn bottom_row(area: Option<Area>) -> u32
 
 /// Raises the row that is kept for a block.
 fn raise(bottoms: &mut Vec<u32>, i: usize, bottom: u32)
-    ensures { bottoms.new.items ≡ set bottoms.old.items i (max (get_or bottoms.old.items i 0) bottom) }
+    ensures { bottoms.new.items
+        ≡ set bottoms.old.items i (max (get_or bottoms.old.items i 0) bottom) }
 {
     if i < bottoms.len() {
         bottoms[i] = bottoms[i].max(bottom);
@@ -72,7 +74,8 @@ pub fn rival(
     requires bottoms { AreBottoms areas.now bottoms.now }
     requires inside { k ≤ length areas.now }
     requires few { k ≤ max_formulas }
-    ensures some { IfSome result (λ j. rivals_from areas.now area.now k from ≡ j ∷ rivals_from areas.now area.now k (j + 1)) }
+    ensures some { IfSome result (λ j.
+        rivals_from areas.now area.now k from ≡ j ∷ rivals_from areas.now area.now k (j + 1)) }
     ensures inside { IfSome result (λ j. j < k) }
     ensures none { IfNone result (rivals_from areas.now area.now k from ≡ []) }
 {

@@ -1,11 +1,13 @@
 //! The shape of a formula.
-ghost use Rattle.std.specs.Prelude.{◌≡◌, ◌≢◌, ◌++◌, ◌∷◌, [], ℕ, IsTrue, IfOk, OnOk, Option, option_map, bytes_eq, length, slice_get};
+ghost use Rattle.std.specs.Prelude.{◌≡◌, ◌≢◌, ◌++◌, ◌∷◌, [], ℕ, IsTrue, IfOk, OnOk, Option};
+ghost use Rattle.std.specs.Prelude.{option_map, bytes_eq, length, slice_get};
 ghost use Rattle.std.specs.Rc.{rc_str_bytes};
 ghost use Rattle.gl_flow.specs.Places.{are_in_order};
 ghost use Rattle.gl_calculus.specs.Formula as F;
 ghost use Rattle.gl_ast.specs.View.{formula_tree, fun_tree, argument_trees, operand_trees};
 ghost use Rattle.gl_forecast.specs.Forecast as Fo;
-ghost use Rattle.gl_flow.specs.Shapes.{bindings_of, spilled_at, shape_of, turned, stacked, first_shape, full_first};
+ghost use Rattle.gl_flow.specs.Shapes.{bindings_of, spilled_at, shape_of, turned, stacked};
+ghost use Rattle.gl_flow.specs.Shapes.{first_shape, full_first};
 
 use crate::extents::{Extents, MOST, any, below, extents_of, flipped, full, joined};
 use crate::places::number_of;
@@ -82,7 +84,8 @@ fn share_onto(
     list: &mut Vec<(RcStr, Option<Extents>)>,
     more: &[(RcStr, Option<Extents>)],
 ) -> Result<(), NoMemory>
-    ensures { OnOk result (bindings_of list.new.items ≡ bindings_of list.old.items ++ bindings_of more.now) }
+    ensures { OnOk result (
+        bindings_of list.new.items ≡ bindings_of list.old.items ++ bindings_of more.now) }
 {
     for (x, s) in more {
         list.push(share_binding(x, *s)?)?;
@@ -111,7 +114,8 @@ fn bind(
     name: &RcStr,
     s: Option<Extents>,
 ) -> Result<Vec<(RcStr, Option<Extents>)>, NoMemory>
-    ensures { IfOk result (λ v. bindings_of v.items ≡ (rc_str_bytes name.now, s) ∷ bindings_of bindings.now) }
+    ensures { IfOk result (λ v.
+        bindings_of v.items ≡ (rc_str_bytes name.now, s) ∷ bindings_of bindings.now) }
 {
     let mut list = first_binding(alloc, name, s)?;
     share_onto(&mut list, bindings)?;
@@ -191,7 +195,10 @@ pub fn shape(
     bindings: &[(RcStr, Option<Extents>)],
     f: &Formula,
 ) -> Result<Option<Extents>, NoMemory>
-    ensures { IfOk result (λ s. s ≡ Fo.shape (spilled_at spilled.now.any spilled.now.places.now spilled.now.shapes.now) (bindings_of bindings.now) (formula_tree f.now)) }
+    ensures { IfOk result (λ s.
+        s
+        ≡ Fo.shape (spilled_at spilled.now.any spilled.now.places.now spilled.now.shapes.now)
+        (bindings_of bindings.now) (formula_tree f.now)) }
 {
     match f {
         Formula::Int(_) | Formula::Text(_) | Formula::Bool(_) | Formula::At(_) => Ok(None),
@@ -227,7 +234,11 @@ fn call(
     fun: Fun,
     xs: &[Formula],
 ) -> Result<Option<Extents>, NoMemory>
-    ensures { IfOk result (λ s. s ≡ Fo.call_shape (fun_tree fun) (argument_trees xs.now) (Fo.shapes (spilled_at spilled.now.any spilled.now.places.now spilled.now.shapes.now) (bindings_of bindings.now) (argument_trees xs.now))) }
+    ensures { IfOk result (λ s.
+        s
+        ≡ Fo.call_shape (fun_tree fun) (argument_trees xs.now)
+        (Fo.shapes (spilled_at spilled.now.any spilled.now.places.now spilled.now.shapes.now)
+        (bindings_of bindings.now) (argument_trees xs.now))) }
 {
     match fun {
         Fun::Sum
@@ -282,7 +293,11 @@ fn first(
     bindings: &[(RcStr, Option<Extents>)],
     xs: &[Formula],
 ) -> Result<Option<Extents>, NoMemory>
-    ensures { IfOk result (λ s. s ≡ first_shape (Fo.shapes (spilled_at spilled.now.any spilled.now.places.now spilled.now.shapes.now) (bindings_of bindings.now) (argument_trees xs.now))) }
+    ensures { IfOk result (λ s.
+        s
+        ≡ first_shape
+        (Fo.shapes (spilled_at spilled.now.any spilled.now.places.now spilled.now.shapes.now)
+        (bindings_of bindings.now) (argument_trees xs.now))) }
 {
     match xs.split_first() {
         Some((x, _)) => shape(alloc, spilled, bindings, x),
@@ -298,7 +313,11 @@ fn full_first(
     bindings: &[(RcStr, Option<Extents>)],
     xs: &[Formula],
 ) -> Result<Option<Extents>, NoMemory>
-    ensures { IfOk result (λ s. s ≡ full_first (Fo.shapes (spilled_at spilled.now.any spilled.now.places.now spilled.now.shapes.now) (bindings_of bindings.now) (argument_trees xs.now))) }
+    ensures { IfOk result (λ s.
+        s
+        ≡ full_first
+        (Fo.shapes (spilled_at spilled.now.any spilled.now.places.now spilled.now.shapes.now)
+        (bindings_of bindings.now) (argument_trees xs.now))) }
 {
     match xs.split_first() {
         Some((x, _)) => {
@@ -317,7 +336,11 @@ fn arguments(
     bindings: &[(RcStr, Option<Extents>)],
     xs: &[Formula],
 ) -> Result<Option<Extents>, NoMemory>
-    ensures { IfOk result (λ s. s ≡ Fo.all_joined (Fo.shapes (spilled_at spilled.now.any spilled.now.places.now spilled.now.shapes.now) (bindings_of bindings.now) (argument_trees xs.now))) }
+    ensures { IfOk result (λ s.
+        s
+        ≡ Fo.all_joined
+        (Fo.shapes (spilled_at spilled.now.any spilled.now.places.now spilled.now.shapes.now)
+        (bindings_of bindings.now) (argument_trees xs.now))) }
 {
     let mut all = None;
     for x in xs {
@@ -335,7 +358,12 @@ fn operands(
     bindings: &[(RcStr, Option<Extents>)],
     xs: &[(Op, Formula)],
 ) -> Result<Option<Extents>, NoMemory>
-    ensures { IfOk result (λ s. s ≡ Fo.all_joined (Fo.operand_shapes (spilled_at spilled.now.any spilled.now.places.now spilled.now.shapes.now) (bindings_of bindings.now) (operand_trees xs.now))) }
+    ensures { IfOk result (λ s.
+        s
+        ≡ Fo.all_joined
+        (Fo.operand_shapes
+        (spilled_at spilled.now.any spilled.now.places.now spilled.now.shapes.now)
+        (bindings_of bindings.now) (operand_trees xs.now))) }
 {
     let mut all = None;
     for x in xs {
@@ -355,7 +383,11 @@ fn stack(
     flip: bool,
     xs: &[Formula],
 ) -> Result<Extents, NoMemory>
-    ensures { IfOk result (λ s. s ≡ stacked flip (Fo.shapes (spilled_at spilled.now.any spilled.now.places.now spilled.now.shapes.now) (bindings_of bindings.now) (argument_trees xs.now))) }
+    ensures { IfOk result (λ s.
+        s
+        ≡ stacked flip
+        (Fo.shapes (spilled_at spilled.now.any spilled.now.places.now spilled.now.shapes.now)
+        (bindings_of bindings.now) (argument_trees xs.now))) }
 {
     let mut all = Extents { rows: 0, cols: 0 };
     for x in xs {

@@ -4,7 +4,8 @@ ghost use Rattle.std.specs.Prelude.{◌≡◌, ◌*◌, ◌<◌, ◌≤◌, [], 
 ghost use Rattle.gl_forecast.specs.Forecast as Fo;
 ghost use Rattle.gl_flow.specs.Pieces.{piece_tree, piece_last, rows_read, IsRead, IsReadPiece};
 ghost use Rattle.gl_flow.specs.Grid.{source, IsInRows};
-ghost use Rattle.gl_flow.specs.Network.{top_of, piece_steps, spill_steps, rival_steps, steps_of_value, steps_of_entry, Takes};
+ghost use Rattle.gl_flow.specs.Network.{top_of, piece_steps, spill_steps, rival_steps};
+ghost use Rattle.gl_flow.specs.Network.{steps_of_value, steps_of_entry, Takes};
 ghost use Rattle.gl_flow.specs.Plans.{plan};
 
 use crate::boxes::Area;
@@ -76,8 +77,10 @@ impl Network {
     fn piece_step(&self, piece: &Piece, offset: u32) -> Option<(u32, u32)>
         requires read { IsReadPiece (piece_tree piece.now) }
         requires last { piece_last (piece_tree piece.now) ≤ rows_read (plan self.now).pieces }
-        ensures some { IfSome result (Takes (piece_steps (plan self.now) (piece_tree piece.now)) offset) }
-        ensures none { IfNone result (piece_steps (plan self.now) (piece_tree piece.now) offset ≡ []) }
+        ensures some { IfSome result
+            (Takes (piece_steps (plan self.now) (piece_tree piece.now)) offset) }
+        ensures none { IfNone result
+            (piece_steps (plan self.now) (piece_tree piece.now) offset ≡ []) }
         ensures inside { IfSome result (λ s. s.0 < 2 * length self.now.places.items) }
     {
         match piece {
@@ -107,7 +110,8 @@ impl Network {
     /// The next step to a rival.
     fn rival_step(&self, k: usize, area: &Area, from: u32) -> Option<(u32, Place)>
         requires { k < length self.now.places.items }
-        ensures some { IfSome result (λ s. Takes (rival_steps (plan self.now) k (Some area.now)) from (s.0, s.1.offset)) }
+        ensures some { IfSome result (λ s.
+            Takes (rival_steps (plan self.now) k (Some area.now)) from (s.0, s.1.offset)) }
         ensures part { IfSome result (λ s. s.1.part ≡ 1) }
         ensures none { IfNone result (rival_steps (plan self.now) k (Some area.now) from ≡ []) }
         ensures inside { IfSome result (λ s. s.0 < 2 * length self.now.places.items) }

@@ -21,7 +21,8 @@ fn uses_sheets(cells: &Cells, a: Addr) -> bool
 
 /// The first of these addresses whose formula does.
 pub fn first_unknown(cells: &Cells, places: &[Addr]) -> Option<Addr>
-    ensures some { IfSome result (λ a. Fo.First (Fo.SomeUsesSheets (sheet cells.now)) places.now a) }
+    ensures some { IfSome result (λ a.
+        Fo.First (Fo.SomeUsesSheets (sheet cells.now)) places.now a) }
     ensures none { IfNone result (list_any (Fo.uses_sheets (sheet cells.now)) places.now ≡ false) }
 {
     for a in places {

@@ -34,7 +34,8 @@ impl<'a> Iterator for Elements<'a> {
 
     type Item = &'a Scalar;
 
-    ghost next_gives = { YieldsFirstBy (λ x. scalar_tree x.now) (λ s. elements_past s.given s.values.now) };
+    ghost next_gives = { YieldsFirstBy (λ x. scalar_tree x.now) (λ s.
+        elements_past s.given s.values.now) };
 
     ghost remaining = { item_count (λ s. elements_past s.given s.values.now) };
 
@@ -55,7 +56,8 @@ impl<'a> Iterator for Elements<'a> {
 #[tactic(auto, using(gl_value::specs::Forms::trees))]
 fn element(v: &Value, k: usize) -> Option<&Scalar>
     requires { IsTrue (is_sound_value (value_tree v.now)) }
-    ensures { option_map scalar_tree (option_copied result) ≡ slice_get (elements (value_tree v.now)) k }
+    ensures { option_map scalar_tree (option_copied result)
+        ≡ slice_get (elements (value_tree v.now)) k }
 {
     match v {
         Value::One(x) => { if k == 0 { Some(x) } else { None } }
@@ -67,7 +69,8 @@ fn element(v: &Value, k: usize) -> Option<&Scalar>
 #[tactic(auto, using(gl_value::specs::Forms::trees))]
 fn item(a: &Array, k: usize) -> Option<&Scalar>
     requires { IsTrue (is_sound_value (array_tree a.now)) }
-    ensures { option_map scalar_tree (option_copied result) ≡ slice_get (elements (array_tree a.now)) k }
+    ensures { option_map scalar_tree (option_copied result)
+        ≡ slice_get (elements (array_tree a.now)) k }
 {
     let cols = a.size().cols();
     let row = k / usize::from(cols);

@@ -134,7 +134,8 @@ pub fn abs(x: &Scalar) -> Scalar
 /// sheet value gives `#VALUE!`, and a divisor of 0 `#DIV/0!`. A blank counts as 0.
 #[tactic(auto, using(gl_value::specs::Forms::trees))]
 pub fn modulo(x: &Scalar, y: &Scalar) -> Scalar
-    ensures value { scalar_tree result ≡ O.numeric O.modulo (scalar_tree x.now) (scalar_tree y.now) }
+    ensures value { scalar_tree result
+        ≡ O.numeric O.modulo (scalar_tree x.now) (scalar_tree y.now) }
     ensures sound { IsTrue (is_sound_scalar (scalar_tree result)) }
 {
     if let Some(kind) = fault(x, y) {

@@ -1,5 +1,6 @@
 //! LEN, LEFT and RIGHT, by characters, which are Unicode scalar values.
-ghost use Rattle.std.specs.Prelude.{◌≡◌, ◌≤◌, ◌<◌, ◌^◌, IsTrue, IfOk, take, length, chars, encode_utf8_all, string_bytes};
+ghost use Rattle.std.specs.Prelude.{◌≡◌, ◌≤◌, ◌<◌, ◌^◌, IsTrue, IfOk, take, length, chars};
+ghost use Rattle.std.specs.Prelude.{encode_utf8_all, string_bytes};
 ghost use Rattle.std.specs.Fmt.{decimal, signed_decimal};
 ghost use Rattle.std.specs.Rc.{rc_str_bytes};
 ghost use Rattle.gl_calculus.specs.Limits.{max_text};
@@ -58,8 +59,10 @@ fn digits(n: u64) -> u32
 /// operand that is no number or is negative, gives `#VALUE!`; a blank counts as 0.
 #[tactic(auto, using(gl_value::specs::Forms::trees))]
 pub fn left(alloc: Global, x: &Scalar, n: &Scalar) -> Result<Scalar, NoMemory>
-    ensures value { IfOk result (λ z. scalar_tree z ≡ F.text_part take (scalar_tree x.now) (scalar_tree n.now)) }
-    ensures sound { IsTrue (is_sound_scalar (scalar_tree x.now)) → IfOk result (λ z. IsTrue (is_sound_scalar (scalar_tree z))) }
+    ensures value { IfOk result (λ z.
+        scalar_tree z ≡ F.text_part take (scalar_tree x.now) (scalar_tree n.now)) }
+    ensures sound { IsTrue (is_sound_scalar (scalar_tree x.now))
+        → IfOk result (λ z. IsTrue (is_sound_scalar (scalar_tree z))) }
 {
     if let Some(kind) = fault(x, n) {
         return Ok(Scalar::Err(kind));
@@ -74,8 +77,10 @@ pub fn left(alloc: Global, x: &Scalar, n: &Scalar) -> Result<Scalar, NoMemory>
 /// `left`.
 #[tactic(auto, using(gl_value::specs::Forms::trees))]
 pub fn right(alloc: Global, x: &Scalar, n: &Scalar) -> Result<Scalar, NoMemory>
-    ensures value { IfOk result (λ z. scalar_tree z ≡ F.text_part F.take_last (scalar_tree x.now) (scalar_tree n.now)) }
-    ensures sound { IsTrue (is_sound_scalar (scalar_tree x.now)) → IfOk result (λ z. IsTrue (is_sound_scalar (scalar_tree z))) }
+    ensures value { IfOk result (λ z.
+        scalar_tree z ≡ F.text_part F.take_last (scalar_tree x.now) (scalar_tree n.now)) }
+    ensures sound { IsTrue (is_sound_scalar (scalar_tree x.now))
+        → IfOk result (λ z. IsTrue (is_sound_scalar (scalar_tree z))) }
 {
     if let Some(kind) = fault(x, n) {
         return Ok(Scalar::Err(kind));
@@ -100,7 +105,8 @@ fn natural(n: &Scalar) -> Option<usize>
 #[tactic(auto, using(gl_value::specs::Forms::trees))]
 fn first_part(alloc: Global, x: &Scalar, n: usize) -> Result<Scalar, NoMemory>
     ensures value { IfOk result (λ z. scalar_tree z ≡ part_text (take n) (scalar_tree x.now)) }
-    ensures sound { IsTrue (is_sound_scalar (scalar_tree x.now)) → IfOk result (λ z. IsTrue (is_sound_scalar (scalar_tree z))) }
+    ensures sound { IsTrue (is_sound_scalar (scalar_tree x.now))
+        → IfOk result (λ z. IsTrue (is_sound_scalar (scalar_tree z))) }
 {
     let text = plain(alloc, x)?;
     let part = first(alloc, text.as_str(), n)?;
@@ -110,8 +116,10 @@ fn first_part(alloc: Global, x: &Scalar, n: usize) -> Result<Scalar, NoMemory>
 /// The last characters of the plain text of a scalar.
 #[tactic(auto, using(gl_value::specs::Forms::trees))]
 fn last_part(alloc: Global, x: &Scalar, n: usize) -> Result<Scalar, NoMemory>
-    ensures value { IfOk result (λ z. scalar_tree z ≡ part_text (F.take_last n) (scalar_tree x.now)) }
-    ensures sound { IsTrue (is_sound_scalar (scalar_tree x.now)) → IfOk result (λ z. IsTrue (is_sound_scalar (scalar_tree z))) }
+    ensures value { IfOk result (λ z.
+        scalar_tree z ≡ part_text (F.take_last n) (scalar_tree x.now)) }
+    ensures sound { IsTrue (is_sound_scalar (scalar_tree x.now))
+        → IfOk result (λ z. IsTrue (is_sound_scalar (scalar_tree z))) }
 {
     let text = plain(alloc, x)?;
     let part = last(alloc, text.as_str(), n)?;
@@ -147,7 +155,8 @@ fn characters(text: &str) -> usize
 #[tactic(auto, using(gl_value::specs::Forms::trees))]
 fn plain(alloc: Global, x: &Scalar) -> Result<RcStr, NoMemory>
     ensures value { IfOk result (λ t. rc_str_bytes t ≡ O.plain (scalar_tree x.now)) }
-    ensures sound { IsTrue (is_sound_scalar (scalar_tree x.now)) → IfOk result (λ t. length (rc_str_bytes t) ≤ max_text) }
+    ensures sound { IsTrue (is_sound_scalar (scalar_tree x.now))
+        → IfOk result (λ t. length (rc_str_bytes t) ≤ max_text) }
 {
     match x {
         Scalar::Int(n) => integer_text(alloc, *n),

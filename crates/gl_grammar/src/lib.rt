@@ -1,7 +1,8 @@
 //! The laws of the grammar: a text is at most one formula or has one first fault, and the canonical text of a formula is read as this formula again. This crate has proofs alone; each law is the contract of a function that does nothing.
 #![tactic(auto)]
 
-ghost use Rattle.gl_language.specs.Laws.{OneFormula, OneFault, FormulaOrFault, PrintsBack, ReadsWellFormed};
+ghost use Rattle.gl_language.specs.Laws.{OneFormula, OneFault, FormulaOrFault, PrintsBack};
+ghost use Rattle.gl_language.specs.Laws.{ReadsWellFormed};
 ghost use Rattle.gl_grammar.specs.Laws.{WellFormedHasTokens, WellFormedParses};
 
 /// A text is at most one formula, or has one first fault, and not both.

@@ -1,5 +1,6 @@
 //! Granting permits.
-ghost use Rattle.std.specs.Prelude.{◌≡◌, ◌++◌, ◌∷◌, [], Bool, IsTrue, IfOk, OnOk, OnErr, take, option_map, if◌then◌else◌};
+ghost use Rattle.std.specs.Prelude.{◌≡◌, ◌++◌, ◌∷◌, [], Bool, IsTrue, IfOk, OnOk, OnErr, take};
+ghost use Rattle.std.specs.Prelude.{option_map, if◌then◌else◌};
 ghost use Rattle.std.specs.List.{list_all, list_any};
 ghost use Rattle.gl_calculus.specs.Grid.{area, grid, lies_in, meets};
 ghost use Rattle.gl_calculus.specs.Value.{Permitted, Refused};
@@ -65,7 +66,9 @@ fn is_free<B: Blocks>(
     blocks: &B,
 ) -> bool
     requires { IsTrue (list_all fits_grid (take before w.now)) }
-    ensures value { result ≡ is_free bound.now (B.held blocks.now) (taken_by (take before w.now)) root (area root size) }
+    ensures value { result
+        ≡ is_free bound.now (B.held blocks.now) (taken_by (take before w.now)) root
+        (area root size) }
     ensures on_grid { IsTrue (lies_in bound.now grid) }
 {
     match root.area_within(size, bound) {

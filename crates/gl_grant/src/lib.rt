@@ -23,7 +23,8 @@ pub trait Blocks {
 
     /// The first address of the area, in row-major order, that has content and is not the root.
     fn blocked(&self, root: Addr, area: &Range) -> Option<Addr>
-        ensures { result ≡ find (λ b. held self.now b && not (same_addr b root)) (addresses area.now) };
+        ensures { result
+            ≡ find (λ b. held self.now b && not (same_addr b root)) (addresses area.now) };
 }
 
 /// Consistency leaves no choice: sizes have one consistent oracle.

@@ -20,7 +20,8 @@ pub enum Obstacle {
 pub fn blocker<B: Blocks>(w: &Oracle, root: Addr, bound: &Range, blocks: &B) -> Option<Obstacle>
     requires consistent { ArePermits bound.now (B.held blocks.now) w.now }
     requires present { IsSome (entry_at w.now root) }
-    ensures value { option_map obstacle_tree result ≡ blocker bound.now (B.held blocks.now) w.now root }
+    ensures value { option_map obstacle_tree result
+        ≡ blocker bound.now (B.held blocks.now) w.now root }
     ensures permitted { (result ≡ None) ↔ (status w.now root ≡ Some Permitted) }
 {
     match w.entry(root) {
@@ -41,7 +42,8 @@ fn first_obstacle<B: Blocks>(
     blocks: &B,
 ) -> Option<Obstacle>
     requires { ArePermits bound.now (B.held blocks.now) w.now }
-    ensures { option_map obstacle_tree result ≡ obstacle bound.now (B.held blocks.now) w.now root (area root size) }
+    ensures { option_map obstacle_tree result
+        ≡ obstacle bound.now (B.held blocks.now) w.now root (area root size) }
 {
     match root.area_within(size, bound) {
         None => Some(Obstacle::Edge),

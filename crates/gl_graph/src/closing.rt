@@ -9,7 +9,8 @@ pub fn close(marks: &mut Vec<Mark>, places: &mut Vec<u32>, start: usize, mark: M
     requires opens { AreOpen (mark_of marks.old.items) places.old.items }
     requires start { start ≤ length places.old.items }
     requires shut { is_shut mark ≡ true }
-    ensures closed { AreClosed marks.old.items start mark (length places.old.items - start) marks.new.items }
+    ensures closed { AreClosed marks.old.items start mark (length places.old.items - start)
+        marks.new.items }
     ensures opens { AreOpen (mark_of marks.new.items) places.new.items }
     ensures left { length places.new.items ≡ start }
 {

@@ -29,7 +29,8 @@ pub trait Graph {
     /// The next node to which a step leads, and the place behind it.
     fn next(&self, node: u32, place: Place) -> Option<(u32, Place)>
         requires { node < size self.now }
-        ensures some { IfSome result (λ r. left self.now node place ≡ r.0 ∷ left self.now node r.1) }
+        ensures some { IfSome result (λ r.
+            left self.now node place ≡ r.0 ∷ left self.now node r.1) }
         ensures none { IfNone result (left self.now node place ≡ []) }
         ensures inside { IfSome result (λ r. r.0 < size self.now) };
 

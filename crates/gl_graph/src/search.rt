@@ -1,8 +1,10 @@
 //! The search: from a node along steps, with the nodes on the way in segments that lead to each
 //! other. A step back to an open node joins the segments down to it into one; where the first node
 //! of the last segment has no step left, the whole segment is known.
-ghost use Rattle.std.specs.Prelude.{◌≡◌, ◌<◌, ◌≤◌, ◌+◌, ◌++◌, ◌∷◌, ℕ, [], true, length, OnOk, IfOk, vec_len, set, if◌then◌else◌};
-ghost use Rattle.gl_graph.specs.Search.{mark_of, is_shut, is_new, fresh_frame, work, frame_work, shut_count, IsState};
+ghost use Rattle.std.specs.Prelude.{◌≡◌, ◌<◌, ◌≤◌, ◌+◌, ◌++◌, ◌∷◌, ℕ, [], true, length, OnOk, IfOk};
+ghost use Rattle.std.specs.Prelude.{vec_len, set, if◌then◌else◌};
+ghost use Rattle.gl_graph.specs.Search.{mark_of, is_shut, is_new, fresh_frame, work, frame_work};
+ghost use Rattle.gl_graph.specs.Search.{shut_count, IsState};
 ghost use Rattle.gl_graph.specs.Searches.{known_of, nodes_in, IsSearchOf};
 ghost use Rattle.gl_graph.specs.declared.mark.Mark.TheVariants.{Open, Plain, Circle};
 
@@ -37,7 +39,8 @@ impl Drop for Search {
 impl Search {
     /// Nothing is known of any node.
     pub fn new<G: Graph>(alloc: Global, graph: &G) -> Result<Search, NoMemory>
-        ensures { IfOk result (λ s. IsSearchOf (G.left graph.now) (G.weight graph.now) (G.size graph.now) s) }
+        ensures { IfOk result (λ s.
+            IsSearchOf (G.left graph.now) (G.weight graph.now) (G.size graph.now) s) }
     {
         Ok(Search {
             marks: vec![in alloc; Mark::New; graph.size() as usize]?,
@@ -57,9 +60,11 @@ impl Search {
 
     /// Searches on until the node is known.
     pub fn visit<G: Graph>(&mut self, graph: &G, node: u32) -> Result<(), NoMemory>
-        requires knows { IsSearchOf (G.left graph.now) (G.weight graph.now) (G.size graph.now) self.old }
+        requires knows { IsSearchOf (G.left graph.now) (G.weight graph.now) (G.size graph.now)
+            self.old }
         requires inside { node < G.size graph.now }
-        ensures knows { OnOk result (IsSearchOf (G.left graph.now) (G.weight graph.now) (G.size graph.now) self.new) }
+        ensures knows { OnOk result (
+            IsSearchOf (G.left graph.now) (G.weight graph.now) (G.size graph.now) self.new) }
         ensures known { OnOk result (is_shut (known_of self.new node) ≡ true) }
     {
         if is_new(self.mark(node)) {
@@ -75,9 +80,14 @@ impl Search {
     fn enter(&mut self, node: u32) -> Result<(), NoMemory>
         requires { node < vec_len self.old.marks }
         ensures open { OnOk result (self.new.open.items ≡ self.old.open.items ++ node ∷ []) }
-        ensures starts { OnOk result (self.new.starts.items ≡ self.old.starts.items ++ length self.old.open.items ∷ []) }
-        ensures frames { OnOk result (self.new.frames.items ≡ self.old.frames.items ++ fresh_frame node (length self.old.open.items) ∷ []) }
-        ensures marks { OnOk result (self.new.marks.items ≡ set self.old.marks.items node (Open (length self.old.open.items))) }
+        ensures starts { OnOk result (
+            self.new.starts.items ≡ self.old.starts.items ++ length self.old.open.items ∷ []) }
+        ensures frames { OnOk result (
+            self.new.frames.items
+            ≡ self.old.frames.items ++ fresh_frame node (length self.old.open.items) ∷ []) }
+        ensures marks { OnOk result (
+            self.new.marks.items
+            ≡ set self.old.marks.items node (Open (length self.old.open.items))) }
     {
         let at = self.open.len();
         self.open.push(node)?;
@@ -95,10 +105,19 @@ impl Search {
 
     /// Takes the next step of a node, whose frame was the last.
     fn turn<G: Graph>(&mut self, graph: &G, frame: Frame) -> Result<(), NoMemory>
-        requires state { IsState (G.left graph.now) (G.weight graph.now) (G.size graph.now) self.old.marks.items self.old.open.items self.old.starts.items (self.old.frames.items ++ frame ∷ []) }
-        ensures state { OnOk result (IsState (G.left graph.now) (G.weight graph.now) (G.size graph.now) self.new.marks.items self.new.open.items self.new.starts.items self.new.frames.items) }
-        ensures kept { OnOk result ((m : ℕ) → is_new (mark_of self.new.marks.items m) ≡ true → is_new (mark_of self.old.marks.items m) ≡ true) }
-        ensures less { OnOk result (work (G.left graph.now) self.new.marks.items self.new.frames.items < work (G.left graph.now) self.old.marks.items (self.old.frames.items ++ frame ∷ [])) }
+        requires state { IsState (G.left graph.now) (G.weight graph.now) (G.size graph.now)
+            self.old.marks.items self.old.open.items self.old.starts.items
+            (self.old.frames.items ++ frame ∷ []) }
+        ensures state { OnOk result (
+            IsState (G.left graph.now) (G.weight graph.now) (G.size graph.now) self.new.marks.items
+            self.new.open.items self.new.starts.items self.new.frames.items) }
+        ensures kept { OnOk result (
+            (m : ℕ)
+            → is_new (mark_of self.new.marks.items m) ≡ true
+            → is_new (mark_of self.old.marks.items m) ≡ true) }
+        ensures less { OnOk result (
+            work (G.left graph.now) self.new.marks.items self.new.frames.items
+            < work (G.left graph.now) self.old.marks.items (self.old.frames.items ++ frame ∷ [])) }
     {
         match graph.next(frame.node, frame.place) {
             Some((node, place)) => self.step(graph, frame, node, place),
@@ -117,12 +136,22 @@ impl Search {
         node: u32,
         place: Place,
     ) -> Result<(), NoMemory>
-        requires state { IsState (G.left graph.now) (G.weight graph.now) (G.size graph.now) self.old.marks.items self.old.open.items self.old.starts.items (self.old.frames.items ++ frame ∷ []) }
-        requires taken { G.left graph.now frame.node frame.place ≡ node ∷ G.left graph.now frame.node place }
+        requires state { IsState (G.left graph.now) (G.weight graph.now) (G.size graph.now)
+            self.old.marks.items self.old.open.items self.old.starts.items
+            (self.old.frames.items ++ frame ∷ []) }
+        requires taken { G.left graph.now frame.node frame.place
+            ≡ node ∷ G.left graph.now frame.node place }
         requires inside { node < G.size graph.now }
-        ensures state { OnOk result (IsState (G.left graph.now) (G.weight graph.now) (G.size graph.now) self.new.marks.items self.new.open.items self.new.starts.items self.new.frames.items) }
-        ensures kept { OnOk result ((m : ℕ) → is_new (mark_of self.new.marks.items m) ≡ true → is_new (mark_of self.old.marks.items m) ≡ true) }
-        ensures less { OnOk result (work (G.left graph.now) self.new.marks.items self.new.frames.items < work (G.left graph.now) self.old.marks.items (self.old.frames.items ++ frame ∷ [])) }
+        ensures state { OnOk result (
+            IsState (G.left graph.now) (G.weight graph.now) (G.size graph.now) self.new.marks.items
+            self.new.open.items self.new.starts.items self.new.frames.items) }
+        ensures kept { OnOk result (
+            (m : ℕ)
+            → is_new (mark_of self.new.marks.items m) ≡ true
+            → is_new (mark_of self.old.marks.items m) ≡ true) }
+        ensures less { OnOk result (
+            work (G.left graph.now) self.new.marks.items self.new.frames.items
+            < work (G.left graph.now) self.old.marks.items (self.old.frames.items ++ frame ∷ [])) }
     {
         match self.mark(node) {
             Mark::New => {
@@ -170,11 +199,17 @@ impl Search {
 
     /// Leaves a node without steps left. Where it is the first of its segment, all of it is known.
     fn leave<G: Graph>(&mut self, graph: &G, frame: Frame)
-        requires state { IsState (G.left graph.now) (G.weight graph.now) (G.size graph.now) self.old.marks.items self.old.open.items self.old.starts.items (self.old.frames.items ++ frame ∷ []) }
+        requires state { IsState (G.left graph.now) (G.weight graph.now) (G.size graph.now)
+            self.old.marks.items self.old.open.items self.old.starts.items
+            (self.old.frames.items ++ frame ∷ []) }
         requires done { G.left graph.now frame.node frame.place ≡ [] }
-        ensures state { IsState (G.left graph.now) (G.weight graph.now) (G.size graph.now) self.new.marks.items self.new.open.items self.new.starts.items self.new.frames.items }
-        ensures kept { (m : ℕ) → is_new (mark_of self.new.marks.items m) ≡ true → is_new (mark_of self.old.marks.items m) ≡ true }
-        ensures less { work (G.left graph.now) self.new.marks.items self.new.frames.items < work (G.left graph.now) self.old.marks.items (self.old.frames.items ++ frame ∷ []) }
+        ensures state { IsState (G.left graph.now) (G.weight graph.now) (G.size graph.now)
+            self.new.marks.items self.new.open.items self.new.starts.items self.new.frames.items }
+        ensures kept { (m : ℕ)
+            → is_new (mark_of self.new.marks.items m) ≡ true
+            → is_new (mark_of self.old.marks.items m) ≡ true }
+        ensures less { work (G.left graph.now) self.new.marks.items self.new.frames.items
+            < work (G.left graph.now) self.old.marks.items (self.old.frames.items ++ frame ∷ []) }
     {
         let _size = graph.size();
         let height = graph.weight(frame.node) + frame.high;

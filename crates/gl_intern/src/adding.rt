@@ -1,9 +1,13 @@
 //! The short forms of values, with each part put into its table where it is new.
 ghost use Rattle.std.specs.Prelude.{◌≡◌, IfOk};
 ghost use Rattle.gl_calculus.specs.Value as V;
-ghost use Rattle.gl_value.specs.View.{scalar_tree, value_tree, array_tree, item_trees, sheet_tree, frame_tree, override_trees};
+ghost use Rattle.gl_value.specs.View.{scalar_tree, value_tree, array_tree, item_trees, sheet_tree};
+ghost use Rattle.gl_value.specs.View.{frame_tree, override_trees};
 ghost use Rattle.gl_intern.specs.Tables.{tables, Grows};
-ghost use Rattle.gl_intern.specs.Places.{plain_in, scalar_in, whole_in, item_behind, items_in, value_in, override_link, override_behind, overrides_in, sheet_in, sheet_place, place_of_sheet, place_of_frame, frame_in};
+ghost use Rattle.gl_intern.specs.Places.{plain_in, scalar_in, whole_in, item_behind, items_in};
+ghost use Rattle.gl_intern.specs.Places.{value_in, override_link, override_behind, overrides_in};
+ghost use Rattle.gl_intern.specs.Places.{sheet_in, sheet_place, place_of_sheet, place_of_frame};
+ghost use Rattle.gl_intern.specs.Places.{frame_in};
 
 use crate::items::holds_sheets;
 use crate::parts::{Parts, place, place_array, place_oracle, place_scalar};
@@ -250,7 +254,8 @@ impl Parts {
     ) -> Result<Option<usize>, NoMemory>
         requires { frame_in (tables self.old) (frame_tree s.now.env) ≡ Some parent }
         ensures grows { Grows (tables self.old) (tables self.new) }
-        ensures ok { IfOk result (λ n. frame_in (tables self.new) (V.Frame.In (sheet_tree s.now) oracle.now.value) ≡ Some n) }
+        ensures ok { IfOk result (λ n.
+            frame_in (tables self.new) (V.Frame.In (sheet_tree s.now) oracle.now.value) ≡ Some n) }
     {
         let short = self.add_within(parent, s)?;
         let i = self.add_copy(short, oracle)?;

@@ -40,15 +40,21 @@ impl Model for Interner {
     ghost use Rattle.std.specs.Coded.{codes};
     ghost use Rattle.gl_calculus.specs.Codes.{coded_sheet, coded_frame};
     ghost use Rattle.gl_intern.specs.Tables.{tables};
-    ghost use Rattle.gl_intern.specs.Numbered.{Numbered, seconds, sheet_pairs, frame_pairs, IsInterned};
+    ghost use Rattle.gl_intern.specs.Numbered.{Numbered, seconds, sheet_pairs, frame_pairs};
+    ghost use Rattle.gl_intern.specs.Numbered.{IsInterned};
 
     ghost Value = { Numbered };
 
     ghost coded = { Prim.hlevel (codes, coded_sheet, coded_frame) };
 
-    ghost view = { λ a. record { sheets = seconds (sheet_pairs a.sheets.entries); frames = seconds (frame_pairs a.frames.entries) } };
+    ghost view = { λ a.
+        record {
+          sheets = seconds (sheet_pairs a.sheets.entries);
+          frames = seconds (frame_pairs a.frames.entries);
+        } };
 
-    ghost invariant = { λ a. IsInterned (tables a.parts) (sheet_pairs a.sheets.entries) (frame_pairs a.frames.entries) };
+    ghost invariant = { λ a.
+        IsInterned (tables a.parts) (sheet_pairs a.sheets.entries) (frame_pairs a.frames.entries) };
 }
 
 impl Interner {

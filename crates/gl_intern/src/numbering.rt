@@ -16,8 +16,9 @@ pub fn number_sheet(
     place: usize,
     s: &Rc<SheetVal>,
 ) -> Result<usize, NoMemory>
-    ensures pairs { OnOk result
-        (sheet_pairs sheets.new.entries ≡ put_pair nat_eq (sheet_pairs sheets.old.entries) place (sheet_tree s.now.value)) }
+    ensures pairs { OnOk result (
+        sheet_pairs sheets.new.entries
+        ≡ put_pair nat_eq (sheet_pairs sheets.old.entries) place (sheet_tree s.now.value)) }
     ensures number { IfOk result
         (λ n. position (nat_eq place) (firsts (sheet_pairs sheets.new.entries)) ≡ Some n) }
     ensures err { OnErr result (sheets.new.entries ≡ sheets.old.entries) }
@@ -34,8 +35,9 @@ fn push_sheet(
     s: Rc<SheetVal>,
 ) -> Result<usize, NoMemory>
     requires { position (nat_eq place) (firsts (sheet_pairs sheets.old.entries)) ≡ None }
-    ensures pairs { OnOk result
-        (sheet_pairs sheets.new.entries ≡ put_pair nat_eq (sheet_pairs sheets.old.entries) place (sheet_tree s.value)) }
+    ensures pairs { OnOk result (
+        sheet_pairs sheets.new.entries
+        ≡ put_pair nat_eq (sheet_pairs sheets.old.entries) place (sheet_tree s.value)) }
     ensures number { IfOk result
         (λ n. position (nat_eq place) (firsts (sheet_pairs sheets.new.entries)) ≡ Some n) }
     ensures err { OnErr result (sheets.new.entries ≡ sheets.old.entries) }
@@ -52,10 +54,11 @@ pub fn number_frame(
     place: Option<usize>,
     e: &Env,
 ) -> Result<usize, NoMemory>
-    ensures pairs { OnOk result
-        (frame_pairs frames.new.entries ≡ put_pair (option_eq nat_eq) (frame_pairs frames.old.entries) place (frame_tree e.now)) }
-    ensures number { IfOk result
-        (λ n. position (option_eq nat_eq place) (firsts (frame_pairs frames.new.entries)) ≡ Some n) }
+    ensures pairs { OnOk result (
+        frame_pairs frames.new.entries
+        ≡ put_pair (option_eq nat_eq) (frame_pairs frames.old.entries) place (frame_tree e.now)) }
+    ensures number { IfOk result (λ n.
+        position (option_eq nat_eq place) (firsts (frame_pairs frames.new.entries)) ≡ Some n) }
     ensures err { OnErr result (frames.new.entries ≡ frames.old.entries) }
 {
     match frames.get_index_of(&place) {
@@ -70,7 +73,8 @@ pub fn guessed_place(
     s: &SheetVal,
     guess: Option<u32>,
 ) -> Option<Option<usize>>
-    ensures { IfSome result (λ p. Member (p, frame_tree s.now.env) (frame_pairs frames.now.entries)) }
+    ensures { IfSome result (λ p.
+        Member (p, frame_tree s.now.env) (frame_pairs frames.now.entries)) }
 {
     match frames.get_index(guess? as usize) {
         Some((place, e)) if *e == s.env => Some(*place),
@@ -84,10 +88,11 @@ fn push_frame(
     e: Env,
 ) -> Result<usize, NoMemory>
     requires { position (option_eq nat_eq place) (firsts (frame_pairs frames.old.entries)) ≡ None }
-    ensures pairs { OnOk result
-        (frame_pairs frames.new.entries ≡ put_pair (option_eq nat_eq) (frame_pairs frames.old.entries) place (frame_tree e)) }
-    ensures number { IfOk result
-        (λ n. position (option_eq nat_eq place) (firsts (frame_pairs frames.new.entries)) ≡ Some n) }
+    ensures pairs { OnOk result (
+        frame_pairs frames.new.entries
+        ≡ put_pair (option_eq nat_eq) (frame_pairs frames.old.entries) place (frame_tree e)) }
+    ensures number { IfOk result (λ n.
+        position (option_eq nat_eq place) (firsts (frame_pairs frames.new.entries)) ≡ Some n) }
     ensures err { OnErr result (frames.new.entries ≡ frames.old.entries) }
 {
     match frames.insert_full(place, e) {

@@ -71,8 +71,8 @@ pub fn place<K: Eq + Hash + Drop>(set: &mut IndexSet<K>, part: K) -> Result<usiz
 /// The place of a scalar.
 pub fn place_scalar(scalars: &mut IndexSet<Scalar>, x: &Scalar) -> Result<usize, NoMemory>
     ensures grows { IsLonger (map scalar_tree scalars.old.keys) (map scalar_tree scalars.new.keys) }
-    ensures ok { IfOk result
-        (λ i. position (same_scalar (scalar_tree x.now)) (map scalar_tree scalars.new.keys) ≡ Some i) }
+    ensures ok { IfOk result (λ i.
+        position (same_scalar (scalar_tree x.now)) (map scalar_tree scalars.new.keys) ≡ Some i) }
 {
     match scalars.get_index_of(x) {
         Some(i) => Ok(i),
@@ -84,8 +84,10 @@ pub fn place_scalar(scalars: &mut IndexSet<Scalar>, x: &Scalar) -> Result<usize,
 pub fn place_array(arrays: &mut IndexSet<Rc<Array>>, a: &Rc<Array>) -> Result<usize, NoMemory>
     ensures grows { IsLonger (map (λ b. array_tree b.value) arrays.old.keys)
         (map (λ b. array_tree b.value) arrays.new.keys) }
-    ensures ok { IfOk result
-        (λ i. position (same_value (array_tree a.now.value)) (map (λ b. array_tree b.value) arrays.new.keys) ≡ Some i) }
+    ensures ok { IfOk result (λ i.
+        position (same_value (array_tree a.now.value))
+        (map (λ b. array_tree b.value) arrays.new.keys)
+        ≡ Some i) }
 {
     match arrays.get_index_of(a) {
         Some(i) => Ok(i),

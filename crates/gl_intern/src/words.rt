@@ -1,6 +1,8 @@
 //! Short forms are hashed by one word and one integer, however many parts they have.
 ghost use Rattle.std.specs.Prelude.{◌≡◌};
-ghost use Rattle.gl_intern.specs.Words.{place_word, scalar_word, scalar_int, value_word, value_int, items_word, item_word, override_word, last_word, last_int, range_word, sheet_word, frame_word};
+ghost use Rattle.gl_intern.specs.Words.{place_word, scalar_word, scalar_int, value_word, value_int};
+ghost use Rattle.gl_intern.specs.Words.{items_word, item_word, override_word, last_word, last_int};
+ghost use Rattle.gl_intern.specs.Words.{range_word, sheet_word, frame_word};
 
 use crate::short::{ShortFrame, ShortItem, ShortOverride, ShortScalar, ShortSheet, ShortValue};
 use gl_plane::{Range, address_word, mixed};
@@ -142,7 +144,8 @@ impl Hash for ShortOverride {
 
     ghost hash_input = { λ o. fed.u64 (override_word o) ++ fed.i64 (value_int o.value) };
 
-    ghost respects_eq = { λ a b h. ap (λ o. fed.u64 (override_word o) ++ fed.i64 (value_int o.value))
+    ghost respects_eq = { λ a b h.
+        ap (λ o. fed.u64 (override_word o) ++ fed.i64 (value_int o.value))
         (override_equality.0 a b h) };
 
     fn hash<H: Hasher>(&self, state: &mut H) {
@@ -178,7 +181,8 @@ impl Hash for ShortFrame {
 
     ghost hash_input = { λ f. fed.u64 (frame_word f) ++ fed.i64 (last_int f.sheet.last) };
 
-    ghost respects_eq = { λ a b h. ap (λ f. fed.u64 (frame_word f) ++ fed.i64 (last_int f.sheet.last))
+    ghost respects_eq = { λ a b h.
+        ap (λ f. fed.u64 (frame_word f) ++ fed.i64 (last_int f.sheet.last))
         (frame_equality.0 a b h) };
 
     fn hash<H: Hasher>(&self, state: &mut H) {

@@ -33,7 +33,13 @@ impl<T: Drop> From<AllocFailed<T>> for LexFault {
 
 /// The fault at this place of a text.
 pub fn fault(bad: Bad, at: u32) -> LexFault
-    ensures { (text bytes : List ℕ) → Refuses bytes bad → ((f : T.LexFault) → NoToken bytes → T.fault_at (slice_index bytes 0) ≡ f → T.IsLexFault text f at) → IsRefused text result }
+    ensures { (text bytes : List ℕ)
+        → Refuses bytes bad
+        → ((f : T.LexFault)
+        → NoToken bytes
+        → T.fault_at (slice_index bytes 0) ≡ f
+        → T.IsLexFault text f at)
+        → IsRefused text result }
 {
     match bad {
         Bad::Token => LexFault::Token { at },

@@ -3,7 +3,8 @@
 ghost use Rattle.std.specs.Prelude.{◌≡◌};
 ghost use Rattle.gl_language.specs.Text.{Bytes};
 ghost use Rattle.gl_language.specs.Token as T;
-ghost use Rattle.gl_language.specs.Laws.{OneTokenList, OneLexFault, TokensOrFault, CanonicalIsLexed};
+ghost use Rattle.gl_language.specs.Laws.{OneTokenList, OneLexFault, TokensOrFault};
+ghost use Rattle.gl_language.specs.Laws.{CanonicalIsLexed};
 
 /// A text has at most one list of tokens, or one first fault, and not both.
 pub fn one_reading()
@@ -14,7 +15,10 @@ pub fn one_reading()
 
 /// A literal stands for one text.
 pub fn one_text()
-    ensures { (bytes t u : Bytes) → T.Spells (T.Quoted t) bytes → T.Spells (T.Quoted u) bytes → t ≡ u }
+    ensures { (bytes t u : Bytes)
+        → T.Spells (T.Quoted t) bytes
+        → T.Spells (T.Quoted u) bytes
+        → t ≡ u }
 {}
 
 /// The canonical text of a formula has its canonical tokens.

@@ -14,7 +14,10 @@ use std::alloc::Global;
 #[tactic(auto, using(crate::proofs::Lexing::lex_rules))]
 pub fn tokens(alloc: Global, text: &str) -> Result<Vec<Token>, LexFault>
     requires { length text.now ≤ max_formula }
-    ensures { MatchResult result (λ v. Lexes text.now (tokens_in text.now v.items) × AreSpans text.now 0 (length text.now) v.items) (λ e. IsRefused text.now e) }
+    ensures { MatchResult result
+        (λ v.
+        Lexes text.now (tokens_in text.now v.items) × AreSpans text.now 0 (length text.now) v.items)
+        (λ e. IsRefused text.now e) }
 {
     let bytes = text.as_bytes();
     let mut found = Vec::new(alloc);

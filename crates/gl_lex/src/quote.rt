@@ -96,7 +96,9 @@ fn turn(state: State, b: u8) -> Step
 /// The decoded bytes, and how many bytes were read up to the closing quote and with it.
 #[tactic(auto, using(crate::proofs::Quotes::quote_rules))]
 pub fn decode(alloc: Global, bytes: &[u8]) -> Result<Option<(Vec<u8>, usize)>, AllocError>
-    ensures value { IfOk result (λ o. MatchOption o (spec.decode State.Plain bytes.now ≡ Scan.Torn) (λ p. spec.decode State.Plain bytes.now ≡ Scan.Ends p.0.items p.1)) }
+    ensures value { IfOk result (λ o.
+        MatchOption o (spec.decode State.Plain bytes.now ≡ Scan.Torn) (λ p.
+        spec.decode State.Plain bytes.now ≡ Scan.Ends p.0.items p.1)) }
     ensures within { IfOk result (λ o. IfSome o (λ p. (0 < p.1) × (p.1 ≤ length bytes.now))) }
 {
     let mut state = State::Plain;

@@ -1,6 +1,7 @@
 //! The token in front of a text.
 
-ghost use Rattle.std.specs.Prelude.{◌≡◌, ◌≤◌, ◌<◌, ◌∷◌, length, ◌^◌, slice_index, true, false, nat_eq, MatchOption, pos, option_map};
+ghost use Rattle.std.specs.Prelude.{◌≡◌, ◌≤◌, ◌<◌, ◌∷◌, length, ◌^◌, slice_index, true, false};
+ghost use Rattle.std.specs.Prelude.{nat_eq, MatchOption, pos, option_map};
 ghost use Rattle.std.specs.Str.{bytes_eq};
 ghost use Rattle.gl_language.specs.Token.{digits_value};
 ghost use Rattle.gl_lex.specs.View as view;
@@ -67,7 +68,8 @@ fn row(class: Class, bytes: &[u8]) -> usize
 /// The number of a row of digits, if it is at most 9223372036854775807.
 #[tactic(auto, using(crate::proofs::Values::value_rules))]
 fn number_of(digits: &[u8]) -> Option<i64>
-    ensures { MatchOption result (2 ^ 63 ≤ digits_value digits.now) (λ n. (n ≡ pos (digits_value digits.now)) × (digits_value digits.now < 2 ^ 63)) }
+    ensures { MatchOption result (2 ^ 63 ≤ digits_value digits.now) (λ n.
+        (n ≡ pos (digits_value digits.now)) × (digits_value digits.now < 2 ^ 63)) }
 {
     let mut n: u64 = 0;
     for b in digits {

@@ -24,7 +24,8 @@ pub fn table<F: Fn(u16, u16) -> Result<Scalar, NoMemory>>(
     requires callable { F.IsAlwaysCallable element }
     requires some_rows { 1 ≤ rows }
     requires some_cols { 1 ≤ cols }
-    ensures sound { AnswersSoundAt F.Fn element → IfOk result (λ v. IsTrue (is_sound_value (value_tree v))) }
+    ensures sound { AnswersSoundAt F.Fn element
+        → IfOk result (λ v. IsTrue (is_sound_value (value_tree v))) }
     ensures value { (rule : ℕ → ℕ → V.Scalar) → ComputesAt F.Fn element rule
         → IfOk result (λ v. value_tree v ≡ table (size rows cols) rule) }
 {
@@ -49,9 +50,14 @@ fn push_row<F: Fn(u16, u16) -> Result<Scalar, NoMemory>>(
 ) -> Result<(), NoMemory>
     requires { F.IsAlwaysCallable element.now }
     ensures count { OnOk result (vec_len items.new ≡ vec_len items.old + cols) }
-    ensures sound { AnswersSoundAt F.Fn element.now → IsTrue (are_sound (item_trees items.old.items)) → OnOk result (IsTrue (are_sound (item_trees items.new.items))) }
-    ensures row { (rule : ℕ → ℕ → V.Scalar) → ComputesAt F.Fn element.now rule
-        → OnOk result (map scalar_tree items.new.items ≡ map scalar_tree items.old.items ++ map (rule i) (range_with_len 0 cols)) }
+    ensures sound { AnswersSoundAt F.Fn element.now
+        → IsTrue (are_sound (item_trees items.old.items))
+        → OnOk result (IsTrue (are_sound (item_trees items.new.items))) }
+    ensures row { (rule : ℕ → ℕ → V.Scalar)
+        → ComputesAt F.Fn element.now rule
+        → OnOk result
+        (map scalar_tree items.new.items
+        ≡ map scalar_tree items.old.items ++ map (rule i) (range_with_len 0 cols)) }
 {
     for j in 0..cols {
         items.push(element(i, j)?)?;

@@ -7,7 +7,8 @@ ghost use Rattle.gl_calculus.specs.Lift.{shape};
 ghost use Rattle.gl_calculus.specs.Sound.{is_sound_value};
 ghost use Rattle.gl_value.specs.View.{scalar_tree, value_tree};
 ghost use Rattle.gl_lift.specs.Elements.{present, reached, place, paired, tripled};
-ghost use Rattle.gl_lift.specs.Rules.{Computes1, Computes2, Computes3, AnswersSound1, AnswersSound2, AnswersSound3, IsSound, IsSoundAnswer};
+ghost use Rattle.gl_lift.specs.Rules.{Computes1, Computes2, Computes3, AnswersSound1};
+ghost use Rattle.gl_lift.specs.Rules.{AnswersSound2, AnswersSound3, IsSound, IsSoundAnswer};
 
 use gl_plane::NoMemory;
 use gl_value::{ErrKind, Scalar, Value};
@@ -127,8 +128,10 @@ pub fn triple<F: Fn(&Scalar, &Scalar, &Scalar) -> Result<Scalar, NoMemory>>(
     requires second { IsTrue (is_sound_value (value_tree v.now)) }
     requires third { IsTrue (is_sound_value (value_tree w.now)) }
     ensures sound { AnswersSound3 F.Fn f.now → IsSoundAnswer result }
-    ensures value { (rule : V.Scalar → V.Scalar → V.Scalar → V.Scalar) → Computes3 F.Fn f.now rule
-        → IfOk result (λ x. scalar_tree x ≡ tripled rule (value_tree u.now) (value_tree v.now) (value_tree w.now) i j) }
+    ensures value { (rule : V.Scalar → V.Scalar → V.Scalar → V.Scalar)
+        → Computes3 F.Fn f.now rule
+        → IfOk result (λ x.
+        scalar_tree x ≡ tripled rule (value_tree u.now) (value_tree v.now) (value_tree w.now) i j) }
 {
     let Some(x) = reached(u, i, j) else {
         return Ok(Scalar::Err(ErrKind::Na));

@@ -10,7 +10,8 @@ ghost use Rattle.gl_calculus.specs.Value as V;
 ghost use Rattle.gl_calculus.specs.Lift.{lift1, lift2, lift3};
 ghost use Rattle.gl_calculus.specs.Sound.{is_sound_value};
 ghost use Rattle.gl_value.specs.View.{value_tree};
-ghost use Rattle.gl_lift.specs.Rules.{Computes1, Computes2, Computes3, AnswersSound1, AnswersSound2, AnswersSound3};
+ghost use Rattle.gl_lift.specs.Rules.{Computes1, Computes2, Computes3, AnswersSound1};
+ghost use Rattle.gl_lift.specs.Rules.{AnswersSound2, AnswersSound3};
 
 pub use build::table;
 pub use elements::{element, extents};
@@ -30,7 +31,8 @@ pub fn lift1<F: Fn(&Scalar) -> Result<Scalar, NoMemory>>(
 ) -> Result<Value, NoMemory>
     requires callable { F.IsAlwaysCallable f }
     requires sound { IsTrue (is_sound_value (value_tree v.now)) }
-    ensures sound { AnswersSound1 F.Fn f → IfOk result (λ r. IsTrue (is_sound_value (value_tree r))) }
+    ensures sound { AnswersSound1 F.Fn f
+        → IfOk result (λ r. IsTrue (is_sound_value (value_tree r))) }
     ensures value { (rule : V.Scalar → V.Scalar) → Computes1 F.Fn f rule
         → IfOk result (λ r. value_tree r ≡ lift1 rule (value_tree v.now)) }
 {
@@ -55,7 +57,8 @@ pub fn lift2<F: Fn(&Scalar, &Scalar) -> Result<Scalar, NoMemory>>(
     requires callable { F.IsAlwaysCallable f }
     requires first { IsTrue (is_sound_value (value_tree u.now)) }
     requires second { IsTrue (is_sound_value (value_tree v.now)) }
-    ensures sound { AnswersSound2 F.Fn f → IfOk result (λ r. IsTrue (is_sound_value (value_tree r))) }
+    ensures sound { AnswersSound2 F.Fn f
+        → IfOk result (λ r. IsTrue (is_sound_value (value_tree r))) }
     ensures value { (rule : V.Scalar → V.Scalar → V.Scalar) → Computes2 F.Fn f rule
         → IfOk result (λ r. value_tree r ≡ lift2 rule (value_tree u.now) (value_tree v.now)) }
 {
@@ -79,9 +82,12 @@ pub fn lift3<F: Fn(&Scalar, &Scalar, &Scalar) -> Result<Scalar, NoMemory>>(
     requires first { IsTrue (is_sound_value (value_tree u.now)) }
     requires second { IsTrue (is_sound_value (value_tree v.now)) }
     requires third { IsTrue (is_sound_value (value_tree w.now)) }
-    ensures sound { AnswersSound3 F.Fn f → IfOk result (λ r. IsTrue (is_sound_value (value_tree r))) }
-    ensures value { (rule : V.Scalar → V.Scalar → V.Scalar → V.Scalar) → Computes3 F.Fn f rule
-        → IfOk result (λ r. value_tree r ≡ lift3 rule (value_tree u.now) (value_tree v.now) (value_tree w.now)) }
+    ensures sound { AnswersSound3 F.Fn f
+        → IfOk result (λ r. IsTrue (is_sound_value (value_tree r))) }
+    ensures value { (rule : V.Scalar → V.Scalar → V.Scalar → V.Scalar)
+        → Computes3 F.Fn f rule
+        → IfOk result (λ r.
+        value_tree r ≡ lift3 rule (value_tree u.now) (value_tree v.now) (value_tree w.now)) }
 {
     match (u, v, w) {
         (Value::One(x), Value::One(y), Value::One(z)) => Ok(Value::One(f(x, y, z)?)),

@@ -6,7 +6,8 @@ ghost use Rattle.gl_calculus.specs.Lift.{shape};
 ghost use Rattle.gl_calculus.specs.Sound.{is_sound_value};
 ghost use Rattle.gl_value.specs.View.{value_tree};
 ghost use Rattle.gl_lift.specs.Elements.{paired, tripled};
-ghost use Rattle.gl_lift.specs.Rules.{Computes1, Computes2, Computes3, AnswersSound1, AnswersSound2, AnswersSound3};
+ghost use Rattle.gl_lift.specs.Rules.{Computes1, Computes2, Computes3, AnswersSound1};
+ghost use Rattle.gl_lift.specs.Rules.{AnswersSound2, AnswersSound3};
 
 use crate::build::table;
 use crate::elements::{extents, hull, pair, single, triple};
@@ -23,9 +24,13 @@ pub fn table_of_one<F: Fn(&Scalar) -> Result<Scalar, NoMemory>>(
 ) -> Result<Value, NoMemory>
     requires callable { F.IsAlwaysCallable f.now }
     requires sound { IsTrue (is_sound_value (value_tree v.now)) }
-    ensures sound { AnswersSound1 F.Fn f.now → IfOk result (λ r. IsTrue (is_sound_value (value_tree r))) }
-    ensures value { (rule : V.Scalar → V.Scalar) → Computes1 F.Fn f.now rule
-        → IfOk result (λ r. value_tree r ≡ L.table (shape (value_tree v.now)) (λ i j. rule (L.item (value_tree v.now) i j))) }
+    ensures sound { AnswersSound1 F.Fn f.now
+        → IfOk result (λ r. IsTrue (is_sound_value (value_tree r))) }
+    ensures value { (rule : V.Scalar → V.Scalar)
+        → Computes1 F.Fn f.now rule
+        → IfOk result (λ r.
+        value_tree r
+        ≡ L.table (shape (value_tree v.now)) (λ i j. rule (L.item (value_tree v.now) i j))) }
 {
     let (rows, cols) = extents(v);
     table(alloc, rows, cols, |i, j| single(v, i, j, f))
@@ -42,9 +47,14 @@ pub fn table_of_two<F: Fn(&Scalar, &Scalar) -> Result<Scalar, NoMemory>>(
     requires callable { F.IsAlwaysCallable f.now }
     requires first { IsTrue (is_sound_value (value_tree u.now)) }
     requires second { IsTrue (is_sound_value (value_tree v.now)) }
-    ensures sound { AnswersSound2 F.Fn f.now → IfOk result (λ r. IsTrue (is_sound_value (value_tree r))) }
-    ensures value { (rule : V.Scalar → V.Scalar → V.Scalar) → Computes2 F.Fn f.now rule
-        → IfOk result (λ r. value_tree r ≡ L.table (L.hull (shape (value_tree u.now)) (shape (value_tree v.now))) (paired rule (value_tree u.now) (value_tree v.now))) }
+    ensures sound { AnswersSound2 F.Fn f.now
+        → IfOk result (λ r. IsTrue (is_sound_value (value_tree r))) }
+    ensures value { (rule : V.Scalar → V.Scalar → V.Scalar)
+        → Computes2 F.Fn f.now rule
+        → IfOk result (λ r.
+        value_tree r
+        ≡ L.table (L.hull (shape (value_tree u.now)) (shape (value_tree v.now)))
+        (paired rule (value_tree u.now) (value_tree v.now))) }
 {
     let (rows, cols) = hull(extents(u), extents(v));
     table(alloc, rows, cols, |i, j| pair(u, v, i, j, f))
@@ -63,9 +73,16 @@ pub fn table_of_three<F: Fn(&Scalar, &Scalar, &Scalar) -> Result<Scalar, NoMemor
     requires first { IsTrue (is_sound_value (value_tree u.now)) }
     requires second { IsTrue (is_sound_value (value_tree v.now)) }
     requires third { IsTrue (is_sound_value (value_tree w.now)) }
-    ensures sound { AnswersSound3 F.Fn f.now → IfOk result (λ r. IsTrue (is_sound_value (value_tree r))) }
-    ensures value { (rule : V.Scalar → V.Scalar → V.Scalar → V.Scalar) → Computes3 F.Fn f.now rule
-        → IfOk result (λ r. value_tree r ≡ L.table (L.hull (shape (value_tree u.now)) (L.hull (shape (value_tree v.now)) (shape (value_tree w.now)))) (tripled rule (value_tree u.now) (value_tree v.now) (value_tree w.now))) }
+    ensures sound { AnswersSound3 F.Fn f.now
+        → IfOk result (λ r. IsTrue (is_sound_value (value_tree r))) }
+    ensures value { (rule : V.Scalar → V.Scalar → V.Scalar → V.Scalar)
+        → Computes3 F.Fn f.now rule
+        → IfOk result (λ r.
+        value_tree r
+        ≡ L.table
+        (L.hull (shape (value_tree u.now))
+        (L.hull (shape (value_tree v.now)) (shape (value_tree w.now))))
+        (tripled rule (value_tree u.now) (value_tree v.now) (value_tree w.now))) }
 {
     let (rows, cols) = hull(extents(u), hull(extents(v), extents(w)));
     table(alloc, rows, cols, |i, j| triple(u, v, w, i, j, f))

@@ -1,5 +1,6 @@
 //! The table of results.
-ghost use Rattle.std.specs.Prelude.{◌≡◌, [], not, length, filter, slice_get, option_map, option_copied, OnOk, OnErr};
+ghost use Rattle.std.specs.Prelude.{◌≡◌, [], not, length, filter, slice_get, option_map};
+ghost use Rattle.std.specs.Prelude.{option_copied, OnOk, OnErr};
 ghost use Rattle.std.specs.List.{IsDistinct};
 ghost use Rattle.std.specs.Map.{keys_of, lookup, remove_entry};
 ghost use Rattle.indexmap.specs.IndexMap.{insert_entry};
@@ -77,7 +78,8 @@ impl<K: Eq + Hash + Drop, O: Drop, A: Drop> Memo<K, O, A> {
     /// Removes the notes of all these keys in one pass. The rest keep their order. It takes no
     /// memory.
     pub fn remove_all(&mut self, gone: &IndexSet<K>)
-        ensures { notes_of self.new ≡ filter (λ e. not (contains K.eq gone.now e.0)) (notes_of self.old) }
+        ensures { notes_of self.new
+            ≡ filter (λ e. not (contains K.eq gone.now e.0)) (notes_of self.old) }
     {
         keep_others(&mut self.map, gone);
     }
@@ -85,7 +87,8 @@ impl<K: Eq + Hash + Drop, O: Drop, A: Drop> Memo<K, O, A> {
     /// Keeps the notes of these keys, and drops the others in one pass. What is kept stays in order.
     /// It takes no memory.
     pub fn keep<T: Chosen<K>>(&mut self, those: &T)
-        ensures kept { notes_of self.new ≡ filter (λ e. T.chosen those.now e.0) (notes_of self.old) }
+        ensures kept { notes_of self.new
+            ≡ filter (λ e. T.chosen those.now e.0) (notes_of self.old) }
         ensures distinct { IsDistinct K.eq (keys_of (notes_of self.new)) }
     {
         keep_chosen(&mut self.map, those);

@@ -36,7 +36,8 @@ pub fn is_bad_call(text: &[u8], raw: &Raw) -> bool
 }
 
 fn allows_word(fun: Option<Fun>, xs: &[Raw]) -> bool
-    ensures { (text : Bytes) → result ≡ G.allows_word (option_map fun_tree fun) (plains text xs.now) }
+    ensures { (text : Bytes)
+        → result ≡ G.allows_word (option_map fun_tree fun) (plains text xs.now) }
 {
     match fun {
         Some(fun) => allows(fun, xs),

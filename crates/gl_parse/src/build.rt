@@ -45,7 +45,8 @@ fn area(a: Addr, b: Addr) -> Formula
 
 /// The function of a word, which is one.
 fn called(word: &[u8]) -> Fun
-    ensures { (xs : F.Formulas) → G.call_of (G.function_of word.now) xs ≡ F.Formula.Call (fun_tree result) xs }
+    ensures { (xs : F.Formulas)
+        → G.call_of (G.function_of word.now) xs ≡ F.Formula.Call (fun_tree result) xs }
 {
     match function_of(word) {
         Some(fun) => fun,
@@ -57,7 +58,8 @@ fn called(word: &[u8]) -> Fun
 #[cycle(build)]
 #[tactic(auto, using(crate::proofs::Building::build_rules))]
 pub fn build(alloc: Global, text: &[u8], raw: &Raw) -> Result<Formula, NoMemory>
-    ensures { IsSpelled InOrder (raw_tree text.now raw.now) → IfOk result (λ f. formula_tree f ≡ G.tree (raw_tree text.now raw.now)) }
+    ensures { IsSpelled InOrder (raw_tree text.now raw.now)
+        → IfOk result (λ f. formula_tree f ≡ G.tree (raw_tree text.now raw.now)) }
 {
     match raw {
         Raw::Number(n) => Ok(Formula::Int(*n)),
@@ -92,7 +94,9 @@ fn build_operands(
     text: &[u8],
     rest: &[(Op, Raw)],
 ) -> Result<Vec<(Op, Formula)>, NoMemory>
-    ensures { AreSpelledOperands InOrder (links (pairs text.now rest.now)) → IfOk result (λ v. operand_trees v.items ≡ G.operand_trees (links (pairs text.now rest.now))) }
+    ensures { AreSpelledOperands InOrder (links (pairs text.now rest.now))
+        → IfOk result (λ v.
+        operand_trees v.items ≡ G.operand_trees (links (pairs text.now rest.now))) }
 {
     let mut built = Vec::new(alloc);
     for operand in rest {
@@ -105,7 +109,8 @@ fn build_operands(
 #[cycle(build)]
 #[tactic(auto, using(crate::proofs::Building::argument_rules))]
 fn build_arguments(alloc: Global, text: &[u8], xs: &[Raw]) -> Result<Vec<Formula>, NoMemory>
-    ensures { AreSpelled InOrder (raws_of (plains text.now xs.now)) → IfOk result (λ v. argument_trees v.items ≡ G.trees (raws_of (plains text.now xs.now))) }
+    ensures { AreSpelled InOrder (raws_of (plains text.now xs.now))
+        → IfOk result (λ v. argument_trees v.items ≡ G.trees (raws_of (plains text.now xs.now))) }
 {
     let mut built = Vec::new(alloc);
     for raw in xs {
@@ -119,7 +124,9 @@ fn build_arguments(alloc: Global, text: &[u8], xs: &[Raw]) -> Result<Vec<Formula
 #[cycle(build)]
 #[tactic(auto, using(crate::proofs::Building::call_rules))]
 fn build_call(alloc: Global, text: &[u8], word: &[u8], xs: &[Raw]) -> Result<Formula, NoMemory>
-    ensures { AreSpelled InOrder (raws_of (plains text.now xs.now)) → IfOk result (λ f. formula_tree f ≡ G.let_or_call word.now (G.trees (raws_of (plains text.now xs.now)))) }
+    ensures { AreSpelled InOrder (raws_of (plains text.now xs.now))
+        → IfOk result (λ f.
+        formula_tree f ≡ G.let_or_call word.now (G.trees (raws_of (plains text.now xs.now)))) }
 {
     let Some(name) = bound_variable(word, xs) else {
         return build_plain_call(alloc, text, word, xs);
@@ -139,7 +146,10 @@ fn build_plain_call(
     word: &[u8],
     xs: &[Raw],
 ) -> Result<Formula, NoMemory>
-    ensures { AreSpelled InOrder (raws_of (plains text.now xs.now)) → IfOk result (λ f. formula_tree f ≡ G.call_of (G.function_of word.now) (G.trees (raws_of (plains text.now xs.now)))) }
+    ensures { AreSpelled InOrder (raws_of (plains text.now xs.now))
+        → IfOk result (λ f.
+        formula_tree f
+        ≡ G.call_of (G.function_of word.now) (G.trees (raws_of (plains text.now xs.now)))) }
 {
     let xs = build_arguments(alloc, text, xs)?;
     Ok(Formula::Call(called(word), xs))

@@ -4,7 +4,8 @@ ghost use Rattle.std.specs.Prelude.{◌≡◌, ◌<◌, ◌≤◌, ◌∷◌, le
 ghost use Rattle.gl_language.specs.Text.{Bytes};
 ghost use Rattle.gl_language.specs.Token as T;
 ghost use Rattle.gl_language.specs.Token.{Address, Word, Signed};
-ghost use Rattle.gl_language.specs.Grammar.{IsExpr, IsChain, IsOperand, IsUnary, IsAtom, IsArguments};
+ghost use Rattle.gl_language.specs.Grammar.{IsExpr, IsChain, IsOperand, IsUnary, IsAtom};
+ghost use Rattle.gl_language.specs.Grammar.{IsArguments};
 ghost use Rattle.gl_language.specs.Grammar as spec;
 ghost use Rattle.gl_lex.specs.View.{tokens_in};
 ghost use Rattle.gl_ast.specs.View.{level_tree};
@@ -22,7 +23,8 @@ use std::alloc::Global;
 /// What an address begins, with the tokens behind it.
 #[tactic(auto, using(crate::proofs::Rulesets::address_rules))]
 fn addressed<'a>(text: &[u8], a: Addr, tokens: &'a [Token]) -> Result<(Raw, &'a [Token]), Stop>
-    ensures cases { Decides result (λ p. raw_tree text.now p.0) (λ p. tokens_in text.now p.1.now) IsAtom 5 (Address a ∷ tokens_in text.now tokens.now) }
+    ensures cases { Decides result (λ p. raw_tree text.now p.0) (λ p. tokens_in text.now p.1.now)
+        IsAtom 5 (Address a ∷ tokens_in text.now tokens.now) }
     ensures shrinks { IfOk result (λ p. length p.1.now ≤ length tokens.now) }
 {
     if let Some(rest) = after(text, Sign::Hash, tokens) {
@@ -41,7 +43,8 @@ fn addressed<'a>(text: &[u8], a: Addr, tokens: &'a [Token]) -> Result<(Raw, &'a 
 #[cycle(grammar)]
 #[tactic(auto, using(crate::proofs::Rulesets::expr_rules))]
 pub fn expr<'a>(alloc: Global, text: &[u8], tokens: &'a [Token]) -> Result<(Raw, &'a [Token]), Stop>
-    ensures cases { Decides result (λ p. raw_tree text.now p.0) (λ p. tokens_in text.now p.1.now) IsExpr 1 (tokens_in text.now tokens.now) }
+    ensures cases { Decides result (λ p. raw_tree text.now p.0) (λ p. tokens_in text.now p.1.now)
+        IsExpr 1 (tokens_in text.now tokens.now) }
     ensures shrinks { IfOk result (λ p. length p.1.now < length tokens.now) }
 {
     let (first, rest) = chain(alloc, text, Level::Cat, tokens)?;
@@ -64,7 +67,9 @@ fn chain<'a>(
     level: Level,
     tokens: &'a [Token],
 ) -> Result<(Raw, &'a [Token]), Stop>
-    ensures cases { Decides result (λ p. raw_tree text.now p.0) (λ p. tokens_in text.now p.1.now) (IsChain (level_tree level)) (chain_end (level_tree level)) (tokens_in text.now tokens.now) }
+    ensures cases { Decides result (λ p. raw_tree text.now p.0) (λ p. tokens_in text.now p.1.now)
+        (IsChain (level_tree level)) (chain_end (level_tree level))
+        (tokens_in text.now tokens.now) }
     ensures shrinks { IfOk result (λ p. length p.1.now < length tokens.now) }
 {
     let (first, mut rest) = operand(alloc, text, level, tokens)?;
@@ -80,7 +85,10 @@ fn chain<'a>(
 /// What a repetition is, which is its operand where it has no operator.
 #[tactic(auto, using(crate::proofs::Rulesets::chained_rules))]
 fn chained(alloc: Global, level: Level, first: Raw, others: Vec<(Op, Raw)>) -> Result<Raw, Stop>
-    ensures tree { (text : Bytes) → IfOk result (λ r. raw_tree text r ≡ spec.chained (level_tree level) (raw_tree text first) (links (pairs text others.items))) }
+    ensures tree { (text : Bytes)
+        → IfOk result (λ r.
+        raw_tree text r
+        ≡ spec.chained (level_tree level) (raw_tree text first) (links (pairs text others.items))) }
     ensures no_memory { MatchResult result (λ r. ⊤) (λ e. e ≡ Stop.NoMemory) }
 {
     if others.is_empty() {
@@ -97,7 +105,9 @@ fn operand<'a>(
     level: Level,
     tokens: &'a [Token],
 ) -> Result<(Raw, &'a [Token]), Stop>
-    ensures cases { Decides result (λ p. raw_tree text.now p.0) (λ p. tokens_in text.now p.1.now) (IsOperand (level_tree level)) (operand_end (level_tree level)) (tokens_in text.now tokens.now) }
+    ensures cases { Decides result (λ p. raw_tree text.now p.0) (λ p. tokens_in text.now p.1.now)
+        (IsOperand (level_tree level)) (operand_end (level_tree level))
+        (tokens_in text.now tokens.now) }
     ensures shrinks { IfOk result (λ p. length p.1.now < length tokens.now) }
 {
     match level {
@@ -110,7 +120,8 @@ fn operand<'a>(
 #[cycle(grammar)]
 #[tactic(auto, using(crate::proofs::Rulesets::unary_rules))]
 fn unary<'a>(alloc: Global, text: &[u8], tokens: &'a [Token]) -> Result<(Raw, &'a [Token]), Stop>
-    ensures cases { Decides result (λ p. raw_tree text.now p.0) (λ p. tokens_in text.now p.1.now) IsUnary 5 (tokens_in text.now tokens.now) }
+    ensures cases { Decides result (λ p. raw_tree text.now p.0) (λ p. tokens_in text.now p.1.now)
+        IsUnary 5 (tokens_in text.now tokens.now) }
     ensures shrinks { IfOk result (λ p. length p.1.now < length tokens.now) }
 {
     let Some(rest) = after(text, Sign::Minus, tokens) else {
@@ -123,7 +134,8 @@ fn unary<'a>(alloc: Global, text: &[u8], tokens: &'a [Token]) -> Result<(Raw, &'
 #[cycle(grammar)]
 #[tactic(auto, using(crate::proofs::Rulesets::atom_rules))]
 fn atom<'a>(alloc: Global, text: &[u8], tokens: &'a [Token]) -> Result<(Raw, &'a [Token]), Stop>
-    ensures cases { Decides result (λ p. raw_tree text.now p.0) (λ p. tokens_in text.now p.1.now) IsAtom 5 (tokens_in text.now tokens.now) }
+    ensures cases { Decides result (λ p. raw_tree text.now p.0) (λ p. tokens_in text.now p.1.now)
+        IsAtom 5 (tokens_in text.now tokens.now) }
     ensures shrinks { IfOk result (λ p. length p.1.now < length tokens.now) }
 {
     let Some((first, rest)) = tokens.split_first() else {
@@ -154,7 +166,8 @@ fn call<'a>(
     word: Span,
     tokens: &'a [Token],
 ) -> Result<(Raw, &'a [Token]), Stop>
-    ensures cases { Decides result (λ p. raw_tree text.now p.0) (λ p. tokens_in text.now p.1.now) IsAtom 5 (Word (letters text.now word) ∷ tokens_in text.now tokens.now) }
+    ensures cases { Decides result (λ p. raw_tree text.now p.0) (λ p. tokens_in text.now p.1.now)
+        IsAtom 5 (Word (letters text.now word) ∷ tokens_in text.now tokens.now) }
     ensures shrinks { IfOk result (λ p. length p.1.now < length tokens.now) }
 {
     let Some(rest) = after(text, Sign::LeftParen, tokens) else {
@@ -172,7 +185,8 @@ fn arguments<'a>(
     text: &[u8],
     tokens: &'a [Token],
 ) -> Result<(Vec<Raw>, &'a [Token]), Stop>
-    ensures cases { Decides result (λ p. raws_of (plains text.now p.0.items)) (λ p. tokens_in text.now p.1.now) IsArguments 5 (tokens_in text.now tokens.now) }
+    ensures cases { Decides result (λ p. raws_of (plains text.now p.0.items))
+        (λ p. tokens_in text.now p.1.now) IsArguments 5 (tokens_in text.now tokens.now) }
     ensures shrinks { IfOk result (λ p. length p.1.now < length tokens.now) }
 {
     let mut all = Vec::new(alloc);
@@ -196,7 +210,8 @@ fn arguments<'a>(
 #[cycle(grammar)]
 #[tactic(auto, using(crate::proofs::Rulesets::parens_rules))]
 fn parens<'a>(alloc: Global, text: &[u8], tokens: &'a [Token]) -> Result<(Raw, &'a [Token]), Stop>
-    ensures cases { Decides result (λ p. raw_tree text.now p.0) (λ p. tokens_in text.now p.1.now) IsAtom 5 (Signed T.Sign.LeftParen ∷ tokens_in text.now tokens.now) }
+    ensures cases { Decides result (λ p. raw_tree text.now p.0) (λ p. tokens_in text.now p.1.now)
+        IsAtom 5 (Signed T.Sign.LeftParen ∷ tokens_in text.now tokens.now) }
     ensures shrinks { IfOk result (λ p. length p.1.now < length tokens.now) }
 {
     let (inner, rest) = expr(alloc, text, tokens)?;

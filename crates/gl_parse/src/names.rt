@@ -1,6 +1,7 @@
 //! The words that are called, and the variables that `LET` binds.
 
-ghost use Rattle.std.specs.Prelude.{◌≡◌, IfOk, MatchOption, is_some, true, false, not, length, ⊤, ◌||◌, [], ◌∷◌, bytes_eq};
+ghost use Rattle.std.specs.Prelude.{◌≡◌, IfOk, MatchOption, is_some, true, false, not, length, ⊤};
+ghost use Rattle.std.specs.Prelude.{◌||◌, [], ◌∷◌, bytes_eq};
 ghost use Rattle.std.specs.List.{list_any};
 ghost use Rattle.gl_language.specs.Text.{Bytes};
 ghost use Rattle.gl_language.specs.Grammar as G;
@@ -45,7 +46,8 @@ fn is_same(text: &[u8], a: Span, b: Span) -> bool
 /// The name of a variable.
 #[tactic(auto, using(crate::proofs::Naming::variable_rules))]
 fn variable(raw: &Raw) -> Option<Span>
-    ensures { MatchOption result ((text : Bytes) → G.is_variable (raw_tree text raw.now) ≡ false) (λ name. (text : Bytes) → raw_tree text raw.now ≡ G.Raw.Var (letters text name)) }
+    ensures { MatchOption result ((text : Bytes) → G.is_variable (raw_tree text raw.now) ≡ false)
+        (λ name. (text : Bytes) → raw_tree text raw.now ≡ G.Raw.Var (letters text name)) }
 {
     match raw {
         Raw::Var(name) => Some(*name),
@@ -65,7 +67,10 @@ fn variable(raw: &Raw) -> Option<Span>
 /// The variable that a call binds in its third argument: that of a `LET` of three arguments, the first a variable.
 #[tactic(auto, using(crate::proofs::Naming::binding_rules))]
 pub fn bound_variable(word: &[u8], xs: &[Raw]) -> Option<Span>
-    ensures cases { MatchOption result ((text : Bytes) → spec.bound_by word.now (plains text xs.now) ≡ None) (λ name. (text : Bytes) → spec.bound_by word.now (plains text xs.now) ≡ Some (letters text name)) }
+    ensures cases { MatchOption result
+        ((text : Bytes) → spec.bound_by word.now (plains text xs.now) ≡ None)
+        (λ name.
+        (text : Bytes) → spec.bound_by word.now (plains text xs.now) ≡ Some (letters text name)) }
     ensures len { MatchOption result ⊤ (λ _. length xs.now ≡ 3) }
 {
     if !is_let(word) || xs.len() != 3 {
@@ -78,7 +83,8 @@ pub fn bound_variable(word: &[u8], xs: &[Raw]) -> Option<Span>
 #[cycle(names)]
 #[tactic(auto, using(crate::proofs::Naming::name_rules))]
 fn bad_name(text: &[u8], scope: &mut Vec<Span>, raw: &Raw) -> Result<bool, NoMemory>
-    ensures value { IfOk result (λ b. b ≡ G.has_bad_name (spec.scope text.now scope.old.items) (raw_tree text.now raw.now)) }
+    ensures value { IfOk result (λ b.
+        b ≡ G.has_bad_name (spec.scope text.now scope.old.items) (raw_tree text.now raw.now)) }
     ensures same { IfOk result (λ b. scope.new.items ≡ scope.old.items) }
 {
     match raw {
@@ -115,7 +121,10 @@ fn bad_name_in_operands(
     scope: &mut Vec<Span>,
     rest: &[(Op, Raw)],
 ) -> Result<bool, NoMemory>
-    ensures value { IfOk result (λ b. b ≡ G.bad_name_in_operands (spec.scope text.now scope.old.items) (links (pairs text.now rest.now))) }
+    ensures value { IfOk result (λ b.
+        b
+        ≡ G.bad_name_in_operands (spec.scope text.now scope.old.items)
+        (links (pairs text.now rest.now))) }
     ensures same { IfOk result (λ b. scope.new.items ≡ scope.old.items) }
 {
     for operand in rest {
@@ -130,7 +139,9 @@ fn bad_name_in_operands(
 #[cycle(names)]
 #[tactic(auto, using(crate::proofs::Naming::argument_rules))]
 fn bad_name_in_arguments(text: &[u8], scope: &mut Vec<Span>, xs: &[Raw]) -> Result<bool, NoMemory>
-    ensures value { IfOk result (λ b. b ≡ G.bad_name_in (spec.scope text.now scope.old.items) (raws_of (plains text.now xs.now))) }
+    ensures value { IfOk result (λ b.
+        b
+        ≡ G.bad_name_in (spec.scope text.now scope.old.items) (raws_of (plains text.now xs.now))) }
     ensures same { IfOk result (λ b. scope.new.items ≡ scope.old.items) }
 {
     for raw in xs {
@@ -151,7 +162,10 @@ fn bad_name_in_call(
     word: &[u8],
     xs: &[Raw],
 ) -> Result<bool, NoMemory>
-    ensures value { IfOk result (λ b. b ≡ G.has_bad_name (spec.scope text.now scope.old.items) (G.Raw.Apply word.now (raws_of (plains text.now xs.now)))) }
+    ensures value { IfOk result (λ b.
+        b
+        ≡ G.has_bad_name (spec.scope text.now scope.old.items)
+        (G.Raw.Apply word.now (raws_of (plains text.now xs.now)))) }
     ensures same { IfOk result (λ b. scope.new.items ≡ scope.old.items) }
 {
     let Some(name) = bound_variable(word, xs) else {
@@ -173,7 +187,10 @@ fn bad_name_in_body(
     name: Span,
     body: &Raw,
 ) -> Result<bool, NoMemory>
-    ensures value { IfOk result (λ b. b ≡ G.has_bad_name (letters text.now name ∷ spec.scope text.now scope.old.items) (raw_tree text.now body.now)) }
+    ensures value { IfOk result (λ b.
+        b
+        ≡ G.has_bad_name (letters text.now name ∷ spec.scope text.now scope.old.items)
+        (raw_tree text.now body.now)) }
     ensures same { IfOk result (λ b. scope.new.items ≡ scope.old.items) }
 {
     scope.push(name)?;
@@ -190,7 +207,11 @@ fn bad_name_in_plain_call(
     word: &[u8],
     xs: &[Raw],
 ) -> Result<bool, NoMemory>
-    ensures value { IfOk result (λ b. b ≡ (not (G.is_let word.now || is_some (G.function_of word.now)) || G.bad_name_in (spec.scope text.now scope.old.items) (raws_of (plains text.now xs.now)))) }
+    ensures value { IfOk result (λ b.
+        b
+        ≡ (not (G.is_let word.now || is_some (G.function_of word.now))
+        || G.bad_name_in (spec.scope text.now scope.old.items)
+        (raws_of (plains text.now xs.now)))) }
     ensures same { IfOk result (λ b. scope.new.items ≡ scope.old.items) }
 {
     if !is_called(word) {

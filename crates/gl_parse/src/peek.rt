@@ -17,7 +17,9 @@ use gl_plane::Addr;
 
 /// The sign in front, and the tokens behind it.
 fn sign<'a>(text: &[u8], tokens: &'a [Token]) -> Option<(Sign, &'a [Token])>
-    ensures cases { MatchOption result ((s : T.Sign) (ts : Tokens) → tokens_in text.now tokens.now ≡ Signed s ∷ ts → ⊥) (λ p. tokens_in text.now tokens.now ≡ Signed (sign_of p.0) ∷ tokens_in text.now p.1.now) }
+    ensures cases { MatchOption result
+        ((s : T.Sign) (ts : Tokens) → tokens_in text.now tokens.now ≡ Signed s ∷ ts → ⊥)
+        (λ p. tokens_in text.now tokens.now ≡ Signed (sign_of p.0) ∷ tokens_in text.now p.1.now) }
     ensures len { MatchOption result ⊤ (λ p. length p.1.now + 1 ≡ length tokens.now) }
 {
     let (first, rest) = tokens.split_first()?;
@@ -34,7 +36,8 @@ fn sign<'a>(text: &[u8], tokens: &'a [Token]) -> Option<(Sign, &'a [Token])>
 
 /// The comparison of a sign.
 fn comparing(sign: Sign) -> Option<Op>
-    ensures { MatchOption result (comparison (sign_of sign) ≡ None) (λ op. comparison (sign_of sign) ≡ Some (op_tree op)) }
+    ensures { MatchOption result (comparison (sign_of sign) ≡ None) (λ op.
+        comparison (sign_of sign) ≡ Some (op_tree op)) }
 {
     match sign {
         Sign::Eq => Some(Op::Eq),
@@ -58,7 +61,8 @@ fn comparing(sign: Sign) -> Option<Op>
 
 /// The operator of a sign in chains of a level.
 fn joining(level: Level, sign: Sign) -> Option<Op>
-    ensures { MatchOption result (operator (level_tree level) (sign_of sign) ≡ None) (λ op. operator (level_tree level) (sign_of sign) ≡ Some (op_tree op)) }
+    ensures { MatchOption result (operator (level_tree level) (sign_of sign) ≡ None) (λ op.
+        operator (level_tree level) (sign_of sign) ≡ Some (op_tree op)) }
 {
     match (level, sign) {
         (Level::Cat, Sign::Join) => Some(Op::Join),
@@ -73,7 +77,11 @@ fn joining(level: Level, sign: Sign) -> Option<Op>
 /// The comparison in front, and the tokens behind it.
 #[tactic(auto, using(crate::proofs::Ends::no_sign, crate::proofs::Ends::this_behind, crate::proofs::Ends::this_other))]
 pub fn compared<'a>(text: &[u8], tokens: &'a [Token]) -> Option<(Op, &'a [Token])>
-    ensures cases { MatchOption result (after_sign comparison (tokens_in text.now tokens.now) ≡ Front.Other) (λ p. after_sign comparison (tokens_in text.now tokens.now) ≡ Front.Behind (op_tree p.0) (tokens_in text.now p.1.now)) }
+    ensures cases { MatchOption result
+        (after_sign comparison (tokens_in text.now tokens.now) ≡ Front.Other)
+        (λ p.
+        after_sign comparison (tokens_in text.now tokens.now)
+        ≡ Front.Behind (op_tree p.0) (tokens_in text.now p.1.now)) }
     ensures len { MatchOption result ⊤ (λ p. length p.1.now + 1 ≡ length tokens.now) }
 {
     let (sign, rest) = sign(text, tokens)?;
@@ -83,7 +91,11 @@ pub fn compared<'a>(text: &[u8], tokens: &'a [Token]) -> Option<(Op, &'a [Token]
 /// The operator of this level in front, and the tokens behind it.
 #[tactic(auto, using(crate::proofs::Ends::no_sign, crate::proofs::Ends::this_behind, crate::proofs::Ends::this_other))]
 pub fn joined<'a>(text: &[u8], level: Level, tokens: &'a [Token]) -> Option<(Op, &'a [Token])>
-    ensures cases { MatchOption result (after_sign (operator (level_tree level)) (tokens_in text.now tokens.now) ≡ Front.Other) (λ p. after_sign (operator (level_tree level)) (tokens_in text.now tokens.now) ≡ Front.Behind (op_tree p.0) (tokens_in text.now p.1.now)) }
+    ensures cases { MatchOption result
+        (after_sign (operator (level_tree level)) (tokens_in text.now tokens.now) ≡ Front.Other)
+        (λ p.
+        after_sign (operator (level_tree level)) (tokens_in text.now tokens.now)
+        ≡ Front.Behind (op_tree p.0) (tokens_in text.now p.1.now)) }
     ensures len { MatchOption result ⊤ (λ p. length p.1.now + 1 ≡ length tokens.now) }
 {
     let (sign, rest) = sign(text, tokens)?;
@@ -93,7 +105,9 @@ pub fn joined<'a>(text: &[u8], level: Level, tokens: &'a [Token]) -> Option<(Op,
 /// The tokens behind this sign, which is in front.
 #[tactic(auto, using(crate::proofs::Forms::other_sign))]
 pub fn after<'a>(text: &[u8], wanted: Sign, tokens: &'a [Token]) -> Option<&'a [Token]>
-    ensures cases { MatchOption result ((ts : Tokens) → tokens_in text.now tokens.now ≡ Signed (sign_of wanted) ∷ ts → ⊥) (λ p. tokens_in text.now tokens.now ≡ Signed (sign_of wanted) ∷ tokens_in text.now p.now) }
+    ensures cases { MatchOption result
+        ((ts : Tokens) → tokens_in text.now tokens.now ≡ Signed (sign_of wanted) ∷ ts → ⊥)
+        (λ p. tokens_in text.now tokens.now ≡ Signed (sign_of wanted) ∷ tokens_in text.now p.now) }
     ensures len { MatchOption result ⊤ (λ p. length p.now + 1 ≡ length tokens.now) }
 {
     let (found, rest) = sign(text, tokens)?;
@@ -102,7 +116,9 @@ pub fn after<'a>(text: &[u8], wanted: Sign, tokens: &'a [Token]) -> Option<&'a [
 
 /// The address in front, and the tokens behind it.
 pub fn address<'a>(text: &[u8], tokens: &'a [Token]) -> Option<(&'a Addr, &'a [Token])>
-    ensures cases { MatchOption result ((a : Addr) (ts : Tokens) → tokens_in text.now tokens.now ≡ Address a ∷ ts → ⊥) (λ p. tokens_in text.now tokens.now ≡ Address p.0.now ∷ tokens_in text.now p.1.now) }
+    ensures cases { MatchOption result
+        ((a : Addr) (ts : Tokens) → tokens_in text.now tokens.now ≡ Address a ∷ ts → ⊥)
+        (λ p. tokens_in text.now tokens.now ≡ Address p.0.now ∷ tokens_in text.now p.1.now) }
     ensures len { MatchOption result ⊤ (λ p. length p.1.now + 1 ≡ length tokens.now) }
 {
     let (first, rest) = tokens.split_first()?;

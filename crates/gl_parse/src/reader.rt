@@ -39,7 +39,10 @@ pub fn parse(alloc: Global, text: &str) -> Result<Formula, ParseFault>
 
 #[tactic(auto, using(crate::proofs::Answering::lex_rules))]
 fn lex_fault(fault: LexFault) -> ParseFault
-    ensures { (text : Bytes) → length text ≤ max_formula → lex.IsRefused text fault → IsRefused text result }
+    ensures { (text : Bytes)
+        → length text ≤ max_formula
+        → lex.IsRefused text fault
+        → IsRefused text result }
 {
     match fault {
         LexFault::Token { at } => ParseFault::Lex(LexFault::Token { at }),

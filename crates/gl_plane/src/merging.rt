@@ -55,7 +55,8 @@ fn push_joined(ranges: &mut Vec<Range>, next: &Range) -> Result<(), NoMemory>
 
 /// Two more ranges, as one where they make one.
 fn push_two(ranges: &mut Vec<Range>, last: &Range, next: &Range) -> Result<(), NoMemory>
-    ensures { OnOk result (AreWhere ranges.new.items (beside_two ranges.old.items last.now next.now)) }
+    ensures { OnOk result (
+        AreWhere ranges.new.items (beside_two ranges.old.items last.now next.now)) }
 {
     match one_range(last, next) {
         Some(both) => ranges.push(both)?,

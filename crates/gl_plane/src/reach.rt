@@ -1,7 +1,8 @@
 //! The entries that meet a range, by how far down and right each block of entries reaches.
 ghost use Rattle.std.specs.Prelude.{◌≡◌, ◌≤◌, ◌<◌, drop, OnOk, OnErr, vec_len};
 ghost use Rattle.gl_calculus.specs.Oracle.{IsInOrder};
-ghost use Rattle.gl_plane.specs.Reach.{first_from, spills_into, lowest_row, last_column, AreReaches, IsRaised};
+ghost use Rattle.gl_plane.specs.Reach.{first_from, spills_into, lowest_row, last_column};
+ghost use Rattle.gl_plane.specs.Reach.{AreReaches, IsRaised};
 
 use crate::{Entry, NoMemory, Permit, Range};
 

@@ -35,7 +35,13 @@ pub trait Round {
     ghost fails: { Self → Plain → Self.Fault → Type 0 };
 
     /// What one call does.
-    ghost calls: { Self → Self.Count → Plain → Result Found Self.Fault → Self → Self.Count → Type 0 };
+    ghost calls: { Self
+        → Self.Count
+        → Plain
+        → Result Found Self.Fault
+        → Self
+        → Self.Count
+        → Type 0 };
 
     /// The sizes of the arrays under an oracle.
     fn sizes(&mut self, w: &Oracle, count: &mut Self::Count) -> Result<Sizes, Self::Fault>
@@ -47,7 +53,9 @@ pub trait Round {
         ensures failed { IfErr result (λ e. fails self.old w.now e) }
         ensures called { calls self.old count.old w.now result self.new count.new }
         ensures gives_kept { (v : Plain) (zs : Found) → gives self.new v zs ↔ gives self.old v zs }
-        ensures fails_kept { (v : Plain) (e : Self.Fault) → fails self.new v e ↔ fails self.old v e };
+        ensures fails_kept { (v : Plain) (e : Self.Fault)
+            → fails self.new v e
+            ↔ fails self.old v e };
 
     /// An oracle gives sizes at most once.
     ghost one: { (s : Self) (w : Plain) (x y : Found) → gives s w x → gives s w y → x ≡ y };
@@ -86,7 +94,8 @@ pub fn iterate<R: Round, B: Blocks>(
     requires can { R.can round.old }
     requires first { R.under round.old [] }
     requires next { (v : Plain) → ArePermits bound.now (B.held blocks.now) v → R.under round.old v }
-    ensures { Answers (R.gives round.old) (R.fails round.old) R.calls bound.now (B.held blocks.now) budget round.old count.old result round.new count.new }
+    ensures { Answers (R.gives round.old) (R.fails round.old) R.calls bound.now (B.held blocks.now)
+        budget round.old count.old result round.new count.new }
 {
     let mut oracle = Oracle::new(alloc);
     let mut rounds = 0;
@@ -122,8 +131,11 @@ fn next_oracle<R: Round, B: Blocks>(
     ensures can_again { R.can round.new }
     ensures under_kept { (v : Plain) → R.under round.old v → R.under round.new v }
     ensures permits { IfOk result (ArePermits bound.now (B.held blocks.now)) }
-    ensures once { Once (R.gives round.old) (R.fails round.old) R.calls bound.now (B.held blocks.now) w.now round.old count.old result round.new count.new }
-    ensures gives_kept { (v : Plain) (zs : Found) → R.gives round.new v zs ↔ R.gives round.old v zs }
+    ensures once { Once (R.gives round.old) (R.fails round.old) R.calls bound.now
+        (B.held blocks.now) w.now round.old count.old result round.new count.new }
+    ensures gives_kept { (v : Plain) (zs : Found)
+        → R.gives round.new v zs
+        ↔ R.gives round.old v zs }
     ensures fails_kept { (v : Plain) (e : R.Fault) → R.fails round.new v e ↔ R.fails round.old v e }
 {
     match round.sizes(w, count) {

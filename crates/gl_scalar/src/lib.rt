@@ -32,7 +32,8 @@ use texts::joined;
 #[tactic(auto, using(gl_value::specs::Forms::trees, crate::proofs::Arithmetic::arithmetic))]
 pub fn arith(op: Op, x: &Scalar, y: &Scalar) -> Scalar
     requires { IsTrue (is_arithmetic (op_tree op)) }
-    ensures value { scalar_tree result ≡ O.operate (op_tree op) (scalar_tree x.now) (scalar_tree y.now) }
+    ensures value { scalar_tree result
+        ≡ O.operate (op_tree op) (scalar_tree x.now) (scalar_tree y.now) }
     ensures sound { IsTrue (is_sound_scalar (scalar_tree result)) }
 {
     if let Some(kind) = fault(x, y) {
@@ -66,7 +67,8 @@ pub fn negate(x: &Scalar) -> Scalar
 /// another kind gives FALSE.
 #[tactic(auto, using(gl_value::specs::Forms::trees))]
 pub fn compare(op: Op, x: &Scalar, y: &Scalar) -> Scalar
-    ensures value { scalar_tree result ≡ O.compare (op_tree op) (scalar_tree x.now) (scalar_tree y.now) }
+    ensures value { scalar_tree result
+        ≡ O.compare (op_tree op) (scalar_tree x.now) (scalar_tree y.now) }
     ensures sound { IsTrue (is_sound_scalar (scalar_tree result)) }
 {
     match fault(x, y) {
@@ -78,7 +80,8 @@ pub fn compare(op: Op, x: &Scalar, y: &Scalar) -> Scalar
 /// `&`: the plain texts one after the other, or `#SIZE!` where that is more than `MAX_TEXT` bytes.
 #[tactic(auto, using(gl_value::specs::Forms::trees))]
 pub fn join_text(alloc: Global, x: &Scalar, y: &Scalar) -> Result<Scalar, NoMemory>
-    ensures value { IfOk result (λ z. scalar_tree z ≡ O.join_text (scalar_tree x.now) (scalar_tree y.now)) }
+    ensures value { IfOk result (λ z.
+        scalar_tree z ≡ O.join_text (scalar_tree x.now) (scalar_tree y.now)) }
     ensures sound { IfOk result (λ z. IsTrue (is_sound_scalar (scalar_tree z))) }
 {
     match fault(x, y) {

@@ -11,8 +11,10 @@ use gl_value::{ErrKind, Scalar};
 /// else `#VALUE!` where one of them is a sheet value.
 #[tactic(auto, using(gl_value::specs::Forms::trees))]
 pub fn fault(x: &Scalar, y: &Scalar) -> Option<ErrKind>
-    ensures { (rule : V.Scalar → V.Scalar → V.Scalar) → O.strict rule (scalar_tree x.now) (scalar_tree y.now)
-        ≡ unless_fault (option_map error_tree result) (rule (scalar_tree x.now) (scalar_tree y.now)) }
+    ensures { (rule : V.Scalar → V.Scalar → V.Scalar)
+        → O.strict rule (scalar_tree x.now) (scalar_tree y.now)
+        ≡ unless_fault (option_map error_tree result)
+        (rule (scalar_tree x.now) (scalar_tree y.now)) }
 {
     match (x, y) {
         (Scalar::Err(kind), _) => Some(*kind),

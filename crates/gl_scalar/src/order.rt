@@ -14,7 +14,8 @@ use std::cmp::Ordering;
 /// or a sheet value.
 #[tactic(auto, using(gl_value::specs::Forms::trees, crate::proofs::Orders::orders))]
 pub fn order(x: &Scalar, y: &Scalar) -> Option<Ordering>
-    ensures { Stands result (O.filled (scalar_tree x.now) (scalar_tree y.now)) (O.filled (scalar_tree y.now) (scalar_tree x.now)) }
+    ensures { Stands result (O.filled (scalar_tree x.now) (scalar_tree y.now))
+        (O.filled (scalar_tree y.now) (scalar_tree x.now)) }
 {
     match (x, y) {
         (Scalar::Blank, Scalar::Blank) => Some(Ordering::Equal),

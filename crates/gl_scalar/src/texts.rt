@@ -13,7 +13,8 @@ use std::rc::RcStr;
 
 /// The plain texts of two operands as one text.
 pub fn joined(alloc: Global, x: &Scalar, y: &Scalar) -> Result<Scalar, NoMemory>
-    ensures value { IfOk result (λ z. scalar_tree z ≡ O.text (O.plain (scalar_tree x.now) ++ O.plain (scalar_tree y.now))) }
+    ensures value { IfOk result (λ z.
+        scalar_tree z ≡ O.text (O.plain (scalar_tree x.now) ++ O.plain (scalar_tree y.now))) }
     ensures sound { IfOk result (λ z. IsTrue (is_sound_scalar (scalar_tree z))) }
 {
     let mut text = String::new(alloc);
@@ -37,7 +38,8 @@ fn limited(text: String) -> Result<Scalar, NoMemory>
 /// Appends the plain text of a scalar, where it has one.
 #[tactic(auto, using(gl_value::specs::Forms::trees))]
 fn push_plain(alloc: Global, out: &mut String, x: &Scalar) -> Result<(), NoMemory>
-    ensures { OnOk result (string_bytes out.new ≡ string_bytes out.old ++ O.plain (scalar_tree x.now)) }
+    ensures { OnOk result (
+        string_bytes out.new ≡ string_bytes out.old ++ O.plain (scalar_tree x.now)) }
 {
     match x {
         Scalar::Int(n) => push_integer(alloc, out, *n),

@@ -32,7 +32,8 @@ pub(crate) fn read_content(alloc: Global, text: &str) -> Result<Content, Command
 
 /// The content of a text that isn't empty, or `None` where there is no text.
 pub(crate) fn read_text(alloc: Global, text: Option<&str>) -> Result<Option<Content>, CommandFault>
-    ensures { IsTrue (is_text (option_copied text.entry)) → IsText (option_copied text.entry) result }
+    ensures { IsTrue (is_text (option_copied text.entry))
+        → IsText (option_copied text.entry) result }
 {
     match text {
         None => Ok(None),

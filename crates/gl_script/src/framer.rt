@@ -46,7 +46,8 @@ impl Framer {
     fn end_line(&mut self) -> Result<Ended, NoMemory>
         requires line { self.old.feed.event ≡ Event.Line }
         requires idle { begun_of self.old.feed ≡ idle }
-        ensures { IfOk result (λ e. close_by (kind_by false (payload_len (piece_of self.old.feed))) (piece_of self.old.feed)
+        ensures { IfOk result (λ e.
+            close_by (kind_by false (payload_len (piece_of self.old.feed))) (piece_of self.old.feed)
             ≡ (stream_at self.new, told e self.new)) }
     {
         match payload_due(self.feed.piece()) {
@@ -66,7 +67,8 @@ impl Framer {
     /// Takes the next byte, and tells the item that it ends. After an `Err` the framer is of no further
     /// use.
     pub fn push(&mut self, b: u8) -> Result<Ended, NoMemory>
-        ensures { IfOk result (λ e. step (stream_at self.old) b ≡ (stream_at self.new, told e self.new)) }
+        ensures { IfOk result (λ e.
+            step (stream_at self.old) b ≡ (stream_at self.new, told e self.new)) }
     {
         match self.feed.push(b)? {
             Event::More => Ok(Ended::Nothing),

@@ -48,7 +48,8 @@ fn in_times(time: u64) -> Option<u64>
 
 /// The time and the site of a stamp, where these digits write one.
 pub(crate) fn stamp_of(time: &str, site: &str) -> Option<(u64, u16)>
-    ensures { IsTrue (is_number time.now && is_number site.now) → result ≡ stamp_in time.now site.now }
+    ensures { IsTrue (is_number time.now && is_number site.now)
+        → result ≡ stamp_in time.now site.now }
 {
     match time_of(time) {
         None => None,

@@ -268,8 +268,9 @@ fn edit(
     place: &str,
     text: Option<&str>,
 ) -> Result<Request, CommandFault>
-    ensures { (l : Bytes) → HasWords l (C.EditWords time.now site.now place.now (option_copied text.entry)) →
-        Answers l result }
+    ensures { (l : Bytes)
+        → HasWords l (C.EditWords time.now site.now place.now (option_copied text.entry))
+        → Answers l result }
 {
     match read_address(place) {
         Some(at) => match stamp_of(time, site) {

@@ -1,7 +1,8 @@
 //! Soundness as a law of the calculus: where a sheet's contents are fit, sound keys have sound outcomes and ask for sound keys. This crate has definitions and proofs alone; each law is the contract of a function that does nothing.
 #![tactic(auto)]
 
-ghost use Rattle.gl_sound.specs.Laws.{SoundOutcomes, SoundDemands, SoundReads, WellFormedIsFit, ProperIsFit};
+ghost use Rattle.gl_sound.specs.Laws.{SoundOutcomes, SoundDemands, SoundReads, WellFormedIsFit};
+ghost use Rattle.gl_sound.specs.Laws.{ProperIsFit};
 
 /// What sound keys come to, and what they ask for.
 pub fn sound_keys()

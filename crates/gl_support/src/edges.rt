@@ -1,5 +1,6 @@
 //! Reads as edges from the key that is read to the key that reads it.
-ghost use Rattle.std.specs.Prelude.{◌≡◌, ◌<◌, ◌||◌, ◌&&◌, ℕ, true, false, [], length, nat_eq, IfOk, OnOk, vec_len};
+ghost use Rattle.std.specs.Prelude.{◌≡◌, ◌<◌, ◌||◌, ◌&&◌, ℕ, true, false, [], length, nat_eq, IfOk};
+ghost use Rattle.std.specs.Prelude.{OnOk, vec_len};
 ghost use Rattle.std.specs.List.{list_any};
 ghost use Rattle.indexmap.specs.IndexSet.{index_set_len};
 ghost use Rattle.gl_support.specs.Affected.{is_touched};
@@ -30,7 +31,10 @@ fn add_edge(edges: &mut Vec<Vec<usize>>, a: usize, b: usize) -> Result<(), NoMem
     requires from { a < vec_len edges.old }
     requires to { b < vec_len edges.old }
     requires graph { IsGraph edges.old.items }
-    ensures edges { OnOk result ((i c : ℕ) → has (row_of edges.new.items i) c ≡ (has (row_of edges.old.items i) c || (nat_eq i a && nat_eq c b))) }
+    ensures edges { OnOk result (
+        (i c : ℕ)
+        → has (row_of edges.new.items i) c
+        ≡ (has (row_of edges.old.items i) c || (nat_eq i a && nat_eq c b))) }
     ensures graph { IsGraph edges.new.items }
     ensures size { vec_len edges.new ≡ vec_len edges.old }
 {
@@ -48,7 +52,11 @@ fn add_read<K: Share + Hash + Drop>(
     requires nodes { index_set_len nodes.now ≡ vec_len edges.old }
     requires to { b < vec_len edges.old }
     requires graph { IsGraph edges.old.items }
-    ensures edges { OnOk result ((i c : ℕ) → has (row_of edges.new.items i) c ≡ (has (row_of edges.old.items i) c || (stands_at K.eq nodes.now.keys k.now i && nat_eq c b))) }
+    ensures edges { OnOk result (
+        (i c : ℕ)
+        → has (row_of edges.new.items i) c
+        ≡ (has (row_of edges.old.items i) c
+        || (stands_at K.eq nodes.now.keys k.now i && nat_eq c b))) }
     ensures graph { IsGraph edges.new.items }
     ensures size { vec_len edges.new ≡ vec_len edges.old }
 {
@@ -68,7 +76,11 @@ fn add_reads<K: Share + Hash + Drop>(
     requires nodes { index_set_len nodes.now ≡ vec_len edges.old }
     requires to { b < vec_len edges.old }
     requires graph { IsGraph edges.old.items }
-    ensures edges { OnOk result ((i c : ℕ) → has (row_of edges.new.items i) c ≡ (has (row_of edges.old.items i) c || (reads_at K.eq nodes.now.keys reads.now i && nat_eq c b))) }
+    ensures edges { OnOk result (
+        (i c : ℕ)
+        → has (row_of edges.new.items i) c
+        ≡ (has (row_of edges.old.items i) c
+        || (reads_at K.eq nodes.now.keys reads.now i && nat_eq c b))) }
     ensures graph { IsGraph edges.new.items }
     ensures size { vec_len edges.new ≡ vec_len edges.old }
 {
@@ -81,7 +93,8 @@ fn add_reads<K: Share + Hash + Drop>(
 /// Marks a seed where it is touched.
 fn add_seed(seeds: &mut Vec<bool>, b: usize, is_seed: bool)
     requires { b < vec_len seeds.old }
-    ensures seeds { (c : ℕ) → is_marked seeds.new.items c ≡ (is_marked seeds.old.items c || (is_seed && nat_eq c b)) }
+    ensures seeds { (c : ℕ)
+        → is_marked seeds.new.items c ≡ (is_marked seeds.old.items c || (is_seed && nat_eq c b)) }
     ensures size { vec_len seeds.new ≡ vec_len seeds.old }
 {
     if is_seed {
@@ -100,8 +113,18 @@ fn add_triple<K: Share + Hash + Drop, A: Site>(
     requires nodes { index_set_len nodes.now ≡ vec_len edges.old }
     requires seeds { vec_len seeds.old ≡ vec_len edges.old }
     requires graph { IsGraph edges.old.items }
-    ensures edges { OnOk result ((i c : ℕ) → has (row_of edges.new.items i) c ≡ (has (row_of edges.old.items i) c || (reads_at K.eq nodes.now.keys t.now.reads.items i && stands_at K.eq nodes.now.keys t.now.by c))) }
-    ensures seeds { OnOk result ((c : ℕ) → is_marked seeds.new.items c ≡ (is_marked seeds.old.items c || (is_touched A.touches t.now.looked.items changed.now && stands_at K.eq nodes.now.keys t.now.by c))) }
+    ensures edges { OnOk result (
+        (i c : ℕ)
+        → has (row_of edges.new.items i) c
+        ≡ (has (row_of edges.old.items i) c
+        || (reads_at K.eq nodes.now.keys t.now.reads.items i
+        && stands_at K.eq nodes.now.keys t.now.by c))) }
+    ensures seeds { OnOk result (
+        (c : ℕ)
+        → is_marked seeds.new.items c
+        ≡ (is_marked seeds.old.items c
+        || (is_touched A.touches t.now.looked.items changed.now
+        && stands_at K.eq nodes.now.keys t.now.by c))) }
     ensures graph { IsGraph edges.new.items }
     ensures size { vec_len edges.new ≡ vec_len edges.old }
     ensures seeds_size { vec_len seeds.new ≡ vec_len seeds.old }
@@ -127,8 +150,19 @@ pub fn add_triples<K: Share + Hash + Drop, A: Site>(
     requires seeds { vec_len seeds.old ≡ vec_len edges.old }
     requires no_edges { (i : ℕ) → row_of edges.old.items i ≡ [] }
     requires no_seeds { (c : ℕ) → is_marked seeds.old.items c ≡ false }
-    ensures edges { OnOk result ((i c : ℕ) → has (row_of edges.new.items i) c ≡ list_any (λ t. reads_at K.eq nodes.now.keys t.reads.items i && stands_at K.eq nodes.now.keys t.by c) triples.now) }
-    ensures seeds { OnOk result ((c : ℕ) → is_marked seeds.new.items c ≡ list_any (λ t. is_touched A.touches t.looked.items changed.now && stands_at K.eq nodes.now.keys t.by c) triples.now) }
+    ensures edges { OnOk result (
+        (i c : ℕ)
+        → has (row_of edges.new.items i) c
+        ≡ list_any
+        (λ t. reads_at K.eq nodes.now.keys t.reads.items i && stands_at K.eq nodes.now.keys t.by c)
+        triples.now) }
+    ensures seeds { OnOk result (
+        (c : ℕ)
+        → is_marked seeds.new.items c
+        ≡ list_any
+        (λ t.
+        is_touched A.touches t.looked.items changed.now && stands_at K.eq nodes.now.keys t.by c)
+        triples.now) }
     ensures graph { IsGraph edges.new.items }
     ensures size { vec_len edges.new ≡ vec_len edges.old }
     ensures seeds_size { vec_len seeds.new ≡ vec_len seeds.old }

@@ -15,7 +15,8 @@ pub fn nodes_of<K: Share + Hash + Drop, A>(
     alloc: Global,
     triples: &[Triple<K, A>],
 ) -> Result<IndexSet<K>, NoMemory>
-    ensures keys { IfOk result (λ s. AllZip (λ x y. K.eq x y ≡ true) (insert_all K.eq [] (map (λ t. t.by) triples.now)) s.keys) }
+    ensures keys { IfOk result (λ s.
+        AllZip (λ x y. K.eq x y ≡ true) (insert_all K.eq [] (map (λ t. t.by) triples.now)) s.keys) }
     ensures unique { IfOk result (IsUnique K.eq) }
 {
     let mut nodes = IndexSet::new(alloc);
@@ -32,7 +33,8 @@ pub fn picked<K: Share + Drop>(
     marks: &[bool],
 ) -> Result<Vec<K>, NoMemory>
     requires { length marks.now ≡ length keys.now }
-    ensures { IfOk result (λ v. AllZip (λ x y. K.eq x y ≡ true) (marked_keys marks.now keys.now) v.items) }
+    ensures { IfOk result (λ v.
+        AllZip (λ x y. K.eq x y ≡ true) (marked_keys marks.now keys.now) v.items) }
 {
     let mut found = Vec::new(alloc);
     for (i, k) in keys.iter().enumerate() {

@@ -4,7 +4,8 @@ ghost use Rattle.std.specs.List.{list_any};
 ghost use Rattle.gl_query.specs.Lists.{Member, AreDistinct};
 ghost use Rattle.gl_query.specs.InOrder.{AreOrdered, note_keys};
 ghost use Rattle.gl_support.specs.Reach.{is_marked};
-ghost use Rattle.gl_support.specs.Rows.{notes_of, AreMarked, AreBelow, gone_numbers, Goes, marked_or_read, AreFollowed, AreReached};
+ghost use Rattle.gl_support.specs.Rows.{notes_of, AreMarked, AreBelow, gone_numbers, Goes};
+ghost use Rattle.gl_support.specs.Rows.{marked_or_read, AreFollowed, AreReached};
 
 use crate::row::{Row, is_marked, mark_all};
 use crate::touched::{Touched, any_touched};
@@ -75,7 +76,8 @@ pub fn wanted<O, A>(
 /// Marks what the row read, if it is marked itself.
 fn follow<O, A>(marks: &mut Vec<bool>, row: &Row<O, A>)
     requires { All (λ k. k < vec_len marks.old) row.now.reads.items }
-    ensures marks { (k : ℕ) → is_marked marks.new.items k ≡ marked_or_read marks.old.items row.now k }
+    ensures marks { (k : ℕ)
+        → is_marked marks.new.items k ≡ marked_or_read marks.old.items row.now k }
     ensures size { vec_len marks.new ≡ vec_len marks.old }
 {
     if is_marked(marks, row.by) {

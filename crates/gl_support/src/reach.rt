@@ -1,5 +1,6 @@
 //! What is reached from seeds.
-ghost use Rattle.std.specs.Prelude.{◌≡◌, ◌≤◌, ◌<◌, ◌+◌, ◌||◌, ◌&&◌, not, ℕ, length, All, OnOk, IfOk, vec_len, nat_eq};
+ghost use Rattle.std.specs.Prelude.{◌≡◌, ◌≤◌, ◌<◌, ◌+◌, ◌||◌, ◌&&◌, not, ℕ, length, All, OnOk};
+ghost use Rattle.std.specs.Prelude.{IfOk, vec_len, nat_eq};
 ghost use Rattle.gl_support.specs.Reach.{is_marked, has, row_of, IsLeast, IsGraph, unmarked};
 
 use std::alloc::{AllocError, Global};
@@ -8,11 +9,18 @@ use std::alloc::{AllocError, Global};
 fn mark_row(row: &[usize], marks: &mut Vec<bool>, stack: &mut Vec<usize>) -> Result<(), AllocError>
     requires row { All (λ b. b < vec_len marks.old) row.now }
     requires below { All (λ b. b < vec_len marks.old) stack.old.items }
-    ensures marks { OnOk result ((i : ℕ) → is_marked marks.new.items i ≡ (is_marked marks.old.items i || has row.now i)) }
-    ensures stack { OnOk result ((i : ℕ) → has stack.new.items i ≡ (has stack.old.items i || (is_marked marks.new.items i && not (is_marked marks.old.items i)))) }
+    ensures marks { OnOk result (
+        (i : ℕ) → is_marked marks.new.items i ≡ (is_marked marks.old.items i || has row.now i)) }
+    ensures stack { OnOk result (
+        (i : ℕ)
+        → has stack.new.items i
+        ≡ (has stack.old.items i
+        || (is_marked marks.new.items i && not (is_marked marks.old.items i)))) }
     ensures below { All (λ b. b < vec_len marks.new) stack.new.items }
     ensures size { vec_len marks.new ≡ vec_len marks.old }
-    ensures fewer { OnOk result (unmarked marks.new.items + vec_len stack.new ≤ unmarked marks.old.items + vec_len stack.old) }
+    ensures fewer { OnOk result (
+        unmarked marks.new.items + vec_len stack.new
+        ≤ unmarked marks.old.items + vec_len stack.old) }
 {
     for b in row {
         if !marks[*b] {

@@ -25,7 +25,8 @@ pub fn is_marked(marks: &[bool], k: u32) -> bool
 /// Marks the numbers.
 pub fn mark_all(marks: &mut Vec<bool>, numbers: &[u32])
     requires { All (λ k. k < vec_len marks.old) numbers.now }
-    ensures marks { (k : ℕ) → is_marked marks.new.items k ≡ marked_or marks.old.items numbers.now k }
+    ensures marks { (k : ℕ)
+        → is_marked marks.new.items k ≡ marked_or marks.old.items numbers.now k }
     ensures size { vec_len marks.new ≡ vec_len marks.old }
 {
     for k in numbers {

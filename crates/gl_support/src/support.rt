@@ -32,7 +32,11 @@ impl<K: Share + Hash + Drop, A: Site + Copy> Support<K, A> {
 
     /// Adds the triple of `by`, with keys that are equal to those that it read. It goes last.
     pub fn add(&mut self, alloc: Global, by: K, reads: &[K], looked: &[A]) -> Result<(), NoMemory>
-        ensures ok { OnOk result ((rs : List K) × (AllZip (λ x y. K.eq x y ≡ true) reads.now rs) × (triples_of self.new ≡ triples_of self.old ++ record { by = by; reads = rs; looked = looked.now } ∷ [])) }
+        ensures ok { OnOk result (
+            (rs : List K)
+            × (AllZip (λ x y. K.eq x y ≡ true) reads.now rs)
+            × (triples_of self.new
+            ≡ triples_of self.old ++ record { by = by; reads = rs; looked = looked.now } ∷ [])) }
         ensures err { OnErr result (triples_of self.new ≡ triples_of self.old) }
     {
         let looked = Vec::from_slice(alloc, looked)?;
@@ -47,7 +51,8 @@ impl<K: Share + Hash + Drop, A: Site + Copy> Support<K, A> {
     /// The time is that of what was added, and of each place that was looked at with each changed
     /// one: hand over few large places rather than many small ones.
     pub fn affected(&self, alloc: Global, changed: &[A]) -> Result<Vec<K>, NoMemory>
-        ensures { IfOk result (λ v. AreAffected K.eq A.touches (triples_of self.now) changed.now v.items) }
+        ensures { IfOk result (λ v.
+            AreAffected K.eq A.touches (triples_of self.now) changed.now v.items) }
     {
         affected_by(alloc, &self.triples, changed)
     }
@@ -58,7 +63,8 @@ fn affected_by<K: Share + Hash + Drop, A: Site>(
     triples: &[Triple<K, A>],
     changed: &[A],
 ) -> Result<Vec<K>, NoMemory>
-    ensures { IfOk result (λ v. AreAffected K.eq A.touches (map plain_triple triples.now) changed.now v.items) }
+    ensures { IfOk result (λ v.
+        AreAffected K.eq A.touches (map plain_triple triples.now) changed.now v.items) }
 {
     let nodes = nodes_of(alloc, triples)?;
     let mut edges = no_edges(alloc, nodes.len())?;

@@ -1,7 +1,8 @@
 //! The history of a sheet.
 ghost use Rattle.std.specs.Prelude.{◌≡◌, ◌<◌, length, IfOk, IfSome};
 ghost use Rattle.gl_query.specs.Lists.{AreDistinct};
-ghost use Rattle.gl_edits.specs.Steps.{no_history, pushed, befores, afters, MovesBack, MovesForward};
+ghost use Rattle.gl_edits.specs.Steps.{no_history, pushed, befores, afters, MovesBack};
+ghost use Rattle.gl_edits.specs.Steps.{MovesForward};
 ghost use Rattle.gl_undo.specs.View.{step_tree, places, AreProperChanges};
 ghost use Rattle.gl_undo.specs.History.{TellsLatest, done, history_tree, undone};
 

@@ -1,5 +1,9 @@
 //! The laws of equality and of hashes.
-ghost use Rattle.gl_value.specs.Laws.{ScalarsCompareByTree, ArraysCompareByTree, ValuesCompareByTree, SheetsCompareByTree, FramesCompareByTree, ErrorsCompareByTree, ShownCompareByTree, MadeCompareByTree, ScalarsHashByTree, ArraysHashByTree, ValuesHashByTree, SheetsHashByTree, FramesHashByTree};
+ghost use Rattle.gl_value.specs.Laws.{ScalarsCompareByTree, ArraysCompareByTree};
+ghost use Rattle.gl_value.specs.Laws.{ValuesCompareByTree, SheetsCompareByTree};
+ghost use Rattle.gl_value.specs.Laws.{FramesCompareByTree, ErrorsCompareByTree, ShownCompareByTree};
+ghost use Rattle.gl_value.specs.Laws.{MadeCompareByTree, ScalarsHashByTree, ArraysHashByTree};
+ghost use Rattle.gl_value.specs.Laws.{ValuesHashByTree, SheetsHashByTree, FramesHashByTree};
 
 /// `==` compares by structure: it is true exactly where the plain values are equal, however their
 /// parts are shared.

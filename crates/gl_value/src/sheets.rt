@@ -1,13 +1,18 @@
 //! Ranks, weights, and what SHEET and UPDATE make.
-ghost use Rattle.std.specs.Prelude.{◌≡◌, ◌≤◌, ◌<◌, ◌^◌, ◌+◌, ◌∷◌, [], IsTrue, IfOk, length, option_map};
+ghost use Rattle.std.specs.Prelude.{◌≡◌, ◌≤◌, ◌<◌, ◌^◌, ◌+◌, ◌∷◌, [], IsTrue, IfOk, length};
+ghost use Rattle.std.specs.Prelude.{option_map};
 ghost use Rattle.std.specs.Option.{option_copied};
 ghost use Rattle.gl_calculus.specs.Limits.{max_rank, max_weight, max_cells};
 ghost use Rattle.gl_calculus.specs.Value as V;
 ghost use Rattle.gl_calculus.specs.Value.{overrides, rank, sheet_value};
 ghost use Rattle.gl_calculus.specs.Sheet as S;
-ghost use Rattle.gl_calculus.specs.Sheet.{override_at, frame_rank, rank_above, scalar_weight, scalars_weight, value_weight, weight, frame_weight, sheet, update};
-ghost use Rattle.gl_calculus.specs.Sound.{is_sound_scalar, are_sound, is_sound_value, are_sound_overrides, is_sound_sheet, is_sound_frame};
-ghost use Rattle.gl_value.specs.View.{value_tree, array_tree, frame_tree, sheet_tree, scalar_tree, override_trees, item_trees};
+ghost use Rattle.gl_calculus.specs.Sheet.{override_at, frame_rank, rank_above, scalar_weight};
+ghost use Rattle.gl_calculus.specs.Sheet.{scalars_weight, value_weight, weight, frame_weight};
+ghost use Rattle.gl_calculus.specs.Sheet.{sheet, update};
+ghost use Rattle.gl_calculus.specs.Sound.{is_sound_scalar, are_sound, is_sound_value};
+ghost use Rattle.gl_calculus.specs.Sound.{are_sound_overrides, is_sound_sheet, is_sound_frame};
+ghost use Rattle.gl_value.specs.View.{value_tree, array_tree, frame_tree, sheet_tree, scalar_tree};
+ghost use Rattle.gl_value.specs.View.{override_trees, item_trees};
 ghost use Rattle.gl_value.specs.Parts.{value_rank, weight_at, is_sound_made};
 ghost use Rattle.gl_value.specs.Made.{made_tree};
 
@@ -37,7 +42,8 @@ impl SheetVal {
     #[tactic(auto, using(crate::specs::Forms::sheet_tree_is))]
     pub fn get_override(&self, a: Addr) -> Option<&Value>
         requires { IsTrue (is_sound_sheet (sheet_tree self.now)) }
-        ensures { option_map value_tree (option_copied result) ≡ override_at (overrides (sheet_tree self.now)) a }
+        ensures { option_map value_tree (option_copied result)
+            ≡ override_at (overrides (sheet_tree self.now)) a }
     {
         match self.overrides.binary_search_by_key(&a, |o| o.0) {
             Ok(i) => Some(&self.overrides[i].1),
@@ -271,8 +277,10 @@ fn make(
     rank: u8,
     weight: u32,
 ) -> Result<Made, NoMemory>
-    ensures { IfOk result
-        (λ m. made_tree m ≡ S.Sheet (sheet_value region (override_trees overrides.items) (frame_tree env) rank weight)) }
+    ensures { IfOk result (λ m.
+        made_tree m
+        ≡ S.Sheet
+        (sheet_value region (override_trees overrides.items) (frame_tree env) rank weight)) }
 {
     let sheet = SheetVal {
         rank,

@@ -3,8 +3,11 @@ ghost use Rattle.std.specs.Prelude.{◌≡◌, ◌==◌, IsTrue};
 ghost use Rattle.std.specs.Rc.{rc_str_bytes};
 ghost use Rattle.gl_calculus.specs.Value as V;
 ghost use Rattle.gl_calculus.specs.Sheet.{overrides_weight};
-ghost use Rattle.gl_calculus.specs.Sound.{is_sound_scalar, are_sound, is_sound_value, are_sound_overrides, is_sound_sheet, is_sound_frame, overrides_rank, are_inside};
-ghost use Rattle.gl_value.specs.View.{value_tree, array_tree, frame_tree, sheet_tree, scalar_tree, override_trees, item_trees};
+ghost use Rattle.gl_calculus.specs.Sound.{is_sound_scalar, are_sound, is_sound_value};
+ghost use Rattle.gl_calculus.specs.Sound.{are_sound_overrides, is_sound_sheet, is_sound_frame};
+ghost use Rattle.gl_calculus.specs.Sound.{overrides_rank, are_inside};
+ghost use Rattle.gl_value.specs.View.{value_tree, array_tree, frame_tree, sheet_tree, scalar_tree};
+ghost use Rattle.gl_value.specs.View.{override_trees, item_trees};
 ghost use Rattle.gl_value.specs.Parts.{is_after};
 
 use crate::{Array, Env, MAX_RANK, MAX_TEXT, MAX_WEIGHT, Scalar, SheetVal, Value};
@@ -178,7 +181,8 @@ fn weigh(overrides: &[Override], weight: u64) -> bool
 impl SheetVal {
     /// The test of soundness, where the parts are known to be sound.
     fn fits(&self) -> bool
-        requires overrides { IsTrue (are_sound_overrides (override_trees self.now.overrides.items)) }
+        requires overrides { IsTrue
+            (are_sound_overrides (override_trees self.now.overrides.items)) }
         requires frame { IsTrue (is_sound_frame (frame_tree self.now.env)) }
         ensures { result ≡ is_sound_sheet (sheet_tree self.now) }
     {

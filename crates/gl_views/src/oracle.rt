@@ -28,7 +28,8 @@ pub fn oracle_text(alloc: Global, w: &Oracle) -> Result<String, NoMemory>
 }
 
 fn put_entry(alloc: Global, out: &mut String, entry: &Entry) -> Result<(), NoMemory>
-    ensures { OnOk result (string_bytes out.new ≡ string_bytes out.old ++ line (entry_text entry.now)) }
+    ensures { OnOk result (
+        string_bytes out.new ≡ string_bytes out.old ++ line (entry_text entry.now)) }
 {
     put_address(alloc, out, entry.root)?;
     put(out, " ")?;

@@ -1,5 +1,6 @@
 //! Tables of shown values.
-ghost use Rattle.std.specs.Prelude.{◌≡◌, ◌<◌, ◌++◌, ◌*◌, ◌∷◌, [], length, map, replicate, IfOk, OnOk, if◌then◌else◌};
+ghost use Rattle.std.specs.Prelude.{◌≡◌, ◌<◌, ◌++◌, ◌*◌, ◌∷◌, [], length, map, replicate, IfOk};
+ghost use Rattle.std.specs.Prelude.{OnOk, if◌then◌else◌};
 ghost use Rattle.std.specs.Str.{chars};
 ghost use Rattle.std.specs.String.{string_bytes};
 ghost use Rattle.gl_value.specs.Made.{shown_tree};
@@ -21,7 +22,8 @@ const MAX_WIDTH: usize = 24;
 /// A text of more than 24 characters is cut to 23 and a `~`.
 pub fn table(alloc: Global, rows: u16, cols: u16, items: &[Shown]) -> Result<String, NoMemory>
     requires { length items.now ≡ rows * cols }
-    ensures { IfOk result (λ s. string_bytes s ≡ table_text cols (in_rows rows cols (map shown_tree items.now))) }
+    ensures { IfOk result (λ s.
+        string_bytes s ≡ table_text cols (in_rows rows cols (map shown_tree items.now))) }
 {
     let texts = cell_rows(alloc, rows, cols, items)?;
     let widths = column_widths(alloc, cols, &texts)?;
@@ -40,7 +42,8 @@ fn cell_rows(
     items: &[Shown],
 ) -> Result<Vec<Vec<String>>, NoMemory>
     requires { length items.now ≡ rows * cols }
-    ensures { IfOk result (λ v. rows_of v.items ≡ map (map cell_of) (in_rows rows cols (map shown_tree items.now))) }
+    ensures { IfOk result (λ v.
+        rows_of v.items ≡ map (map cell_of) (in_rows rows cols (map shown_tree items.now))) }
 {
     let mut texts = Vec::new(alloc);
     let mut left = items;
@@ -111,7 +114,8 @@ fn widen(widths: &mut [usize], row: &[String])
 }
 
 fn put_line(out: &mut String, widths: &[usize], row: &[String]) -> Result<(), NoMemory>
-    ensures { OnOk result (string_bytes out.new ≡ string_bytes out.old ++ line_of widths.now (texts_of row.now)) }
+    ensures { OnOk result (
+        string_bytes out.new ≡ string_bytes out.old ++ line_of widths.now (texts_of row.now)) }
 {
     let mut more = false;
     for (width, text) in widths.iter().zip(row) {
@@ -125,7 +129,8 @@ fn put_line(out: &mut String, widths: &[usize], row: &[String]) -> Result<(), No
 
 /// The space in front of a cell that isn't the first.
 fn put_space(out: &mut String, more: bool) -> Result<(), NoMemory>
-    ensures { OnOk result (string_bytes out.new ≡ string_bytes out.old ++ (if more then 32 ∷ [] else [])) }
+    ensures { OnOk result (
+        string_bytes out.new ≡ string_bytes out.old ++ (if more then 32 ∷ [] else [])) }
 {
     if more {
         out.push_str(" ")?;
@@ -135,7 +140,8 @@ fn put_space(out: &mut String, more: bool) -> Result<(), NoMemory>
 
 /// A text with spaces in front, so many that it has the width.
 fn put_aligned(out: &mut String, wide: usize, text: &str) -> Result<(), NoMemory>
-    ensures { OnOk result (string_bytes out.new ≡ string_bytes out.old ++ right_aligned wide text.now) }
+    ensures { OnOk result (
+        string_bytes out.new ≡ string_bytes out.old ++ right_aligned wide text.now) }
 {
     for _i in width(text)..wide {
         put(out, " ")?;

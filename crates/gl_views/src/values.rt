@@ -32,7 +32,8 @@ pub fn content_text(alloc: Global, c: &Content) -> Result<String, NoMemory>
 }
 
 fn put_shown(alloc: Global, out: &mut String, x: &Shown) -> Result<(), NoMemory>
-    ensures { OnOk result (string_bytes out.new ≡ string_bytes out.old ++ text.shown_text (shown_tree x.now)) }
+    ensures { OnOk result (
+        string_bytes out.new ≡ string_bytes out.old ++ text.shown_text (shown_tree x.now)) }
 {
     match x {
         Shown::Cycle => put(out, "#CYCLE!"),
@@ -41,7 +42,8 @@ fn put_shown(alloc: Global, out: &mut String, x: &Shown) -> Result<(), NoMemory>
 }
 
 fn put_content(alloc: Global, out: &mut String, c: &Content) -> Result<(), NoMemory>
-    ensures { OnOk result (string_bytes out.new ≡ string_bytes out.old ++ text.content_text (content_tree c.now)) }
+    ensures { OnOk result (
+        string_bytes out.new ≡ string_bytes out.old ++ text.content_text (content_tree c.now)) }
 {
     match c {
         Content::Const(x) => put_scalar(alloc, out, x),
@@ -55,7 +57,8 @@ fn put_content(alloc: Global, out: &mut String, c: &Content) -> Result<(), NoMem
 
 #[tactic(auto, using(gl_value::specs::Forms::trees))]
 fn put_scalar(alloc: Global, out: &mut String, x: &Scalar) -> Result<(), NoMemory>
-    ensures { OnOk result (string_bytes out.new ≡ string_bytes out.old ++ text.scalar_text (scalar_tree x.now)) }
+    ensures { OnOk result (
+        string_bytes out.new ≡ string_bytes out.old ++ text.scalar_text (scalar_tree x.now)) }
 {
     match x {
         Scalar::Blank => put(out, "."),

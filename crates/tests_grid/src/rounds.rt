@@ -39,7 +39,8 @@ impl Round for OneArray {
 
     type Count = u32;
 
-    ghost gives = { λ s w zs. zs ≡ (if s.always || nat_eq (length w) 0 then (s.root, s.size) ∷ [] else []) };
+    ghost gives = { λ s w zs.
+        zs ≡ (if s.always || nat_eq (length w) 0 then (s.root, s.size) ∷ [] else []) };
 
     ghost fails = { λ s w e. ⊤ };
 

@@ -54,9 +54,16 @@ fn all_below(numbers: &[u32], end: u32) -> bool
 /// read only numbers before its own.
 fn are_in_order(rows: &[Row<u32, Range>], from: u32, numbers: u32) -> bool
     ensures below { IsTrue result → AreBelow numbers rows.now }
-    ensures later { IsTrue result → (j : ℕ) → j < from → Member j (note_keys (notes_of rows.now)) → ⊥ }
+    ensures later { IsTrue result
+        → (j : ℕ)
+        → j < from
+        → Member j (note_keys (notes_of rows.now))
+        → ⊥ }
     ensures apart { IsTrue result → AreDistinct (note_keys (notes_of rows.now)) }
-    ensures ordered { IsTrue result → (before : List ℕ) → ((j : ℕ) → j < from → Member j before) → AreOrdered before (notes_of rows.now) }
+    ensures ordered { IsTrue result
+        → (before : List ℕ)
+        → ((j : ℕ) → j < from → Member j before)
+        → AreOrdered before (notes_of rows.now) }
 {
     let Some((first, rest)) = rows.split_first() else {
         return true;
