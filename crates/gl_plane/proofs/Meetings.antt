@@ -1,5 +1,5 @@
 -- The first entry, from a place on, that meets a range.
-use Rattle.std.proofs.Common.{◌≡◌, ℕ, zero, suc, ◌+◌, ◌-◌, ◌/◌, ◌%◌, ◌<◌, ◌≤◌, nat_lt, nat_le, Bool, true, false, ◌&&◌, cond, List, [], ◌∷◌, length, drop, get_or, Some, None, slice_index, refl, ap, arith, sym, ◌∙◌, subst}
+use Rattle.std.proofs.Common.{◌≡◌, ℕ, zero, suc, ◌+◌, ◌-◌, ◌/◌, ◌%◌, ◌<◌, ◌≤◌, nat_lt, nat_le, Bool, true, false, ◌&&◌, cond, List, [], ◌∷◌, length, drop, get_or, Some, None, slice_index, ◌⊎◌, inl, inr, refl, ap, arith, sym, ◌∙◌, subst}
 use Rattle.std.proofs.lemmas.Bool.Decides.{nat_tests}
 use Rattle.std.proofs.lemmas.Option.{slice_get-get_or}
 use Rattle.std.proofs.lemmas.List.{drop_more, at_drop_all}
@@ -7,7 +7,7 @@ use Rattle.gl_calculus.specs.Grid.{Addr, addr, size, Range, is_before, lies_in, 
 use Rattle.gl_calculus.specs.Same.{is_permitted}
 use Rattle.gl_calculus.specs.Value.{Refused, Entry, Oracle}
 use Rattle.gl_calculus.specs.Oracle.{IsInOrder, area_of}
-use Rattle.gl_plane.specs.Reach.{first_from, spills_into, lowest_row, last_column, AreReaches}
+use Rattle.gl_plane.specs.Reach.{first_from, spills_into, lowest_row, last_column, AreReaches, AreBounds, IsPassed}
 
 -- ---- passing entries
 
@@ -91,21 +91,32 @@ rows_increase (x ∷ y ∷ ys) (suc i) (suc k) d o le h = rows_increase (y ∷ y
 pub no_entry : Entry
 no_entry = record { root = addr 0 0; size = size 0 0; permit = Refused }
 
+abbrev SameBlock : ℕ → Type 0
+SameBlock size = (i k : ℕ) → i % size ≡ 0 → i ≤ k → k < i + size → k / size ≡ i / size
+
 -- a block of which no entry reaches this far, if the entries that don't are passed
-block_fails : (reach : Entry → ℕ) (r : Range) (es : Oracle) (reaches : List ℕ) (i n : ℕ) → ((x : Entry) → reach x < n → spills_into r x ≡ false) → AreReaches reach es reaches → i % 64 ≡ 0 → get_or reaches (i / 64) 0 < n → first_from (spills_into r) i (drop i es) ≡ first_from (spills_into r) (i + 64) (drop (i + 64) es)
-block_fails reach r es reaches i n fails a z h = let d = no_entry in all_passed (spills_into r) es d 64 i (λ k lo hi in_list.
-    let same : k / 64 ≡ i / 64 = omega arith in
-    let bound : reach (get_or es k d) ≤ slice_index reaches (k / 64) = a.bounds k (get_or es k d) (slice_get-get_or es k d in_list) in
-    let low : slice_index reaches (k / 64) < n = subst (λ j. get_or reaches j 0 < n) (sym same) h in
-    fails (get_or es k d) (omega arith))
+block_fails : (size : ℕ) (reach : Entry → ℕ) (r : Range) (es : Oracle) (reaches : List ℕ) (i n : ℕ) → SameBlock size → ((x : Entry) → reach x < n → spills_into r x ≡ false) → AreReaches size reach es reaches → i % size ≡ 0 → slice_index reaches (i / size) < n → IsPassed r es i size
+block_fails size reach r es reaches i n same fails a z h = let d = no_entry in all_passed (spills_into r) es d size i (λ k lo hi in_list.
+    let low : slice_index reaches (k / size) < n = subst (λ j. slice_index reaches j < n) (sym (same i k z lo hi)) h in
+    fails (get_or es k d) (at_most (reach (get_or es k d)) (slice_index reaches (k / size)) n (a.bounds k (get_or es k d) (slice_get-get_or es k d in_list)) low))
+  where
+    at_most : (x y z : ℕ) → x ≤ y → y < z → x < z
+    at_most x y z p q = omega (arith, p, q)
 
--- a block that reaches no further than above the range
-pub block_passed : (r : Range) (es : Oracle) (rows : List ℕ) (i : ℕ) → AreReaches lowest_row es rows → i % 64 ≡ 0 → get_or rows (i / 64) 0 < r.first.row → first_from (spills_into r) i (drop i es) ≡ first_from (spills_into r) (i + 64) (drop (i + 64) es)
-block_passed r es rows i a z h = block_fails lowest_row r es rows i r.first.row (ends_above r) a z h
+block_passed : (size : ℕ) (r : Range) (es : Oracle) (rows columns : List ℕ) (i : ℕ) → SameBlock size → AreBounds size es rows columns → i % size ≡ 0 → (slice_index rows (i / size) < r.first.row) ⊎ (slice_index columns (i / size) < r.first.col) → IsPassed r es i size
+block_passed size r es rows columns i same a z (inl h) = block_fails size lowest_row r es rows i r.first.row same (ends_above r) a.0 z h
+block_passed size r es rows columns i same a z (inr h) = block_fails size last_column r es columns i r.first.col same (ends_left r) a.1 z h
 
--- or than left of it
-pub block_beside : (r : Range) (es : Oracle) (columns : List ℕ) (i : ℕ) → AreReaches last_column es columns → i % 64 ≡ 0 → get_or columns (i / 64) 0 < r.first.col → first_from (spills_into r) i (drop i es) ≡ first_from (spills_into r) (i + 64) (drop (i + 64) es)
-block_beside r es columns i a z h = block_fails last_column r es columns i r.first.col (ends_left r) a z h
+-- a block that reaches no further than above the range or left of it
+pub near_passed : (r : Range) (es : Oracle) (rows columns : List ℕ) (i : ℕ) → AreBounds 64 es rows columns → i % 64 ≡ 0 → (slice_index rows (i / 64) < r.first.row) ⊎ (slice_index columns (i / 64) < r.first.col) → IsPassed r es i 64
+near_passed r es rows columns i a z h = block_passed 64 r es rows columns i (λ j k z lo hi. omega (arith, z, lo, hi)) a z h
+
+-- and a block of blocks
+pub far_passed : (r : Range) (es : Oracle) (rows columns : List ℕ) (i : ℕ) → AreBounds 4096 es rows columns → i % 4096 ≡ 0 → (slice_index rows (i / 4096) < r.first.row) ⊎ (slice_index columns (i / 4096) < r.first.col) → IsPassed r es i 4096
+far_passed r es rows columns i a z h = block_passed 4096 r es rows columns i (λ j k z lo hi. omega (arith, z, lo, hi)) a z h
+
+pub none_passed : (r : Range) (es : Oracle) (i : ℕ) → IsPassed r es i 0
+none_passed r es i = let e : i ≡ i + 0 = omega arith in ap (λ j. first_from (spills_into r) j (drop j es)) e
 
 -- all from the first root below the range on
 pub rest_passed : (r : Range) (es : Oracle) (i : ℕ) (d : Entry) → IsInOrder es → i < length es → r.last.row < (get_or es i d).root.row → first_from (spills_into r) i (drop i es) ≡ None

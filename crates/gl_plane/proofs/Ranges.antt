@@ -157,7 +157,7 @@ shared cs r = same_bools (list_any (λ c. list_any (covers c) (addresses r)) cs)
         let (c, m, i) = any_member (λ d. covers d a) cs h in
         member_any (λ c. list_any (covers c) (addresses r)) cs c m (member_any (covers c) (addresses r) a n i)
 
-not_true : (b : Bool) → (b ≡ true → ⊥) → false ≡ b
+pub not_true : (b : Bool) → (b ≡ true → ⊥) → false ≡ b
 not_true true f = absurd (f refl)
 not_true false f = refl
 

@@ -16,19 +16,34 @@ earlier_or_last (e ∷ es) (suc k) x y h = later (earlier_or_last es k x y h) wh
   later (inl p) = inl p
   later (inr p) = inr (ap suc p.0, p.1)
 
-bound : (reach : Entry → ℕ) (es : List Entry) (x y : Entry) (k : ℕ) (old new : List ℕ) → AreReaches reach es old → IsRaised old new (length es / 64) (reach x) → (slice_get es k ≡ Some y) ⊎ ((k ≡ length es) × (x ≡ y)) → reach y ≤ slice_index new (k / 64)
-bound reach es x y k old new a r (inl p) = omega (arith, a.bounds k y p, r.above (k / 64))
-bound reach es x y k old new a r (inr p) = subst (λ z. reach z ≤ slice_index new (k / 64)) p.1 (subst (λ n. reach x ≤ slice_index new (n / 64)) (sym p.0) r.raised)
+no_less : (a b c : ℕ) → a ≤ b → b ≤ c → a ≤ c
+no_less a b c h k = omega (arith, h, k)
 
-pub reaches_more : (reach : Entry → ℕ) (es : List Entry) (x : Entry) (old new : List ℕ) → AreReaches reach es old → IsRaised old new (length es / 64) (reach x) → AreReaches reach (es ++ x ∷ []) new
-reaches_more reach es x old new a r = record {
+bound : (size : ℕ) (reach : Entry → ℕ) (es : List Entry) (x y : Entry) (k : ℕ) (old new : List ℕ) → AreReaches size reach es old → IsRaised old new (length es / size) (reach x) → (slice_get es k ≡ Some y) ⊎ ((k ≡ length es) × (x ≡ y)) → reach y ≤ slice_index new (k / size)
+bound size reach es x y k old new a r (inl p) = no_less (reach y) (slice_index old (k / size)) (slice_index new (k / size)) (a.bounds k y p) (r.above (k / size))
+bound size reach es x y k old new a r (inr p) = subst (λ z. reach z ≤ slice_index new (k / size)) p.1 (subst (λ n. reach x ≤ slice_index new (n / size)) (sym p.0) r.raised)
+
+pub near_more : (reach : Entry → ℕ) (es : List Entry) (x : Entry) (old new : List ℕ) → AreReaches 64 reach es old → IsRaised old new (length es / 64) (reach x) → AreReaches 64 reach (es ++ x ∷ []) new
+near_more reach es x old new a r = record {
   enough = omega (arith, more_length es x, a.enough, r.present);
-  bounds = λ k y h. bound reach es x y k old new a r (earlier_or_last es k x y h);
+  bounds = λ k y h. bound 64 reach es x y k old new a r (earlier_or_last es k x y h);
+}
+
+pub far_more : (reach : Entry → ℕ) (es : List Entry) (x : Entry) (old new : List ℕ) → AreReaches 4096 reach es old → IsRaised old new (length es / 4096) (reach x) → AreReaches 4096 reach (es ++ x ∷ []) new
+far_more reach es x old new a r = record {
+  enough = omega (arith, more_length es x, a.enough, r.present);
+  bounds = λ k y h. bound 4096 reach es x y k old new a r (earlier_or_last es k x y h);
 }
 
 -- numbers that were raised bound the same entries
-pub reaches_kept : (reach : Entry → ℕ) (es : List Entry) (old new : List ℕ) (block row : ℕ) → AreReaches reach es old → IsRaised old new block row → AreReaches reach es new
-reaches_kept reach es old new block row a r = record {
+pub near_kept : (reach : Entry → ℕ) (es : List Entry) (old new : List ℕ) (block row : ℕ) → AreReaches 64 reach es old → IsRaised old new block row → AreReaches 64 reach es new
+near_kept reach es old new block row a r = record {
   enough = omega (arith, a.enough, r.kept);
   bounds = λ k y h. omega (arith, a.bounds k y h, r.above (k / 64));
+}
+
+pub far_kept : (reach : Entry → ℕ) (es : List Entry) (old new : List ℕ) (block row : ℕ) → AreReaches 4096 reach es old → IsRaised old new block row → AreReaches 4096 reach es new
+far_kept reach es old new block row a r = record {
+  enough = omega (arith, a.enough, r.kept);
+  bounds = λ k y h. omega (arith, a.bounds k y h, r.above (k / 4096));
 }

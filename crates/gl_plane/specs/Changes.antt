@@ -1,5 +1,5 @@
 -- What changed, as a list of ranges.
-use Rattle.std.specs.Prelude.{◌≡◌, Bool, true, false, ◌||◌, List, Option, Some, None}
+use Rattle.std.specs.Prelude.{◌≡◌, ℕ, ◌+◌, ◌*◌, ◌/◌, ◌<◌, ◌≤◌, Bool, true, false, ◌||◌, List, length, Option, Some, None, slice_get}
 use Rattle.std.specs.List.{list_any}
 use Rattle.gl_calculus.specs.Grid.{Addr, Range, addresses, covers}
 
@@ -27,6 +27,21 @@ hull_covers (Some h) a = covers h a
 -- the hull covers all that the ranges do
 abbrev pub IsHull : Option Range → List Range → Type 0
 IsHull hull rs = Within (is_covered rs) (hull_covers hull)
+
+-- ranges that come at the place n and behind lie each within the hull of its block of 64
+pub record AreHulls (n : ℕ) (rs hulls : List Range) : Type 0 where
+  pub enough : n + length rs ≤ 64 * length hulls
+  pub covered : (k : ℕ) (r : Range) → slice_get rs k ≡ Some r → Within (covers r) (hull_covers (slice_get hulls ((n + k) / 64)))
+
+-- no hull is lost, and none covers less than before
+pub record AreWider (old new : List Range) : Type 0 where
+  pub kept : length old ≤ length new
+  pub above : (k : ℕ) → Within (hull_covers (slice_get old k)) (hull_covers (slice_get new k))
+
+-- the hull of the block covers the range
+pub record IsWithin (hulls : List Range) (block : ℕ) (r : Range) : Type 0 where
+  pub present : block < length hulls
+  pub covered : Within (covers r) (hull_covers (slice_get hulls block))
 
 -- the range covers what one of the two does
 abbrev pub IsBoth : Range → Range → Range → Type 0

@@ -1,17 +1,24 @@
 //! What changed between two calculations, as ranges.
-ghost use Rattle.std.specs.Prelude.{◌≡◌, ◌++◌, ◌==◌, ◌||◌, [], true, length, OnOk, OnErr};
+ghost use Rattle.std.specs.Prelude.{◌≡◌, ◌++◌, ◌==◌, ◌||◌, ◌*◌, ◌^◌, ◌<◌, ◌≤◌, [], true, length};
+ghost use Rattle.std.specs.Prelude.{OnOk, OnErr, vec_len};
 ghost use Rattle.std.specs.List.{list_any};
 ghost use Rattle.gl_calculus.specs.Grid.{addresses, covers};
 ghost use Rattle.gl_plane.specs.Changes.{is_covered, reaches, hull_covers, Within};
+ghost use Rattle.gl_plane.specs.Changes.{AreHulls, AreWider, IsWithin};
 
 use crate::{Addr, NoMemory, Range};
 use std::alloc::Global;
 use std::marker::Model;
 
+/// The ranges of a block.
+const BLOCK: usize = 64;
+
 /// Ranges whose addresses changed.
 #[derive(Drop)]
 pub struct Changes {
     ranges: Vec<Range>,
+    // for each block of ranges, one that covers all that they do
+    hulls: Vec<Range>,
     // covers all that the ranges do, so that most places are told by one comparison
     hull: Option<Range>,
 }
@@ -19,13 +26,13 @@ pub struct Changes {
 impl Model for Changes {
     ghost use Rattle.std.specs.Prelude.{List};
     ghost use Rattle.gl_calculus.specs.Grid.{Range as Plain};
-    ghost use Rattle.gl_plane.specs.Changes.{IsHull};
+    ghost use Rattle.gl_plane.specs.Changes.{IsHull, AreHulls};
 
     ghost Value = { List Plain };
 
     ghost view = { λ a. a.ranges.items };
 
-    ghost invariant = { λ a. IsHull a.hull a.ranges.items };
+    ghost invariant = { λ a. IsHull a.hull a.ranges.items × AreHulls 0 a.ranges.items a.hulls.items };
 }
 
 impl Changes {
@@ -35,6 +42,7 @@ impl Changes {
     {
         Changes {
             ranges: Vec::new(alloc),
+            hulls: Vec::new(alloc),
             hull: None,
         }
     }
@@ -44,6 +52,8 @@ impl Changes {
         ensures ok { OnOk result (self.new ≡ self.old ++ more.now) }
         ensures err { OnErr result (self.new ≡ self.old) }
     {
+        // hulls that are wider than they need be cover what they did
+        widen_all(&mut self.hulls, self.ranges.len(), more)?;
         self.ranges.extend_from_slice(more)?;
         self.hull = widened(self.hull, more);
         Ok(())
@@ -59,12 +69,13 @@ impl Changes {
     /// Some address of the range has changed.
     ///
     /// The time is that of one comparison where the range lies apart from all changes, and
-    /// otherwise that of one for each range that was added.
+    /// otherwise that of one for each block of 64 ranges that were added one after the other, and
+    /// of one for each range of the blocks that the range lies near.
     pub fn touches(&self, r: &Range) -> bool
         ensures { result ≡ reaches self.now r.now }
     {
         match &self.hull {
-            Some(hull) => overlap(r, hull) && overlap_some(r, &self.ranges),
+            Some(hull) => overlap(r, hull) && overlap_some(r, &self.ranges, &self.hulls),
             None => false,
         }
     }
@@ -78,10 +89,48 @@ fn overlap(r: &Range, c: &Range) -> bool
     r.meets(c)
 }
 
-fn overlap_some(r: &Range, ranges: &[Range]) -> bool
+fn overlap_some(r: &Range, ranges: &[Range], hulls: &[Range]) -> bool
+    requires { AreHulls 0 ranges.now hulls.now }
     ensures { result ≡ list_any (λ c. list_any (covers c) (addresses r.now)) ranges.now }
 {
-    ranges.iter().any(|c| overlap(r, c))
+    let mut i = 0;
+    while i < ranges.len() {
+        if i % BLOCK == 0 && !overlap(r, &hulls[i / BLOCK]) {
+            i += BLOCK;
+        } else if overlap(r, &ranges[i]) {
+            return true;
+        } else {
+            i += 1;
+        }
+    }
+    false
+}
+
+/// Widens the hull of a block, which may be the next one, so that it covers the range.
+fn widen(hulls: &mut Vec<Range>, block: usize, r: &Range) -> Result<(), NoMemory>
+    requires { block ≤ vec_len hulls.old }
+    ensures wider { AreWider hulls.old.items hulls.new.items }
+    ensures ok { OnOk result (IsWithin hulls.new.items block r.now) }
+{
+    if block < hulls.len() {
+        hulls[block] = hull_of(&hulls[block], r);
+    } else {
+        hulls.push(*r)?;
+    }
+    Ok(())
+}
+
+/// Widens the hulls for ranges that come at the place `from` and behind.
+fn widen_all(hulls: &mut Vec<Range>, from: usize, more: &[Range]) -> Result<(), NoMemory>
+    requires few { from < 2 ^ 63 }
+    requires enough { from ≤ 64 * vec_len hulls.old }
+    ensures wider { AreWider hulls.old.items hulls.new.items }
+    ensures ok { OnOk result (AreHulls from more.now hulls.new.items) }
+{
+    for i in 0..more.len() {
+        widen(hulls, (from + i) / BLOCK, &more[i])?;
+    }
+    Ok(())
 }
 
 /// The least range that covers both.

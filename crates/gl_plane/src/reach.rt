@@ -1,13 +1,62 @@
 //! The entries that meet a range, by how far down and right each block of entries reaches.
-ghost use Rattle.std.specs.Prelude.{◌≡◌, ◌≤◌, ◌<◌, drop, OnOk, OnErr, vec_len};
+ghost use Rattle.std.specs.Prelude.{◌≡◌, ◌≤◌, ◌<◌, ◌⊎◌, [], drop, length, slice_index};
+ghost use Rattle.std.specs.Prelude.{IsTrue, IfOk, OnOk, OnErr, vec_len};
 ghost use Rattle.gl_calculus.specs.Oracle.{IsInOrder};
 ghost use Rattle.gl_plane.specs.Reach.{first_from, spills_into, lowest_row, last_column};
-ghost use Rattle.gl_plane.specs.Reach.{AreReaches, IsRaised};
+ghost use Rattle.gl_plane.specs.Reach.{AreBounds, IsRaised, IsPassed};
 
 use crate::{Entry, NoMemory, Permit, Range};
+use std::alloc::Global;
 
 /// The entries of a block.
 pub const BLOCK: usize = 64;
+
+/// The entries of a block of blocks.
+pub const FAR: usize = 4096;
+
+/// How far down and right the entries of each block reach.
+#[derive(Drop)]
+pub struct Reaches {
+    /// For each block, a row below which none of its entries reaches.
+    pub rows: Vec<u16>,
+    /// For each block, a column right of which none of them reaches.
+    pub columns: Vec<u16>,
+}
+
+impl Reaches {
+    /// Those of no entries.
+    pub fn new(alloc: Global) -> Reaches
+        ensures rows { result.rows.items ≡ [] }
+        ensures columns { result.columns.items ≡ [] }
+    {
+        Reaches {
+            rows: Vec::new(alloc),
+            columns: Vec::new(alloc),
+        }
+    }
+
+    /// The same ones once more.
+    pub fn copy(&self, alloc: Global) -> Result<Reaches, NoMemory>
+        ensures rows { IfOk result (λ r. r.rows.items ≡ self.now.rows.items) }
+        ensures columns { IfOk result (λ r. r.columns.items ≡ self.now.columns.items) }
+    {
+        Ok(Reaches {
+            rows: Vec::from_slice(alloc, &self.rows)?,
+            columns: Vec::from_slice(alloc, &self.columns)?,
+        })
+    }
+
+    /// No entry of the block reaches the range.
+    fn fall_short(&self, block: usize, range: &Range) -> bool
+        requires rows { block < vec_len self.now.rows }
+        requires columns { block < vec_len self.now.columns }
+        ensures { IsTrue result
+            → (slice_index self.now.rows.items block < range.now.first.row)
+            ⊎ (slice_index self.now.columns.items block < range.now.first.col) }
+    {
+        self.rows[block] < range.first.row() || self.columns[block] < range.first.col()
+    }
+}
 
 /// The entry is permitted, and its area exists and meets the range.
 fn spills_into(entry: &Entry, range: &Range) -> bool
@@ -53,28 +102,42 @@ pub fn raise(reaches: &mut Vec<u16>, block: usize, reach: u16) -> Result<(), NoM
     Ok(())
 }
 
+/// How many entries from the place `i` on don't spill into the range, as their block doesn't reach it.
+fn passed(entries: &[Entry], near: &Reaches, far: &Reaches, range: &Range, i: usize) -> usize
+    requires here { i < length entries.now }
+    requires near { AreBounds 64 entries.now near.now.rows.items near.now.columns.items }
+    requires far { AreBounds 4096 entries.now far.now.rows.items far.now.columns.items }
+    ensures passed { IsPassed range.now entries.now i result }
+    ensures few { result ≤ 4096 }
+{
+    if i % FAR == 0 && far.fall_short(i / FAR, range) {
+        FAR
+    } else if i % BLOCK == 0 && near.fall_short(i / BLOCK, range) {
+        BLOCK
+    } else {
+        0
+    }
+}
+
 /// The first entry, from the place `from` on, that spills into the range.
 pub fn meeting_from(
     entries: &[Entry],
-    rows: &[u16],
-    columns: &[u16],
+    near: &Reaches,
+    far: &Reaches,
     range: &Range,
     from: usize,
 ) -> Option<(usize, Entry)>
     requires ordered { IsInOrder entries.now }
-    requires down { AreReaches lowest_row entries.now rows.now }
-    requires right { AreReaches last_column entries.now columns.now }
+    requires near { AreBounds 64 entries.now near.now.rows.items near.now.columns.items }
+    requires far { AreBounds 4096 entries.now far.now.rows.items far.now.columns.items }
     ensures { result ≡ first_from (spills_into range.now) from (drop from entries.now) }
 {
-    let top = range.first.row();
-    let left = range.first.col();
     let bottom = range.last.row();
     let mut i = from;
     while i < entries.len() {
-        if i % BLOCK == 0 && rows[i / BLOCK] < top {
-            i += BLOCK;
-        } else if i % BLOCK == 0 && columns[i / BLOCK] < left {
-            i += BLOCK;
+        let passed = passed(entries, near, far, range, i);
+        if passed > 0 {
+            i += passed;
         } else {
             let entry = entries[i];
             if entry.root.row() > bottom {

@@ -15,9 +15,9 @@ pub returns-else-overlap : goal.returns-else-overlap
 returns-else-overlap c =
     let r = c.args.r.now in
     let apart = sym c.overlap.ensures ∙ c.if-overlap.false in
-    c.if-overlap.false ∙ apart_from_hull c.self.inside.hull c.in-Some.hull c.self.inside.ranges.items r c.self.invariant c.in-Some.is apart ∙ ap (λ cs. reaches cs r) c.self.view_is
+    c.if-overlap.false ∙ apart_from_hull c.self.inside.hull c.in-Some.hull c.self.inside.ranges.items r c.self.invariant.0 c.in-Some.is apart ∙ ap (λ cs. reaches cs r) c.self.view_is
 
 pub returns-in-None : goal.returns-in-None
 returns-in-None c =
     let r = c.args.r.now in
-    no_hull c.self.inside.hull c.self.inside.ranges.items r c.self.invariant c.in-None.is ∙ ap (λ cs. reaches cs r) c.self.view_is
+    no_hull c.self.inside.hull c.self.inside.ranges.items r c.self.invariant.0 c.in-None.is ∙ ap (λ cs. reaches cs r) c.self.view_is
