@@ -112,7 +112,7 @@ module _ (text : Bytes) (raw : Raw) where
       let h = subst (λ z. AreSpelled InOrder (raws_of (plains text z)) → formula_tree g ≡ let_or_call (letters text word) (trees (raws_of (plains text z)))) n q in
       known text raw _ g (ap (raw_tree text) e ∙ tree-Apply text word v) h
 
-pub ruleset build_rules = (built_number, built_text, built_bool, built_at, built_spill, built_corners, built_var, built_neg, built_compare, built_chain, built_apply)
+pub ruleset build_rules = built_number
 
 -- ---- lists
 

@@ -72,8 +72,6 @@ pub tree-Apply : (text : Bytes) (word : Span) (xs : Vec Raw Global) → raw_tree
 unfolding raw_tree
 tree-Apply text word xs = ap (raw_tree text) (sym (r.rolls-Apply word xs)) ∙ fold-roll-Raw G.Raw (layer text) (Raw-F.Apply word xs)
 
-pub ruleset tree_rules = (tree-Number, tree-Text, tree-Bool, tree-At, tree-Spill, tree-Corners, tree-Var, tree-Neg, tree-Chain, tree-Compare, tree-Apply)
-
 -- ---- forms as they are made
 
 pub text_is : (text : Bytes) (t : RcStr Global) (bs : Bytes) → rc_str_bytes t ≡ bs → raw_tree text (r.Text t) ≡ G.Raw.Text bs

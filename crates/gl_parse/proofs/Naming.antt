@@ -17,7 +17,7 @@ use Rattle.gl_parse.specs.declared.raw.Raw.{Raw}
 use Rattle.gl_parse.specs.declared.raw.Raw.TheVariants as r
 use Rattle.gl_parse.specs.Raws.{raw_tree, letters, links, raws_of, pairs, plains}
 use Rattle.gl_parse.specs.Faults.{scope, scope_onto, bound_by}
-use Rattle.gl_parse.proofs.Forms.{tree-Number, tree-Text, tree-Bool, tree-At, tree-Spill, tree-Corners, tree-Var, tree-Neg, tree-Chain, tree-Compare, tree-Apply}
+use Rattle.gl_parse.proofs.Forms.{tree-Var, tree-Neg, tree-Chain, tree-Compare, tree-Apply}
 
 -- ---- the scope
 
@@ -66,13 +66,14 @@ bound_further text test ss i d w h other e = sym (bound_next text test ss i d h 
 
 pub ruleset bound_rules = (bound_next, bound_end)
 
-pub ruleset variable_rules = (tree-Number, tree-Text, tree-Bool, tree-At, tree-Spill, tree-Corners, tree-Var, tree-Neg, tree-Chain, tree-Compare, tree-Apply)
-
 -- ---- forms
 
 module _ (text : Bytes) (vs : List Bytes) where
   pub name_var : (raw : Raw) (v : Span) → raw ≡ r.Var v → has_bad_name vs (raw_tree text raw) ≡ not (list_any (bytes_eq (letters text v)) vs)
   name_var raw v e = ap (has_bad_name vs) (ap (raw_tree text) e ∙ tree-Var text v)
+
+  pub name_leaf : (raw x : Raw) (t : G.Raw) → raw ≡ x → raw_tree text x ≡ t → has_bad_name vs (raw_tree text raw) ≡ has_bad_name vs t
+  name_leaf raw x t e h = ap (has_bad_name vs) (ap (raw_tree text) e ∙ h)
 
   pub name_neg : (raw : Raw) (f : Box Raw Global) → raw ≡ r.Neg f → has_bad_name vs (raw_tree text raw) ≡ has_bad_name vs (raw_tree text f.value)
   name_neg raw f e = ap (has_bad_name vs) (ap (raw_tree text) e ∙ tree-Neg text f)
@@ -97,8 +98,6 @@ module _ (text : Bytes) (vs : List Bytes) where
 
   pub operand_end : (xs : List (Op × Raw)) (i : ℕ) → length xs ≤ i → bad_name_in_operands vs (links (pairs text (drop i xs))) ≡ false
   operand_end xs i h = at_drop_all (λ (ys : List (Op × Raw)). bad_name_in_operands vs (links (pairs text ys))) xs i h
-
-pub ruleset name_rules = (name_var, name_neg, name_chain, name_compare, name_apply, tree-Number, tree-Text, tree-Bool, tree-At, tree-Spill, tree-Corners)
 
 pub ruleset operand_rules = (operand_next, operand_end)
 

@@ -17,7 +17,7 @@ use Rattle.gl_parse.specs.declared.raw.Raw.TheVariants as r
 use Rattle.gl_parse.specs.declared.walk.FormFault.{FormFault}
 use Rattle.gl_parse.specs.Raws.{raw_tree, links, raws_of, pairs, plains}
 use Rattle.gl_parse.specs.Faults.{shows}
-use Rattle.gl_parse.proofs.Forms.{tree-Number, tree-Text, tree-Bool, tree-At, tree-Spill, tree-Corners, tree-Var, tree-Neg, tree-Chain, tree-Compare, tree-Apply}
+use Rattle.gl_parse.proofs.Forms.{tree-Neg, tree-Chain, tree-Compare, tree-Apply}
 
 pub some_next : (text : Bytes) (fault : FormFault) (xs : List Raw) (i : ℕ) (d : Raw) → i < length xs → some_argument (shows fault) (raws_of (plains text (drop i xs))) ≡ some_form (shows fault) (raw_tree text (get_or xs i d)) || some_argument (shows fault) (raws_of (plains text (drop (i + 1) xs)))
 some_next text fault xs i d h = at_drop_more (λ (ys : List Raw). some_argument (shows fault) (raws_of (plains text ys))) xs i d h
@@ -87,8 +87,6 @@ module _ (text : Bytes) (fault : FormFault) (raw : Raw) (free : shows fault (raw
 -- a form with no parts
 pub walk_leaf : (text : Bytes) (fault : FormFault) (raw : Raw) (t : G.Raw) → shows fault (raw_tree text raw) ≡ false → raw_tree text raw ≡ t → ((test : G.Raw → Bool) → some_form test t ≡ test t) → false ≡ some_form (shows fault) (raw_tree text raw)
 walk_leaf text fault raw t free e leaf = sym (ap (some_form (shows fault)) e ∙ leaf (shows fault) ∙ sym (ap (shows fault) e) ∙ free)
-
-pub ruleset form_rules = (shown_here, walk_neg, walk_chain, walk_compare, walk_apply, tree-Number, tree-Text, tree-Bool, tree-At, tree-Spill, tree-Corners, tree-Var)
 
 -- ---- the two ways through an `||`
 

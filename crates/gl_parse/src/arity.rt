@@ -16,22 +16,21 @@ use gl_ast::Fun;
 const MAX_ARGUMENTS: usize = 16;
 
 /// Whether a call has a number or a form of arguments that its function, or `LET`, doesn't take.
-#[tactic(auto, using(crate::proofs::Forms::tree_rules, crate::proofs::Calls::raws_back))]
 pub fn is_bad_call(text: &[u8], raw: &Raw) -> bool
     ensures { result ≡ G.is_bad_call (raw_tree text.now raw.now) }
 {
     match raw {
         Raw::Apply(word, xs) => !allows_word(function_of(spelling(text, *word)), xs),
-        Raw::Number(_)
-        | Raw::Text(_)
-        | Raw::Bool(_)
-        | Raw::At(_)
-        | Raw::Spill(_)
-        | Raw::Corners(_, _)
-        | Raw::Var(_)
-        | Raw::Neg(_)
-        | Raw::Chain(_, _, _)
-        | Raw::Compare(_, _, _) => false,
+        Raw::Number(_) => false,
+        Raw::Text(_) => false,
+        Raw::Bool(_) => false,
+        Raw::At(_) => false,
+        Raw::Spill(_) => false,
+        Raw::Corners(_, _) => false,
+        Raw::Var(_) => false,
+        Raw::Neg(_) => false,
+        Raw::Chain(_, _, _) => false,
+        Raw::Compare(_, _, _) => false,
     }
 }
 
@@ -52,41 +51,40 @@ fn between(least: usize, most: usize, xs: &[Raw]) -> bool
     least <= xs.len() && xs.len() <= most
 }
 
-#[tactic(auto, using(crate::proofs::Forms::tree_rules))]
 fn is_address(raw: &Raw) -> bool
     ensures { (text : Bytes) → result ≡ G.is_address (raw_tree text raw.now) }
 {
     match raw {
         Raw::At(_) => true,
-        Raw::Number(_)
-        | Raw::Text(_)
-        | Raw::Bool(_)
-        | Raw::Spill(_)
-        | Raw::Corners(_, _)
-        | Raw::Var(_)
-        | Raw::Neg(_)
-        | Raw::Chain(_, _, _)
-        | Raw::Compare(_, _, _)
-        | Raw::Apply(_, _) => false,
+        Raw::Number(_) => false,
+        Raw::Text(_) => false,
+        Raw::Bool(_) => false,
+        Raw::Spill(_) => false,
+        Raw::Corners(_, _) => false,
+        Raw::Var(_) => false,
+        Raw::Neg(_) => false,
+        Raw::Chain(_, _, _) => false,
+        Raw::Compare(_, _, _) => false,
+        Raw::Apply(_, _) => false,
     }
 }
 
 /// Whether it is an address or a range as written.
-#[tactic(auto, using(crate::proofs::Forms::tree_rules))]
 fn is_place(raw: &Raw) -> bool
     ensures { (text : Bytes) → result ≡ G.is_place (raw_tree text raw.now) }
 {
     match raw {
-        Raw::At(_) | Raw::Corners(_, _) => true,
-        Raw::Number(_)
-        | Raw::Text(_)
-        | Raw::Bool(_)
-        | Raw::Spill(_)
-        | Raw::Var(_)
-        | Raw::Neg(_)
-        | Raw::Chain(_, _, _)
-        | Raw::Compare(_, _, _)
-        | Raw::Apply(_, _) => false,
+        Raw::At(_) => true,
+        Raw::Corners(_, _) => true,
+        Raw::Number(_) => false,
+        Raw::Text(_) => false,
+        Raw::Bool(_) => false,
+        Raw::Spill(_) => false,
+        Raw::Var(_) => false,
+        Raw::Neg(_) => false,
+        Raw::Chain(_, _, _) => false,
+        Raw::Compare(_, _, _) => false,
+        Raw::Apply(_, _) => false,
     }
 }
 
@@ -114,22 +112,21 @@ fn allows_let(xs: &[Raw]) -> bool
     }
 }
 
-#[tactic(auto, using(crate::proofs::Forms::tree_rules))]
 fn is_variable(raw: &Raw) -> bool
     ensures { (text : Bytes) → result ≡ G.is_variable (raw_tree text raw.now) }
 {
     match raw {
         Raw::Var(_) => true,
-        Raw::Number(_)
-        | Raw::Text(_)
-        | Raw::Bool(_)
-        | Raw::At(_)
-        | Raw::Spill(_)
-        | Raw::Corners(_, _)
-        | Raw::Neg(_)
-        | Raw::Chain(_, _, _)
-        | Raw::Compare(_, _, _)
-        | Raw::Apply(_, _) => false,
+        Raw::Number(_) => false,
+        Raw::Text(_) => false,
+        Raw::Bool(_) => false,
+        Raw::At(_) => false,
+        Raw::Spill(_) => false,
+        Raw::Corners(_, _) => false,
+        Raw::Neg(_) => false,
+        Raw::Chain(_, _, _) => false,
+        Raw::Compare(_, _, _) => false,
+        Raw::Apply(_, _) => false,
     }
 }
 

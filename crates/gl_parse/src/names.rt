@@ -44,23 +44,22 @@ fn is_same(text: &[u8], a: Span, b: Span) -> bool
 }
 
 /// The name of a variable.
-#[tactic(auto, using(crate::proofs::Naming::variable_rules))]
 fn variable(raw: &Raw) -> Option<Span>
     ensures { MatchOption result ((text : Bytes) → G.is_variable (raw_tree text raw.now) ≡ false)
         (λ name. (text : Bytes) → raw_tree text raw.now ≡ G.Raw.Var (letters text name)) }
 {
     match raw {
         Raw::Var(name) => Some(*name),
-        Raw::Number(_)
-        | Raw::Text(_)
-        | Raw::Bool(_)
-        | Raw::At(_)
-        | Raw::Spill(_)
-        | Raw::Corners(_, _)
-        | Raw::Neg(_)
-        | Raw::Chain(_, _, _)
-        | Raw::Compare(_, _, _)
-        | Raw::Apply(_, _) => None,
+        Raw::Number(_) => None,
+        Raw::Text(_) => None,
+        Raw::Bool(_) => None,
+        Raw::At(_) => None,
+        Raw::Spill(_) => None,
+        Raw::Corners(_, _) => None,
+        Raw::Neg(_) => None,
+        Raw::Chain(_, _, _) => None,
+        Raw::Compare(_, _, _) => None,
+        Raw::Apply(_, _) => None,
     }
 }
 
@@ -81,7 +80,6 @@ pub fn bound_variable(word: &[u8], xs: &[Raw]) -> Option<Span>
 
 /// The same under the names that are bound around the form, the innermost last. They are as before where it answers.
 #[cycle(names)]
-#[tactic(auto, using(crate::proofs::Naming::name_rules))]
 fn bad_name(text: &[u8], scope: &mut Vec<Span>, raw: &Raw) -> Result<bool, NoMemory>
     ensures value { IfOk result (λ b.
         b ≡ G.has_bad_name (spec.scope text.now scope.old.items) (raw_tree text.now raw.now)) }
@@ -105,12 +103,12 @@ fn bad_name(text: &[u8], scope: &mut Vec<Span>, raw: &Raw) -> Result<bool, NoMem
             bad_name(text, scope, g)
         }
         Raw::Apply(word, xs) => bad_name_in_call(text, scope, spelling(text, *word), xs),
-        Raw::Number(_)
-        | Raw::Text(_)
-        | Raw::Bool(_)
-        | Raw::At(_)
-        | Raw::Spill(_)
-        | Raw::Corners(_, _) => Ok(false),
+        Raw::Number(_) => Ok(false),
+        Raw::Text(_) => Ok(false),
+        Raw::Bool(_) => Ok(false),
+        Raw::At(_) => Ok(false),
+        Raw::Spill(_) => Ok(false),
+        Raw::Corners(_, _) => Ok(false),
     }
 }
 

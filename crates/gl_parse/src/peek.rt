@@ -25,12 +25,12 @@ fn sign<'a>(text: &[u8], tokens: &'a [Token]) -> Option<(Sign, &'a [Token])>
     let (first, rest) = tokens.split_first()?;
     match &first.kind {
         Kind::Sign(s) => Some((*s, rest)),
-        Kind::Integer(_)
-        | Kind::Text(_)
-        | Kind::Address(_)
-        | Kind::Truth(_)
-        | Kind::Word
-        | Kind::Variable => None,
+        Kind::Integer(_) => None,
+        Kind::Text(_) => None,
+        Kind::Address(_) => None,
+        Kind::Truth(_) => None,
+        Kind::Word => None,
+        Kind::Variable => None,
     }
 }
 
@@ -124,12 +124,12 @@ pub fn address<'a>(text: &[u8], tokens: &'a [Token]) -> Option<(&'a Addr, &'a [T
     let (first, rest) = tokens.split_first()?;
     match &first.kind {
         Kind::Address(a) => Some((a, rest)),
-        Kind::Integer(_)
-        | Kind::Text(_)
-        | Kind::Sign(_)
-        | Kind::Truth(_)
-        | Kind::Word
-        | Kind::Variable => None,
+        Kind::Integer(_) => None,
+        Kind::Text(_) => None,
+        Kind::Sign(_) => None,
+        Kind::Truth(_) => None,
+        Kind::Word => None,
+        Kind::Variable => None,
     }
 }
 

@@ -27,22 +27,21 @@ fn is_bad_range(a: Addr, b: Addr) -> bool
     rows * cols > MAX_CELLS
 }
 
-#[tactic(auto, using(crate::proofs::Forms::tree_rules))]
 fn shows_range(text: &[u8], raw: &Raw) -> bool
     ensures { result ≡ G.is_bad_range (raw_tree text.now raw.now) }
 {
     match raw {
         Raw::Corners(a, b) => is_bad_range(*a, *b),
-        Raw::Number(_)
-        | Raw::Text(_)
-        | Raw::Bool(_)
-        | Raw::At(_)
-        | Raw::Spill(_)
-        | Raw::Var(_)
-        | Raw::Neg(_)
-        | Raw::Chain(_, _, _)
-        | Raw::Compare(_, _, _)
-        | Raw::Apply(_, _) => false,
+        Raw::Number(_) => false,
+        Raw::Text(_) => false,
+        Raw::Bool(_) => false,
+        Raw::At(_) => false,
+        Raw::Spill(_) => false,
+        Raw::Var(_) => false,
+        Raw::Neg(_) => false,
+        Raw::Chain(_, _, _) => false,
+        Raw::Compare(_, _, _) => false,
+        Raw::Apply(_, _) => false,
     }
 }
 
@@ -57,7 +56,6 @@ fn shows(text: &[u8], fault: FormFault, raw: &Raw) -> bool
 
 /// Whether some form inside, or the form itself, shows the fault.
 #[cycle(walk)]
-#[tactic(auto, using(crate::proofs::Walks::form_rules))]
 pub fn some_form(text: &[u8], fault: FormFault, raw: &Raw) -> bool
     ensures { result ≡ G.some_form (spec.shows fault) (raw_tree text.now raw.now) }
 {
@@ -69,13 +67,13 @@ pub fn some_form(text: &[u8], fault: FormFault, raw: &Raw) -> bool
         Raw::Chain(_, f, rest) => some_form(text, fault, f) || some_operand(text, fault, rest),
         Raw::Compare(_, f, g) => some_form(text, fault, f) || some_form(text, fault, g),
         Raw::Apply(_, xs) => some_argument(text, fault, xs),
-        Raw::Number(_)
-        | Raw::Text(_)
-        | Raw::Bool(_)
-        | Raw::At(_)
-        | Raw::Spill(_)
-        | Raw::Corners(_, _)
-        | Raw::Var(_) => false,
+        Raw::Number(_) => false,
+        Raw::Text(_) => false,
+        Raw::Bool(_) => false,
+        Raw::At(_) => false,
+        Raw::Spill(_) => false,
+        Raw::Corners(_, _) => false,
+        Raw::Var(_) => false,
     }
 }
 

@@ -1,7 +1,10 @@
+use Rattle.std.proofs.Common.{◌≡◌, subst}
+use Rattle.std.specs.Rc.{rc_str_bytes}
+use Rattle.gl_language.specs.Token.{IsRow, is_lower}
 use Rattle.gl_language.specs.Grammar.{function_of}
 use Rattle.gl_parse.specs.Raws.{letters}
 use Rattle.gl_parse.proofs.Naming.{let_is}
-use Rattle.gl_parse.proofs.Building.{built_text, built_compare, apply_is, argument_built, operand_built, plain_is, built_let, built_call}
+use Rattle.gl_parse.proofs.Building.{built_bool, built_at, built_spill, built_corners, built_var, built_neg, built_chain, built_text, built_compare, apply_is, argument_built, operand_built, plain_is, built_let, built_call}
 use Rattle.gl_parse.proofs.build.+build.Goals as goal
 
 pub build-returns-in_ok-clone-in-Text : goal.build-returns-in_ok-clone-in-Text
@@ -32,3 +35,28 @@ build_call-returns t c =
 
 pub build_plain_call-returns : goal.build_plain_call-returns
 build_plain_call-returns t c = λ s. built_call _ _ _ (function_of c.args.word.now) c.called.ensures (c.in_ok-xs.ensures s)
+
+pub build-returns-in-Bool : goal.build-returns-in-Bool
+build-returns-in-Bool t c = built_bool c.args.text.now c.args.raw.now c.in-Bool.b c.in-Bool.is
+
+pub build-returns-in-At : goal.build-returns-in-At
+build-returns-in-At t c = built_at c.args.text.now c.args.raw.now c.in-At.a c.in-At.is
+
+pub build-returns-in-Spill : goal.build-returns-in-Spill
+build-returns-in-Spill t c = built_spill c.args.text.now c.args.raw.now c.in-Spill.a c.in-Spill.is
+
+pub build-returns-in-Corners : goal.build-returns-in-Corners
+build-returns-in-Corners t c = built_corners c.args.text.now c.args.raw.now c.in-Corners.a c.in-Corners.b _ c.in-Corners.is c.area.ensures
+
+pub build-returns-in_ok-named-in-Var : goal.build-returns-in_ok-named-in-Var
+build-returns-in_ok-named-in-Var t c =
+    let named = c.in_ok-named-in-Var.field-0 in
+    built_var c.args.text.now c.args.raw.now c.in-Var.name named c.in-Var.is (subst (λ z. IsRow is_lower z → rc_str_bytes named ≡ z) c.spelling.ensures c.in_ok-named-in-Var.ensures)
+
+pub build-returns-in_ok-new-in-Neg : goal.build-returns-in_ok-new-in-Neg
+build-returns-in_ok-new-in-Neg t c = built_neg c.args.text.now c.args.raw.now c.in-Neg.f _ _ _ c.in-Neg.is c.deref.ensures c.in_ok-new-in-Neg.ensures.ok c.in_ok-f-in-Neg.ensures
+
+pub build-returns-in_ok-new-in-Chain : goal.build-returns-in_ok-new-in-Chain
+build-returns-in_ok-new-in-Chain t c =
+    built_chain c.args.text.now c.args.raw.now c.in-Chain.level c.in-Chain.f c.in-Chain.rest _ _ _ _ _ c.in-Chain.is c.deref-in-Chain.ensures c.deref-in-Chain-2.ensures.value c.in_ok-new-in-Chain.ensures.ok c.in_ok-f-in-Chain.ensures
+    c.in_ok-rest-in-Chain.ensures

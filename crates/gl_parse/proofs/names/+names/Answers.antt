@@ -1,10 +1,12 @@
-use Rattle.std.proofs.Common.{◌∷◌, ap, sym, refl, ◌∙◌}
+use Rattle.std.proofs.Common.{◌∷◌, not, bytes_eq, ap, sym, refl, ◌∙◌}
+use Rattle.std.specs.List.{list_any}
 use Rattle.gl_language.specs.Grammar.{has_bad_name, bad_name_in_operands}
 use Rattle.gl_language.specs.Grammar as G
 use Rattle.gl_parse.specs.Raws.{raw_tree, plains, pairs, links, raws_of, letters}
 use Rattle.gl_parse.specs.Faults.{scope}
 use Rattle.gl_parse.proofs.Walks.{or_then, or_else}
-use Rattle.gl_parse.proofs.Naming.{name_neg, name_chain, name_compare, name_apply, answer_is, plain_call, let_is, let_then, let_else}
+use Rattle.gl_parse.proofs.Forms.{tree-Number, tree-Text, tree-Bool, tree-At, tree-Spill, tree-Corners}
+use Rattle.gl_parse.proofs.Naming.{name_var, name_leaf, name_neg, name_chain, name_compare, name_apply, answer_is, plain_call, let_is, let_then, let_else}
 use Rattle.gl_parse.proofs.names.+names.Goals as goal
 
 pub bad_name-returns-then-bad-clause-value : goal.bad_name-returns-then-bad-clause-value
@@ -63,3 +65,24 @@ bad_name_in_call-returns-clause-value t c =
     answer_is _ _ _ c.bad_name_in_body.ensures.value
     (ap (λ z. has_bad_name (letters c.args.text.now c.in-Some.name ∷ scope c.args.text.now z) (raw_tree c.args.text.now c.index-xs-2.result)) c.in_ok-bad.ensures.same
     ∙ let_else c.args.text.now (scope c.args.text.now c.args.scope.now.items) c.args.word.now c.args.xs.now _ _ _ is _ _ c.in_ok-bad.ensures.value c.if-bad.false refl)
+
+pub bad_name-returns-in-Var-clause-value : goal.bad_name-returns-in-Var-clause-value
+bad_name-returns-in-Var-clause-value t c = ap not (c.is_bound.ensures ∙ ap (λ z. list_any (bytes_eq (letters c.args.text.now c.in-Var.name)) (scope c.args.text.now z)) c.deref.ensures.value) ∙ sym (name_var c.args.text.now (scope c.args.text.now c.args.scope.now.items) c.args.raw.now c.in-Var.name c.in-Var.is)
+
+pub bad_name-returns-in-Number-clause-value : goal.bad_name-returns-in-Number-clause-value
+bad_name-returns-in-Number-clause-value t c = sym (name_leaf c.args.text.now (scope c.args.text.now c.args.scope.now.items) c.args.raw.now _ _ c.in-Number.is (tree-Number c.args.text.now _))
+
+pub bad_name-returns-in-Text-clause-value : goal.bad_name-returns-in-Text-clause-value
+bad_name-returns-in-Text-clause-value t c = sym (name_leaf c.args.text.now (scope c.args.text.now c.args.scope.now.items) c.args.raw.now _ _ c.in-Text.is (tree-Text c.args.text.now _))
+
+pub bad_name-returns-in-Bool-clause-value : goal.bad_name-returns-in-Bool-clause-value
+bad_name-returns-in-Bool-clause-value t c = sym (name_leaf c.args.text.now (scope c.args.text.now c.args.scope.now.items) c.args.raw.now _ _ c.in-Bool.is (tree-Bool c.args.text.now _))
+
+pub bad_name-returns-in-At-clause-value : goal.bad_name-returns-in-At-clause-value
+bad_name-returns-in-At-clause-value t c = sym (name_leaf c.args.text.now (scope c.args.text.now c.args.scope.now.items) c.args.raw.now _ _ c.in-At.is (tree-At c.args.text.now _))
+
+pub bad_name-returns-in-Spill-clause-value : goal.bad_name-returns-in-Spill-clause-value
+bad_name-returns-in-Spill-clause-value t c = sym (name_leaf c.args.text.now (scope c.args.text.now c.args.scope.now.items) c.args.raw.now _ _ c.in-Spill.is (tree-Spill c.args.text.now _))
+
+pub bad_name-returns-in-Corners-clause-value : goal.bad_name-returns-in-Corners-clause-value
+bad_name-returns-in-Corners-clause-value t c = sym (name_leaf c.args.text.now (scope c.args.text.now c.args.scope.now.items) c.args.raw.now _ _ c.in-Corners.is (tree-Corners c.args.text.now _ _))
