@@ -10,15 +10,16 @@ use gl_run::{Status, run};
 use std::alloc::Global;
 use std::test::Fail;
 
-/// It counts each failed read, and may try it once more. It notes the reads behind the first that it
-/// answered as failed.
+/// It counts all reads and each that failed, and may try one that failed once more. It notes the
+/// reads behind the first that it answered as failed.
 #[derive(Drop)]
-struct WatchedSource {
+pub struct WatchedSource {
     inner: MemSource,
     again: bool,
-    faults: u64,
+    pub calls: u64,
+    pub faults: u64,
     ended: bool,
-    behind: u64,
+    pub behind: u64,
 }
 
 impl Source for WatchedSource {
@@ -33,6 +34,7 @@ impl Source for WatchedSource {
     ghost never_fails = { λ _. ⊥ };
 
     fn read(&mut self, buf: &mut [u8]) -> Result<usize, Failed> {
+        self.calls = self.calls.saturating_add(1);
         if self.ended {
             self.behind = self.behind.saturating_add(1);
         }
@@ -47,6 +49,18 @@ impl WatchedSource {
     ghost use Rattle.std.specs.Prelude.{◌≡◌, ◌<◌, ◌≤◌, length};
     ghost use Rattle.std.specs.Io.{ReadsAtMost};
     ghost use Rattle.gl_port.specs.Causes.{HasCause};
+
+    /// No read yet.
+    pub fn new(inner: MemSource, again: bool) -> WatchedSource {
+        WatchedSource {
+            inner,
+            again,
+            calls: 0,
+            faults: 0,
+            ended: false,
+            behind: 0,
+        }
+    }
 
     /// A read failed, and is tried once more where it may be.
     fn failed(&mut self, buf: &mut [u8]) -> Result<usize, Failed>
@@ -66,15 +80,16 @@ impl WatchedSource {
     }
 }
 
-/// It counts each failed write, and may try it once more. It notes the writes behind the first that it
-/// answered as failed.
+/// It counts all writes and each that failed, and may try one that failed once more. It notes the
+/// writes behind the first that it answered as failed.
 #[derive(Drop)]
-struct WatchedSink {
-    inner: MemSink,
+pub struct WatchedSink {
+    pub inner: MemSink,
     again: bool,
-    faults: u64,
+    pub calls: u64,
+    pub faults: u64,
     ended: bool,
-    behind: u64,
+    pub behind: u64,
 }
 
 impl Sink for WatchedSink {
@@ -89,6 +104,7 @@ impl Sink for WatchedSink {
     ghost takes = { λ _ _. ⊥ };
 
     fn write(&mut self, bytes: &[u8]) -> Result<usize, Failed> {
+        self.calls = self.calls.saturating_add(1);
         if self.ended {
             self.behind = self.behind.saturating_add(1);
         }
@@ -102,6 +118,18 @@ impl Sink for WatchedSink {
 impl WatchedSink {
     ghost use Rattle.std.specs.Prelude.{◌≡◌, ◌<◌, ◌≤◌, length, ⊤, MatchResult};
     ghost use Rattle.gl_port.specs.Causes.{HasCause};
+
+    /// No write yet.
+    pub fn new(inner: MemSink, again: bool) -> WatchedSink {
+        WatchedSink {
+            inner,
+            again,
+            calls: 0,
+            faults: 0,
+            ended: false,
+            behind: 0,
+        }
+    }
 
     /// A write failed, and is tried once more where it may be.
     fn failed(&mut self, bytes: &[u8]) -> Result<usize, Failed>
@@ -191,23 +219,16 @@ const ROWS: [Row; 7] = [
     },
 ];
 
+/// Four lines, which end behind 9, 19, 33 and 41 bytes. Their replies have three bytes each.
+pub const SCRIPT: &[u8] = b"set A1 2\nset B1 40\nset C1 =A1+B1\nshow C1\n";
+
 /// The run goes as the row says, and no call follows one that was answered as failed.
 fn holds(alloc: Global, row: &Row) -> Result<bool, Fail> {
-    let script = b"set A1 2\nset B1 40\nset C1 =A1+B1\nshow C1\n".to_vec(alloc)?;
-    let mut source = WatchedSource {
-        inner: MemSource::new(script, 9, row.reads.to_vec(alloc)?),
-        again: row.again,
-        faults: 0,
-        ended: false,
-        behind: 0,
-    };
-    let mut sink = WatchedSink {
-        inner: MemSink::new(alloc, 100, 2, row.writes.to_vec(alloc)?)?,
-        again: row.again,
-        faults: 0,
-        ended: false,
-        behind: 0,
-    };
+    let reads = row.reads.to_vec(alloc)?;
+    let writes = row.writes.to_vec(alloc)?;
+    let inner = MemSource::new(SCRIPT.to_vec(alloc)?, 9, reads);
+    let mut source = WatchedSource::new(inner, row.again);
+    let mut sink = WatchedSink::new(MemSink::new(alloc, 100, 2, writes)?, row.again);
     let order = Order::new(by_kind);
     let mut steps = Steps::new(Silent);
     let ended = run(alloc, &[], &order, &mut source, &mut sink, &mut steps);
