@@ -10,6 +10,7 @@ use gl_plane::Addr;
 use gl_script::{Request, command};
 use gl_views::{oracle_text, shown_text};
 use std::alloc::Global;
+use std::process::Abort;
 use std::test::Fail;
 use tests_common::address;
 
@@ -196,4 +197,14 @@ pub fn holds(alloc: Global, sheet: &Sheet, kind: u8) -> Result<bool, Fail>
 {
     let mut calc = Calc::new(alloc);
     goes_on(alloc, &mut calc, sheet, kind, Version::One)
+}
+
+/// The sheets are as their rows say, by each pick rule.
+pub fn assert_sheets(rt: &impl Abort, alloc: Global, sheets: &[Sheet]) -> Result<(), Fail> {
+    for sheet in sheets {
+        for kind in 0u8..3 {
+            assert!(rt; holds(alloc, sheet, kind)?, "{:?} by {kind}", sheet.lines);
+        }
+    }
+    Ok(())
 }

@@ -6,6 +6,7 @@ use gl_ast::Version;
 use gl_calc::Calc;
 use gl_demand::{Silent, Steps};
 use std::alloc::Global;
+use std::process::Abort;
 use std::test::Fail;
 
 /// Edits, the version in which the sheet is calculated then, how that ends, and the least and
@@ -88,6 +89,11 @@ const BESIDE_ARRAYS: [Row; 7] = [
     },
 ];
 
+#[test]
+fn what_is_kept_takes_no_step(rt: HostRuntime) -> Result<(), Fail> {
+    assert_rows(&rt, rt.alloc(), &BESIDE_ARRAYS)
+}
+
 /// A ring that is broken, and made again.
 const A_RING: [Row; 4] = [
     Row {
@@ -119,6 +125,11 @@ const A_RING: [Row; 4] = [
         most: 6,
     },
 ];
+
+#[test]
+fn a_ring_is_broken_and_made_again(rt: HostRuntime) -> Result<(), Fail> {
+    assert_rows(&rt, rt.alloc(), &A_RING)
+}
 
 /// A budget of each kind is spent, and is spent at once where it is asked again: of rounds, of
 /// depth, and of rounds in a copy. Behind an edit that mends it the sheet settles.
@@ -199,6 +210,11 @@ const SPENT: [Row; 9] = [
     },
 ];
 
+#[test]
+fn a_spent_budget_is_spent_at_once(rt: HostRuntime) -> Result<(), Fail> {
+    assert_rows(&rt, rt.alloc(), &SPENT)
+}
+
 /// The sheet settles as the row says, behind its edits.
 fn takes(alloc: Global, calc: &mut Calc, row: &Row, kind: u8) -> Result<bool, Fail>
     requires { kind ≤ 2 }
@@ -225,28 +241,10 @@ fn first_amiss(alloc: Global, rows: &[Row], kind: u8) -> Result<Option<usize>, F
     Ok(None)
 }
 
-#[test]
-fn what_is_kept_takes_no_step(rt: HostRuntime) -> Result<(), Fail> {
+/// By each pick rule all rows settle as they say.
+fn assert_rows(rt: &impl Abort, alloc: Global, rows: &[Row]) -> Result<(), Fail> {
     for kind in 0u8..3 {
-        let amiss = first_amiss(rt.alloc(), &BESIDE_ARRAYS, kind)?;
-        assert!(rt; amiss.is_none(), "{amiss:?} by {kind}");
-    }
-    Ok(())
-}
-
-#[test]
-fn a_spent_budget_is_spent_at_once(rt: HostRuntime) -> Result<(), Fail> {
-    for kind in 0u8..3 {
-        let amiss = first_amiss(rt.alloc(), &SPENT, kind)?;
-        assert!(rt; amiss.is_none(), "{amiss:?} by {kind}");
-    }
-    Ok(())
-}
-
-#[test]
-fn a_ring_is_broken_and_made_again(rt: HostRuntime) -> Result<(), Fail> {
-    for kind in 0u8..3 {
-        let amiss = first_amiss(rt.alloc(), &A_RING, kind)?;
+        let amiss = first_amiss(alloc, rows, kind)?;
         assert!(rt; amiss.is_none(), "{amiss:?} by {kind}");
     }
     Ok(())

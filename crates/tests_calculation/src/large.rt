@@ -3,7 +3,7 @@ ghost use Rattle.std.specs.Prelude.{◌≤◌, IfOk};
 ghost use Rattle.gl_language.specs.Content.{IsProperContent};
 ghost use Rattle.gl_cells.specs.Content.{content_tree};
 
-use crate::calculations::{Sheet, calc_of, edit, goes_on, holds, refreshed, shows};
+use crate::calculations::{Sheet, assert_sheets, calc_of, edit, goes_on, holds, refreshed, shows};
 use gl_ast::Version;
 use gl_calc::Calc;
 use gl_cells::Content;
@@ -95,12 +95,7 @@ const WORK: Sheet = Sheet {
 
 #[test]
 fn large_sheets(rt: HostRuntime) -> Result<(), Fail> {
-    for sheet in &LARGE {
-        for kind in 0u8..3 {
-            assert!(rt; holds(rt.alloc(), sheet, kind)?, "{:?}", sheet.lines);
-        }
-    }
-    Ok(())
+    assert_sheets(&rt, rt.alloc(), &LARGE)
 }
 
 /// Asked again, it says so at once.

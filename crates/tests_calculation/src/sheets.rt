@@ -1,6 +1,6 @@
 //! Small sheets by each pick rule: what their calculations come to, their oracles, what addresses show,
 //! and why roots have their permits.
-use crate::calculations::{Sheet, holds};
+use crate::calculations::{Sheet, assert_sheets};
 use std::test::Fail;
 
 const ARRAYS: [Sheet; 3] = [
@@ -28,6 +28,11 @@ const ARRAYS: [Sheet; 3] = [
         whys: &[],
     },
 ];
+
+#[test]
+fn sheets_with_arrays(rt: HostRuntime) -> Result<(), Fail> {
+    assert_sheets(&rt, rt.alloc(), &ARRAYS)
+}
 
 const CELLS: [Sheet; 10] = [
     // a ring, and a cell that demands it
@@ -136,21 +141,6 @@ const CELLS: [Sheet; 10] = [
 ];
 
 #[test]
-fn sheets_with_arrays(rt: HostRuntime) -> Result<(), Fail> {
-    for sheet in &ARRAYS {
-        for kind in 0u8..3 {
-            assert!(rt; holds(rt.alloc(), sheet, kind)?, "{:?}", sheet.lines);
-        }
-    }
-    Ok(())
-}
-
-#[test]
 fn sheets_with_cells(rt: HostRuntime) -> Result<(), Fail> {
-    for sheet in &CELLS {
-        for kind in 0u8..3 {
-            assert!(rt; holds(rt.alloc(), sheet, kind)?, "{:?}", sheet.lines);
-        }
-    }
-    Ok(())
+    assert_sheets(&rt, rt.alloc(), &CELLS)
 }

@@ -7,6 +7,7 @@ mod frames;
 mod scalars;
 mod settings;
 mod sheets;
+mod tables;
 mod texts;
 
 pub use addresses::{address, range, size};
@@ -18,4 +19,5 @@ pub use frames::{
 pub use scalars::{copy, number, scalar, text};
 pub use settings::{Setting, setting_of};
 pub use sheets::{content_of, put_line, sheet_of};
+pub use tables::each_is_read;
 pub use texts::{formula_word, push_times, scalar_text, value_text};

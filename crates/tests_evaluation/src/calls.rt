@@ -4,6 +4,7 @@ use gl_demand::{Found, Outcome};
 use gl_plane::Oracle;
 use gl_value::Value;
 use std::alloc::Global;
+use std::process::Abort;
 use std::test::Fail;
 use tests_common::{sheet_of, value_text};
 
@@ -29,6 +30,11 @@ const TRUTHS_AND_NUMBERS: [Row; 15] = [
     ("set A1 =NA()", 0, 0, "#N/A"),
 ];
 
+#[test]
+fn truths_and_numbers(rt: HostRuntime) -> Result<(), Fail> {
+    assert_rows(&rt, rt.alloc(), &TRUTHS_AND_NUMBERS)
+}
+
 const PARTS_AND_ARRAYS: [Row; 15] = [
     ("set A1 =ROWS(7)", 0, 0, "1"),
     ("set A1 =COLUMNS(7)", 0, 0, "1"),
@@ -46,6 +52,11 @@ const PARTS_AND_ARRAYS: [Row; 15] = [
     ("set A1 =LOOKUP(5,5,9)", 0, 0, "9"),
     ("set A1 =LOOKUP(5,6,9)", 0, 0, "#N/A"),
 ];
+
+#[test]
+fn parts_and_arrays(rt: HostRuntime) -> Result<(), Fail> {
+    assert_rows(&rt, rt.alloc(), &PARTS_AND_ARRAYS)
+}
 
 /// The value of A1 has these extents and elements.
 fn comes_to(alloc: Global, row: &Row) -> Result<bool, Fail> {
@@ -68,18 +79,10 @@ fn extents(v: &Value) -> (u16, u16) {
     }
 }
 
-#[test]
-fn truths_and_numbers(rt: HostRuntime) -> Result<(), Fail> {
-    for row in &TRUTHS_AND_NUMBERS {
-        assert!(rt; comes_to(rt.alloc(), row)?, "{}", row.0);
-    }
-    Ok(())
-}
-
-#[test]
-fn parts_and_arrays(rt: HostRuntime) -> Result<(), Fail> {
-    for row in &PARTS_AND_ARRAYS {
-        assert!(rt; comes_to(rt.alloc(), row)?, "{}", row.0);
+/// Each line of a table comes to what stands behind it.
+fn assert_rows(rt: &impl Abort, alloc: Global, rows: &[Row]) -> Result<(), Fail> {
+    for row in rows {
+        assert!(rt; comes_to(alloc, row)?, "{}", row.0);
     }
     Ok(())
 }

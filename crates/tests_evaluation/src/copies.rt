@@ -4,19 +4,21 @@ use crate::turns::{cell, first_turn, last_turn};
 use gl_ast::Version;
 use gl_plane::Oracle;
 use std::alloc::Global;
+use std::process::Abort;
 use std::test::Fail;
 use tests_common::{Setting, sheet_of};
 
-/// A sheet with its version, and of some cells what their first evaluation finds, and their last one.
+/// A cell, what its first evaluation finds, and what its last one does.
+type End = (&'static str, &'static str, &'static str);
+
+/// A sheet, and what evaluations of some of its cells find.
 struct Sheet {
-    version: Version,
     lines: &'static [&'static str],
-    ends: &'static [(&'static str, &'static str, &'static str)],
+    ends: &'static [End],
 }
 
 const COPIES: [Sheet; 4] = [
     Sheet {
-        version: Version::One,
         lines: &[
             "set A1 3",
             "set B1 4",
@@ -26,7 +28,6 @@ const COPIES: [Sheet; 4] = [
         ends: &[("C1", "25", "25"), ("E1", "settle A1:C1", "6 4 52")],
     },
     Sheet {
-        version: Version::One,
         lines: &[
             "set A1 1",
             "set B1 =A1*10",
@@ -36,7 +37,6 @@ const COPIES: [Sheet; 4] = [
         ends: &[("C1", "settle B1:B1", "10"), ("D1", "settle A1:C1", "70")],
     },
     Sheet {
-        version: Version::One,
         lines: &[
             "set A1 2",
             "set B1 =SEQUENCE(A1,1)",
@@ -50,7 +50,6 @@ const COPIES: [Sheet; 4] = [
         ],
     },
     Sheet {
-        version: Version::One,
         lines: &[
             "set A3 =LET(x,SEQUENCE(100,100),G(A1:G1,A1,x,B1,x,C1,x,D1,x,E1,x,F1,x,G1,x))",
             "set A4 =LET(x,SEQUENCE(100,100),G(A1:F1,A1,x,B1,x,C1,x,D1,x,E1,x,F1,x))",
@@ -66,14 +65,17 @@ const COPIES: [Sheet; 4] = [
     },
 ];
 
+#[test]
+fn copies(rt: HostRuntime) -> Result<(), Fail> {
+    assert_sheets(&rt, rt.alloc(), &COPIES)
+}
+
 const BUDGETS_AND_CYCLES: [Sheet; 3] = [
     Sheet {
-        version: Version::One,
         lines: &["set A1 1", "set B1 =C1+A1", "set C1 =G(A1:B1,A1,5)"],
         ends: &[("B1", "C1", "cycle"), ("C1", "settle A1:B1", "cycle")],
     },
     Sheet {
-        version: Version::One,
         lines: &[
             "set A1 0",
             "set B1 =IF(A1=0,0,A1+VIEW(UPDATE(SHEET(A1:B1),A1,A1-1),B1))",
@@ -86,7 +88,6 @@ const BUDGETS_AND_CYCLES: [Sheet; 3] = [
         ],
     },
     Sheet {
-        version: Version::One,
         lines: &[
             "set D1 0",
             "set A2 =SEQUENCE(1,3)",
@@ -97,6 +98,11 @@ const BUDGETS_AND_CYCLES: [Sheet; 3] = [
     },
 ];
 
+#[test]
+fn budgets_and_cycles(rt: HostRuntime) -> Result<(), Fail> {
+    assert_sheets(&rt, rt.alloc(), &BUDGETS_AND_CYCLES)
+}
+
 const CHOICES: [&str; 4] = [
     "set A1 =IFERROR(10/(SEQUENCE(1,3)-2),0)",
     "set A2 =IF(SEQUENCE(1,2)>0,1,A2)",
@@ -104,27 +110,20 @@ const CHOICES: [&str; 4] = [
     "set A4 =IF(TRUE,1,A4)",
 ];
 
-const CHOICES_BY_VERSION: [Sheet; 2] = [
-    Sheet {
-        version: Version::One,
-        lines: &CHOICES,
-        ends: &[
-            ("A1", "-10 #DIV/0! 10", "-10 #DIV/0! 10"),
-            ("A2", "#VALUE!", "#VALUE!"),
-            ("A3", "#VALUE!", "#VALUE!"),
-            ("A4", "1", "1"),
-        ],
-    },
-    Sheet {
-        version: Version::Two,
-        lines: &CHOICES,
-        ends: &[
-            ("A1", "-10 0 10", "-10 0 10"),
-            ("A2", "A2", "cycle"),
-            ("A3", "1 2", "1 2"),
-            ("A4", "1", "1"),
-        ],
-    },
+/// What they find in version 1, where an array chooses nothing.
+const IN_ONE: [End; 4] = [
+    ("A1", "-10 #DIV/0! 10", "-10 #DIV/0! 10"),
+    ("A2", "#VALUE!", "#VALUE!"),
+    ("A3", "#VALUE!", "#VALUE!"),
+    ("A4", "1", "1"),
+];
+
+/// What they find in version 2.
+const IN_TWO: [End; 4] = [
+    ("A1", "-10 0 10", "-10 0 10"),
+    ("A2", "A2", "cycle"),
+    ("A3", "1 2", "1 2"),
+    ("A4", "1", "1"),
 ];
 
 /// The first evaluation of a cell finds this, and the last one that, where `cycle` is none.
@@ -139,17 +138,17 @@ fn ends(at: Setting<'_>, name: &str, first: &str, last: &str) -> Result<bool, Fa
     }
 }
 
-/// The cells of the sheet are as it says.
-fn holds(alloc: Global, sheet: &Sheet) -> Result<bool, Fail> {
-    let cells = sheet_of(alloc, sheet.lines)?;
+/// In this version evaluations of the cells of a sheet find what they must.
+fn holds(alloc: Global, version: Version, lines: &[&str], all: &[End]) -> Result<bool, Fail> {
+    let cells = sheet_of(alloc, lines)?;
     let w = Oracle::new(alloc);
     let at = Setting {
         alloc,
         cells: &cells,
         w: &w,
-        version: sheet.version,
+        version,
     };
-    for (name, first, last) in sheet.ends {
+    for (name, first, last) in all {
         if !ends(at, name, first, last)? {
             return Ok(false);
         }
@@ -157,26 +156,21 @@ fn holds(alloc: Global, sheet: &Sheet) -> Result<bool, Fail> {
     Ok(true)
 }
 
-#[test]
-fn copies(rt: HostRuntime) -> Result<(), Fail> {
-    for sheet in &COPIES {
-        assert!(rt; holds(rt.alloc(), sheet)?, "{:?}", sheet.lines);
-    }
-    Ok(())
-}
-
-#[test]
-fn budgets_and_cycles(rt: HostRuntime) -> Result<(), Fail> {
-    for sheet in &BUDGETS_AND_CYCLES {
-        assert!(rt; holds(rt.alloc(), sheet)?, "{:?}", sheet.lines);
+/// In version 1 the sheets are as they say.
+fn assert_sheets(rt: &impl Abort, alloc: Global, sheets: &[Sheet]) -> Result<(), Fail> {
+    for sheet in sheets {
+        assert!(rt;
+            holds(alloc, Version::One, sheet.lines, sheet.ends)?,
+            "{:?}",
+            sheet.lines
+        );
     }
     Ok(())
 }
 
 #[test]
 fn choices_by_version(rt: HostRuntime) -> Result<(), Fail> {
-    for sheet in &CHOICES_BY_VERSION {
-        assert!(rt; holds(rt.alloc(), sheet)?, "{:?}", sheet.lines);
-    }
+    assert!(rt; holds(rt.alloc(), Version::One, &CHOICES, &IN_ONE)?);
+    assert!(rt; holds(rt.alloc(), Version::Two, &CHOICES, &IN_TWO)?);
     Ok(())
 }

@@ -1,14 +1,9 @@
 //! Results of many keys, which stay, go and are given back.
-ghost use Rattle.std.specs.Prelude.{◌≤◌, IfOk};
-ghost use Rattle.gl_query.specs.Remembered.{AreTrue};
-ghost use Rattle.gl_calculus.specs.Key.{same_key};
-ghost use Rattle.gl_calculus.specs.Evaluation.{program};
-ghost use Rattle.gl_ast.specs.View.{version_tree};
-ghost use Rattle.gl_cells.specs.Sheet.{sheet};
+ghost use Rattle.std.specs.Prelude.{◌≤◌};
 
 use crate::large::chain;
 use crate::results::kept_after;
-use crate::resumed::run_with;
+use crate::resumed::{by_results, run_with};
 use crate::runs::Sight;
 use gl_cells::Cells;
 use gl_core::Results;
@@ -27,48 +22,19 @@ fn total(alloc: Global) -> Result<Cells, Fail> {
 /// The sum of the numbers up to 10,000.
 const TOTAL: Sight = Sight::Number(50_005_000);
 
-/// The results of the total and all that it reads. They are evaluated from the last key to the
-/// first, so that the total finds all that it needs.
-fn total_results(at: &Setting<'_>) -> Result<Results, Fail>
-    ensures { IfOk result
-        (AreTrue same_key
-        (program (version_tree at.now.version) (sheet at.now.cells.now) at.now.w.now)) }
-{
-    let ran = run_with(at, &["B1", "C1"], Results::new(at.alloc), 1)?;
-    // each formula twice, but for the first and the total
-    if (ran.known, ran.steps) != (10_001, 20_000) || ran.seen.first() != Some(&TOTAL) {
-        return Err("another total".into());
-    }
-    Ok(ran.results)
-}
-
-/// A run of these cells, the first of which is the total, goes by the results alone, and leaves the
-/// same ones. The note of the total wakes it behind each of its 10,000 reads.
-fn by_notes(at: &Setting<'_>, results: Results, names: &[&str], kind: u8) -> Result<Results, Fail>
-    requires kind { kind ≤ 2 }
-    requires true_notes { AreTrue same_key
-        (program (version_tree at.now.version) (sheet at.now.cells.now) at.now.w.now) results }
-    ensures { IfOk result
-        (AreTrue same_key
-        (program (version_tree at.now.version) (sheet at.now.cells.now) at.now.w.now)) }
-{
-    let ran = run_with(at, names, results, kind)?;
-    if (ran.known, ran.steps) != (10_001, 0)
-        || ran.results.len() != 10_001
-        || ran.seen.first() != Some(&TOTAL)
-    {
-        return Err("another run".into());
-    }
-    Ok(ran.results)
-}
-
-/// Runs from the total alone, and from both ends of what it reads, leave so many results.
+/// Runs from the total alone, and from both ends of what it reads, go by the results alone, and leave
+/// so many of them. The note of the total wakes it behind each of its 10,000 reads.
 fn left_by_notes(at: &Setting<'_>, kind: u8) -> Result<usize, Fail>
     requires { kind ≤ 2 }
 {
-    let results = total_results(at)?;
-    let results = by_notes(at, results, &["B1"], kind)?;
-    let results = by_notes(at, results, &["B1", "C1"], kind)?;
+    // from the last key to the first, so that the total finds all that it needs: each formula twice,
+    // but for the first and the total
+    let ran = run_with(at, &["B1", "C1"], Results::new(at.alloc), 1)?;
+    if (ran.known, ran.steps) != (10_001, 20_000) || ran.seen.first() != Some(&TOTAL) {
+        return Err("another total".into());
+    }
+    let results = by_results(at, ran.results, &["B1"], kind, 10_001, TOTAL)?;
+    let results = by_results(at, results, &["B1", "C1"], kind, 10_001, TOTAL)?;
     Ok(results.len())
 }
 
@@ -83,35 +49,23 @@ fn a_note_of_ten_thousand_reads(rt: HostRuntime) -> Result<(), Fail> {
     Ok(())
 }
 
-/// The results that stay where nothing of the chain has changed: all, and a run begins with them by
-/// the rule of this kind, and takes no step.
-fn whole(at: &Setting<'_>, results: Results, kind: u8) -> Result<Results, Fail>
-    requires kind { kind ≤ 2 }
-    requires true_notes { AreTrue same_key
-        (program (version_tree at.now.version) (sheet at.now.cells.now) at.now.w.now) results }
-    ensures { IfOk result
-        (AreTrue same_key
-        (program (version_tree at.now.version) (sheet at.now.cells.now) at.now.w.now)) }
-{
-    let kept = kept_after(at, results, "D1:E9999")?;
-    if kept.len() != 200_039 {
-        return Err("other results".into());
-    }
-    let ran = run_with(at, &["A1"], kept, kind)?;
-    if (ran.known, ran.steps) != (200_039, 0) || ran.seen.first() != Some(&Sight::Number(200_000)) {
-        return Err("another run".into());
-    }
-    Ok(ran.results)
-}
+/// What the first cell of the chain comes to.
+const LAST: Sight = Sight::Number(200_000);
 
-/// How many results of a long chain there are, how many are left behind a run by each rule, and how
-/// many stay where the last formula has changed.
+/// A range that nothing of the chain looks at.
+const APART: &str = "D1:E9999";
+
+/// How many results of a long chain there are, how many are left behind a run by each rule where
+/// nothing of it has changed, and how many stay where the last formula has changed.
 fn chain_kept(at: &Setting<'_>) -> Result<(usize, usize, usize), Fail> {
     let first = run_with(at, &["A1"], Results::new(at.alloc), 0)?;
     let count = first.results.len();
-    let results = whole(at, first.results, 0)?;
-    let results = whole(at, results, 1)?;
-    let results = whole(at, results, 2)?;
+    let kept = kept_after(at, first.results, APART)?;
+    let results = by_results(at, kept, &["A1"], 0, count, LAST)?;
+    let kept = kept_after(at, results, APART)?;
+    let results = by_results(at, kept, &["A1"], 1, count, LAST)?;
+    let kept = kept_after(at, results, APART)?;
+    let results = by_results(at, kept, &["A1"], 2, count, LAST)?;
     let left = results.len();
     let rest = kept_after(at, results, "A5000:A5000")?;
     Ok((count, left, rest.len()))

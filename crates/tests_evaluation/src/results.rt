@@ -97,58 +97,31 @@ fn results_behind(at: &Setting<'_>, names: &[&str], place: &str, kind: u8) -> Re
 
 /// A range, how many notes stay where it has changed, and the steps for each formula of the chain
 /// by each pick rule.
-struct Change {
-    place: &'static str,
-    kept: usize,
-    each: [[u64; 3]; 3],
-}
+type Change = (&'static str, usize, [[u64; 3]; 3]);
 
 const CHANGES: [Change; 6] = [
     // nothing rests on it: all results stay, and no step is taken
-    Change {
-        place: "E5:F9",
-        kept: 3,
-        each: [[0, 0, 0], [0, 0, 0], [0, 0, 0]],
-    },
+    ("E5:F9", 3, [[0, 0, 0], [0, 0, 0], [0, 0, 0]]),
     // by the second rule C1 is evaluated before B1, and once more behind it
-    Change {
-        place: "A1:A1",
-        kept: 1,
-        each: [[1, 1, 0], [1, 2, 0], [1, 1, 0]],
-    },
-    Change {
-        place: "B1:B1",
-        kept: 1,
-        each: [[1, 1, 0], [1, 2, 0], [1, 1, 0]],
-    },
+    ("A1:A1", 1, [[1, 1, 0], [1, 2, 0], [1, 1, 0]]),
+    ("B1:B1", 1, [[1, 1, 0], [1, 2, 0], [1, 1, 0]]),
     // B1 stays, and is known from the start: by no rule is C1 evaluated before it
-    Change {
-        place: "C1:C1",
-        kept: 2,
-        each: [[0, 1, 0], [0, 1, 0], [0, 1, 0]],
-    },
-    Change {
-        place: "D1:D1",
-        kept: 2,
-        each: [[0, 0, 1], [0, 0, 1], [0, 0, 1]],
-    },
-    Change {
-        place: "A1:D1",
-        kept: 0,
-        each: [[1, 1, 1], [1, 2, 1], [1, 1, 1]],
-    },
+    ("C1:C1", 2, [[0, 1, 0], [0, 1, 0], [0, 1, 0]]),
+    ("D1:D1", 2, [[0, 0, 1], [0, 0, 1], [0, 0, 1]]),
+    ("A1:D1", 0, [[1, 1, 1], [1, 2, 1], [1, 1, 1]]),
 ];
 
 /// A run behind the change takes these steps and sees what the first one saw.
 fn goes_on(at: &Setting<'_>, change: &Change, kind: u8) -> Result<bool, Fail>
     requires { kind ≤ 2 }
 {
-    let kept = results_behind(at, &CHAIN, change.place, kind)?;
+    let (place, stay, each) = *change;
+    let kept = results_behind(at, &CHAIN, place, kind)?;
     let count = kept.len();
     let ran = run_with(at, &CHAIN, kept, kind)?;
-    let [b, c, d] = change.each[usize::from(kind)];
+    let [b, c, d] = each[usize::from(kind)];
     Ok(
-        count == change.kept
+        count == stay
             && ran.each.as_slice() == [b, c, d].as_slice()
             && ran.steps == b.saturating_add(c).saturating_add(d)
             && ran.known == 3
@@ -164,7 +137,7 @@ fn what_rests_on_a_change_takes_steps(rt: HostRuntime) -> Result<(), Fail> {
     let at = setting_of(rt.alloc(), &cells, &w);
     for change in &CHANGES {
         for kind in 0u8..3 {
-            assert!(rt; goes_on(&at, change, kind)?, "{} by {kind}", change.place);
+            assert!(rt; goes_on(&at, change, kind)?, "{} by {kind}", change.0);
         }
     }
     Ok(())

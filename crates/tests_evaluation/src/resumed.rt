@@ -138,3 +138,30 @@ pub fn run_with(at: &Setting<'_>, names: &[&str], results: Results, kind: u8) ->
         each,
     })
 }
+
+/// A run of these cells by the rule of a kind goes by true results of so many keys alone, and leaves
+/// as many: it takes no step, and the first cell comes to this.
+pub fn by_results(
+    at: &Setting<'_>,
+    results: Results,
+    names: &[&str],
+    kind: u8,
+    count: usize,
+    first: Sight,
+) -> Result<Results, Fail>
+    requires kind { kind ≤ 2 }
+    requires true_notes { AreTrue same_key
+        (program (version_tree at.now.version) (sheet at.now.cells.now) at.now.w.now) results }
+    ensures { IfOk result
+        (AreTrue same_key
+        (program (version_tree at.now.version) (sheet at.now.cells.now) at.now.w.now)) }
+{
+    let before = results.len();
+    let ran = run_with(at, names, results, kind)?;
+    if (before, ran.results.len(), ran.known, ran.steps) != (count, count, count as u64, 0)
+        || ran.seen.first() != Some(&first)
+    {
+        return Err("another run".into());
+    }
+    Ok(ran.results)
+}

@@ -7,7 +7,7 @@ ghost use Rattle.gl_ast.specs.View.{version_tree};
 ghost use Rattle.gl_cells.specs.Sheet.{sheet};
 
 use crate::results::{kept_after, outcome_of};
-use crate::resumed::run_with;
+use crate::resumed::{by_results, run_with};
 use crate::runs::Sight;
 use gl_cells::Cells;
 use gl_core::Results;
@@ -74,28 +74,6 @@ fn tidied(at: &Setting<'_>, results: Results, name: &str, row: u16) -> Result<Re
     Ok(results)
 }
 
-/// A run of the copy in a row goes by the results alone, and leaves them.
-fn again(
-    at: &Setting<'_>,
-    results: Results,
-    name: &str,
-    row: u16,
-    kind: u8,
-) -> Result<Results, Fail>
-    requires kind { kind ≤ 2 }
-    requires true_notes { AreTrue same_key
-        (program (version_tree at.now.version) (sheet at.now.cells.now) at.now.w.now) results }
-    ensures { IfOk result
-        (AreTrue same_key
-        (program (version_tree at.now.version) (sheet at.now.cells.now) at.now.w.now)) }
-{
-    let ran = run_with(at, &[name], results, kind)?;
-    if (ran.known, ran.steps) != (60, 0) || ran.seen.first() != Some(&copied(row)) {
-        return Err("another run".into());
-    }
-    Ok(ran.results)
-}
-
 /// The results of the copy in a row, behind those of the row before, whose formula is as good as
 /// gone: as many however often they are tidied, and a run goes by them alone.
 fn next(at: &Setting<'_>, results: Results, row: u16, kind: u8) -> Result<Results, Fail>
@@ -112,7 +90,7 @@ fn next(at: &Setting<'_>, results: Results, row: u16, kind: u8) -> Result<Result
     let name = format!(in at.alloc; "D{row}")?;
     let ran = run_with(at, &[name.as_str()], kept, kind)?;
     let tidied = tidied(at, ran.results, name.as_str(), row)?;
-    again(at, tidied, name.as_str(), row, kind)
+    by_results(at, tidied, &[name.as_str()], kind, 60, copied(row))
 }
 
 /// How many results there are behind a hundred rows.

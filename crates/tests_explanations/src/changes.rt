@@ -5,6 +5,8 @@ use crate::settings::{found, verdict_on};
 use gl_cert::Verdict;
 use gl_demand::{Silent, Steps};
 use gl_plane::{Oracle, Permit};
+use std::alloc::Global;
+use std::process::Abort;
 use std::test::Fail;
 use tests_common::{Setting, one_entry, setting_of, sheet_of};
 
@@ -127,57 +129,53 @@ fn said(at: Setting<'_>, name: &str, change: &Change) -> Result<Verdict, Fail> {
     Ok(verdict)
 }
 
-#[test]
-fn changed_notes(rt: HostRuntime) -> Result<(), Fail> {
-    let alloc = rt.alloc();
-    let cells = sheet_of(alloc, &["set A1 =SEQUENCE(2,1)", "set B1 =A2+1"])?;
-    let w = one_entry(alloc, "A1", 2, 1, Permit::Permitted)?;
-    let at = setting_of(alloc, &cells, &w);
-    for (i, change) in CHANGED_NOTES.iter().enumerate() {
-        assert_eq!(rt; said(at, "B1", change)?, change.3, "row {i}");
+/// What is said of the changed certificates of an address of this sheet is what their rows say.
+fn assert_said(
+    rt: &impl Abort,
+    alloc: Global,
+    lines: &[&str],
+    w: &Oracle,
+    name: &str,
+    changes: &[Change],
+) -> Result<(), Fail> {
+    let cells = sheet_of(alloc, lines)?;
+    let at = setting_of(alloc, &cells, w);
+    for (i, change) in changes.iter().enumerate() {
+        assert_eq!(rt; said(at, name, change)?, change.3, "row {i}");
     }
     Ok(())
+}
+
+#[test]
+fn changed_notes(rt: HostRuntime) -> Result<(), Fail> {
+    let lines = ["set A1 =SEQUENCE(2,1)", "set B1 =A2+1"];
+    let w = one_entry(rt.alloc(), "A1", 2, 1, Permit::Permitted)?;
+    assert_said(&rt, rt.alloc(), &lines, &w, "B1", &CHANGED_NOTES)
 }
 
 #[test]
 fn changed_copies(rt: HostRuntime) -> Result<(), Fail> {
-    let alloc = rt.alloc();
-    let cells = sheet_of(
-        alloc,
-        &[
-            "set A1 1",
-            "set B1 =A1+1",
-            "set C1 =VIEW(UPDATE(SHEET(A1:B1),A1,5),B1)",
-        ],
-    )?;
-    let w = Oracle::new(alloc);
-    let at = setting_of(alloc, &cells, &w);
-    for (i, change) in CHANGED_COPIES.iter().enumerate() {
-        assert_eq!(rt; said(at, "C1", change)?, change.3, "row {i}");
-    }
-    Ok(())
+    let lines = [
+        "set A1 1",
+        "set B1 =A1+1",
+        "set C1 =VIEW(UPDATE(SHEET(A1:B1),A1,5),B1)",
+    ];
+    let w = Oracle::new(rt.alloc());
+    assert_said(&rt, rt.alloc(), &lines, &w, "C1", &CHANGED_COPIES)
 }
 
 #[test]
 fn changed_loops(rt: HostRuntime) -> Result<(), Fail> {
-    let alloc = rt.alloc();
-    let cells = sheet_of(
-        alloc,
-        &[
-            "set A1 =B1",
-            "set B1 =A1",
-            "set C1 =IFERROR(A1,7)",
-            "set D1 =E1",
-            "set E1 =D1",
-            "set F1 =1",
-        ],
-    )?;
-    let w = Oracle::new(alloc);
-    let at = setting_of(alloc, &cells, &w);
-    for (i, change) in CHANGED_LOOPS.iter().enumerate() {
-        assert_eq!(rt; said(at, "C1", change)?, change.3, "row {i}");
-    }
-    Ok(())
+    let lines = [
+        "set A1 =B1",
+        "set B1 =A1",
+        "set C1 =IFERROR(A1,7)",
+        "set D1 =E1",
+        "set E1 =D1",
+        "set F1 =1",
+    ];
+    let w = Oracle::new(rt.alloc());
+    assert_said(&rt, rt.alloc(), &lines, &w, "C1", &CHANGED_LOOPS)
 }
 
 /// Of two notes, and of a loop that reads both.
@@ -202,17 +200,9 @@ const CHANGED_BOTH: [Change; 6] = [
 
 #[test]
 fn changed_notes_and_loops(rt: HostRuntime) -> Result<(), Fail> {
-    let alloc = rt.alloc();
-    let cells = sheet_of(
-        alloc,
-        &["set A1 =1+1", "set B1 =A1+1", "set C1 =IF(B1=3,A1+C1,0)"],
-    )?;
-    let w = Oracle::new(alloc);
-    let at = setting_of(alloc, &cells, &w);
-    for (i, change) in CHANGED_BOTH.iter().enumerate() {
-        assert_eq!(rt; said(at, "C1", change)?, change.3, "row {i}");
-    }
-    Ok(())
+    let lines = ["set A1 =1+1", "set B1 =A1+1", "set C1 =IF(B1=3,A1+C1,0)"];
+    let w = Oracle::new(rt.alloc());
+    assert_said(&rt, rt.alloc(), &lines, &w, "C1", &CHANGED_BOTH)
 }
 
 #[test]

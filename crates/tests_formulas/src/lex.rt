@@ -1,9 +1,8 @@
 //! Texts as tokens, and texts that are one literal.
 use gl_lex::{Kind, LexFault, MAX_FORMULA, Sign, Token, literal, tokens};
 use std::alloc::Global;
-use std::process::Abort;
 use std::test::Fail;
-use tests_common::push_times;
+use tests_common::{each_is_read, push_times};
 
 /// A letter for each kind of token; signs as they are written.
 fn letter(kind: &Kind) -> &'static str {
@@ -75,18 +74,11 @@ fn read(alloc: Global, text: &str) -> Result<String, Fail> {
     }
 }
 
-fn assert_reads(rt: &impl Abort, alloc: Global, rows: &[(&str, &str)]) -> Result<(), Fail> {
-    for (text, want) in rows {
-        assert_eq!(rt; read(alloc, text)?.as_str(), *want, "{text}");
-    }
-    Ok(())
-}
-
 #[test]
 fn kinds_of_tokens(rt: HostRuntime) -> Result<(), Fail> {
-    assert_reads(
-        &rt,
+    each_is_read(
         rt.alloc(),
+        read,
         &[
             ("", ""),
             ("   ", ""),
@@ -102,9 +94,9 @@ fn kinds_of_tokens(rt: HostRuntime) -> Result<(), Fail> {
 
 #[test]
 fn kinds_of_signs_and_texts(rt: HostRuntime) -> Result<(), Fail> {
-    assert_reads(
-        &rt,
+    each_is_read(
         rt.alloc(),
+        read,
         &[
             ("A1:B2", "a : a "),
             ("1+A1B2", "i + a a "),
@@ -121,9 +113,9 @@ fn kinds_of_signs_and_texts(rt: HostRuntime) -> Result<(), Fail> {
 
 #[test]
 fn texts_without_tokens(rt: HostRuntime) -> Result<(), Fail> {
-    assert_reads(
-        &rt,
+    each_is_read(
         rt.alloc(),
+        read,
         &[
             ("9223372036854775808", "number 0"),
             ("1+00000000000000000000009223372036854775808", "number 2"),

@@ -2,9 +2,8 @@
 use gl_ast::print;
 use gl_parse::parse;
 use std::alloc::Global;
-use std::process::Abort;
 use std::test::Fail;
-use tests_common::{formula_word, push_times};
+use tests_common::{each_is_read, formula_word, push_times};
 
 /// The canonical text of a formula, or why there is none, in a word.
 fn read(alloc: Global, text: &str) -> Result<String, Fail> {
@@ -14,18 +13,11 @@ fn read(alloc: Global, text: &str) -> Result<String, Fail> {
     }
 }
 
-fn assert_reads(rt: &impl Abort, alloc: Global, rows: &[(&str, &str)]) -> Result<(), Fail> {
-    for (text, want) in rows {
-        assert_eq!(rt; read(alloc, text)?.as_str(), *want, "{text}");
-    }
-    Ok(())
-}
-
 #[test]
 fn constants_and_references(rt: HostRuntime) -> Result<(), Fail> {
-    assert_reads(
-        &rt,
+    each_is_read(
         rt.alloc(),
+        read,
         &[
             (" 1 + ( 2*3 )", "1+2*3"),
             ("(1+2)+3", "(1+2)+3"),
@@ -50,9 +42,9 @@ fn constants_and_references(rt: HostRuntime) -> Result<(), Fail> {
 
 #[test]
 fn operators(rt: HostRuntime) -> Result<(), Fail> {
-    assert_reads(
-        &rt,
+    each_is_read(
         rt.alloc(),
+        read,
         &[
             ("1-(-2)", "1--2"),
             ("1-2-3", "1-2-3"),
@@ -77,9 +69,9 @@ fn operators(rt: HostRuntime) -> Result<(), Fail> {
 
 #[test]
 fn functions_of_elements(rt: HostRuntime) -> Result<(), Fail> {
-    assert_reads(
-        &rt,
+    each_is_read(
         rt.alloc(),
+        read,
         &[
             ("SUM( 1 , 2 )", "SUM(1,2)"),
             ("COUNT(A1:B2,1,NA())", "COUNT(A1:B2,1,NA())"),
@@ -105,9 +97,9 @@ fn functions_of_elements(rt: HostRuntime) -> Result<(), Fail> {
 
 #[test]
 fn functions_of_arrays(rt: HostRuntime) -> Result<(), Fail> {
-    assert_reads(
-        &rt,
+    each_is_read(
         rt.alloc(),
+        read,
         &[
             ("INDEX(A1:C3,1,2)", "INDEX(A1:C3,1,2)"),
             ("SEQUENCE(2,3)", "SEQUENCE(2,3)"),
@@ -125,9 +117,9 @@ fn functions_of_arrays(rt: HostRuntime) -> Result<(), Fail> {
 
 #[test]
 fn functions_of_sheets_and_variables(rt: HostRuntime) -> Result<(), Fail> {
-    assert_reads(
-        &rt,
+    each_is_read(
         rt.alloc(),
+        read,
         &[
             ("NA ( )", "NA()"),
             ("SHEET(A1)", "SHEET(A1)"),
@@ -146,9 +138,9 @@ fn functions_of_sheets_and_variables(rt: HostRuntime) -> Result<(), Fail> {
 
 #[test]
 fn tokens_that_are_refused(rt: HostRuntime) -> Result<(), Fail> {
-    assert_reads(
-        &rt,
+    each_is_read(
         rt.alloc(),
+        read,
         &[
             ("$A1", "token"),
             ("A0", "token"),
@@ -165,9 +157,9 @@ fn tokens_that_are_refused(rt: HostRuntime) -> Result<(), Fail> {
 
 #[test]
 fn syntax_that_is_refused(rt: HostRuntime) -> Result<(), Fail> {
-    assert_reads(
-        &rt,
+    each_is_read(
         rt.alloc(),
+        read,
         &[
             ("", "syntax"),
             ("1 2", "syntax"),
@@ -188,9 +180,9 @@ fn syntax_that_is_refused(rt: HostRuntime) -> Result<(), Fail> {
 
 #[test]
 fn ranges_and_names_that_are_refused(rt: HostRuntime) -> Result<(), Fail> {
-    assert_reads(
-        &rt,
+    each_is_read(
         rt.alloc(),
+        read,
         &[
             ("SUM(A1:ZZ9999)", "range"),
             ("B1:A1", "range"),
@@ -209,9 +201,9 @@ fn ranges_and_names_that_are_refused(rt: HostRuntime) -> Result<(), Fail> {
 
 #[test]
 fn arguments_that_are_refused(rt: HostRuntime) -> Result<(), Fail> {
-    assert_reads(
-        &rt,
+    each_is_read(
         rt.alloc(),
+        read,
         &[
             ("LET(A1,1,2)", "arity"),
             ("ABS(1,2)", "arity"),

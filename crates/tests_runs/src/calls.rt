@@ -6,6 +6,7 @@ use gl_order::{Order, by_kind};
 use gl_port::{MemSink, MemSource};
 use gl_run::{Status, run};
 use std::alloc::Global;
+use std::process::Abort;
 use std::test::Fail;
 
 /// The status of a run without a fault, whose replies are no errors.
@@ -124,4 +125,25 @@ pub fn holds(alloc: Global, row: &Row<'_>) -> Result<bool, Fail> {
         }
     }
     Ok(true)
+}
+
+/// Each script of a table has its replies by the pick rule of this name.
+pub fn assert_rows_by(
+    rt: &impl Abort,
+    alloc: Global,
+    rows: &[Row<'_>],
+    kind: &str,
+) -> Result<(), Fail> {
+    for row in rows {
+        assert!(rt; holds_by(alloc, row, kind)?, "{:?}", row.script);
+    }
+    Ok(())
+}
+
+/// Each script of a table has its replies by each pick rule.
+pub fn assert_rows(rt: &impl Abort, alloc: Global, rows: &[Row<'_>]) -> Result<(), Fail> {
+    for row in rows {
+        assert!(rt; holds(alloc, row)?, "{:?}", row.script);
+    }
+    Ok(())
 }

@@ -1,6 +1,6 @@
 //! Explanations of what addresses show.
-use crate::calls::{Row, holds};
-use crate::long::{Long, Part, long_holds};
+use crate::calls::{Row, assert_rows};
+use crate::long::{Long, Part, assert_long};
 use std::test::Fail;
 
 /// Scripts with explanations.
@@ -128,29 +128,24 @@ const ROWS: [Row<'static>; 20] = [
 
 #[test]
 fn explanations(rt: HostRuntime) -> Result<(), Fail> {
-    for row in &ROWS {
-        assert!(rt; holds(rt.alloc(), row)?, "{:?}", row.script);
-    }
-    Ok(())
+    assert_rows(&rt, rt.alloc(), &ROWS)
 }
 
 /// A total of 300 formulas: their notes stand in the order in which it needs them.
-const TOTAL: Long = Long {
+const TOTAL: [Long; 1] = [Long {
     script: &[
         Part::Lines("set A", 300, " =1+2"),
         Part::Once(b"set B1 =SUM(A1:A300)\nexplain B1\n"),
     ],
     replies: &[
-        Part::Times(b"ok\n", 301),
-        Part::Once(b"explain 301 0\n"),
+        Part::Times(b"", b"ok\n", 301, b"explain 301 0\n"),
         Part::Lines("A", 300, " 3"),
         Part::Once(b"B1 900\nshown 900\naccepted\n"),
     ],
     refused: false,
-};
+}];
 
 #[test]
 fn a_total_is_explained(rt: HostRuntime) -> Result<(), Fail> {
-    assert!(rt; long_holds(rt.alloc(), &TOTAL)?);
-    Ok(())
+    assert_long(&rt, rt.alloc(), &TOTAL)
 }

@@ -1,5 +1,5 @@
 //! Forecasts of whether the calculation settles.
-use crate::calls::{Row, holds};
+use crate::calls::{Row, assert_rows};
 use std::test::Fail;
 
 /// Scripts with forecasts.
@@ -128,10 +128,7 @@ const ROWS: [Row<'static>; 20] = [
 
 #[test]
 fn forecasts(rt: HostRuntime) -> Result<(), Fail> {
-    for row in &ROWS {
-        assert!(rt; holds(rt.alloc(), row)?, "{:?}", row.script);
-    }
-    Ok(())
+    assert_rows(&rt, rt.alloc(), &ROWS)
 }
 
 /// Scripts with arrays whose shapes are told by their formulas.
@@ -218,8 +215,5 @@ const SHAPES: [Row<'static>; 13] = [
 
 #[test]
 fn shapes(rt: HostRuntime) -> Result<(), Fail> {
-    for row in &SHAPES {
-        assert!(rt; holds(rt.alloc(), row)?, "{:?}", row.script);
-    }
-    Ok(())
+    assert_rows(&rt, rt.alloc(), &SHAPES)
 }

@@ -1,5 +1,5 @@
 //! Operators and functions, in both versions.
-use crate::calls::{Row, holds};
+use crate::calls::{Row, assert_rows};
 use std::test::Fail;
 
 /// Operators and functions.
@@ -80,6 +80,11 @@ const FUNCTIONS: [Row<'static>; 15] = [
         refused: false,
     },
 ];
+
+#[test]
+fn functions(rt: HostRuntime) -> Result<(), Fail> {
+    assert_rows(&rt, rt.alloc(), &FUNCTIONS)
+}
 
 /// More functions, and both versions.
 const MORE_FUNCTIONS: [Row<'static>; 16] = [
@@ -166,17 +171,6 @@ const MORE_FUNCTIONS: [Row<'static>; 16] = [
 ];
 
 #[test]
-fn functions(rt: HostRuntime) -> Result<(), Fail> {
-    for row in &FUNCTIONS {
-        assert!(rt; holds(rt.alloc(), row)?, "{:?}", row.script);
-    }
-    Ok(())
-}
-
-#[test]
 fn more_functions(rt: HostRuntime) -> Result<(), Fail> {
-    for row in &MORE_FUNCTIONS {
-        assert!(rt; holds(rt.alloc(), row)?, "{:?}", row.script);
-    }
-    Ok(())
+    assert_rows(&rt, rt.alloc(), &MORE_FUNCTIONS)
 }

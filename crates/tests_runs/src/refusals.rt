@@ -1,5 +1,5 @@
 //! Commands that are refused, and hostile lines.
-use crate::calls::{Row, holds};
+use crate::calls::{Row, assert_rows};
 use std::test::Fail;
 
 /// Refused commands.
@@ -91,6 +91,11 @@ const REFUSED: [Row<'static>; 17] = [
     },
 ];
 
+#[test]
+fn refused_commands(rt: HostRuntime) -> Result<(), Fail> {
+    assert_rows(&rt, rt.alloc(), &REFUSED)
+}
+
 /// Hostile lines.
 const HOSTILE: [Row<'static>; 10] = [
     Row {
@@ -146,17 +151,6 @@ const HOSTILE: [Row<'static>; 10] = [
 ];
 
 #[test]
-fn refused_commands(rt: HostRuntime) -> Result<(), Fail> {
-    for row in &REFUSED {
-        assert!(rt; holds(rt.alloc(), row)?, "{:?}", row.script);
-    }
-    Ok(())
-}
-
-#[test]
 fn hostile_lines(rt: HostRuntime) -> Result<(), Fail> {
-    for row in &HOSTILE {
-        assert!(rt; holds(rt.alloc(), row)?, "{:?}", row.script);
-    }
-    Ok(())
+    assert_rows(&rt, rt.alloc(), &HOSTILE)
 }

@@ -1,5 +1,5 @@
 //! Replicas, undo and redo.
-use crate::calls::{Row, holds};
+use crate::calls::{Row, assert_rows};
 use std::test::Fail;
 
 /// Scripts of replicas, and of steps that are undone and done again.
@@ -89,8 +89,5 @@ const ROWS: [Row<'static>; 14] = [
 
 #[test]
 fn replicas_and_undo(rt: HostRuntime) -> Result<(), Fail> {
-    for row in &ROWS {
-        assert!(rt; holds(rt.alloc(), row)?, "{:?}", row.script);
-    }
-    Ok(())
+    assert_rows(&rt, rt.alloc(), &ROWS)
 }

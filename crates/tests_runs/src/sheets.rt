@@ -1,5 +1,5 @@
 //! Sheets that are calculated, copies of them, and the budgets that they spend.
-use crate::calls::{Row, holds, holds_by};
+use crate::calls::{Row, assert_rows, assert_rows_by};
 use std::test::Fail;
 
 /// Sheets of constants, formulas, ranges and spills.
@@ -86,6 +86,11 @@ const SHEETS: [Row<'static>; 16] = [
     },
 ];
 
+#[test]
+fn sheets(rt: HostRuntime) -> Result<(), Fail> {
+    assert_rows(&rt, rt.alloc(), &SHEETS)
+}
+
 /// Cycles, copies of sheets, and what they spend.
 const COPIES: [Row<'static>; 16] = [
     Row {
@@ -171,19 +176,8 @@ const COPIES: [Row<'static>; 16] = [
 ];
 
 #[test]
-fn sheets(rt: HostRuntime) -> Result<(), Fail> {
-    for row in &SHEETS {
-        assert!(rt; holds(rt.alloc(), row)?, "{:?}", row.script);
-    }
-    Ok(())
-}
-
-#[test]
 fn copies(rt: HostRuntime) -> Result<(), Fail> {
-    for row in &COPIES {
-        assert!(rt; holds(rt.alloc(), row)?, "{:?}", row.script);
-    }
-    Ok(())
+    assert_rows(&rt, rt.alloc(), &COPIES)
 }
 
 /// What a calculation shows one by one, and the budgets that it spends.
@@ -210,6 +204,11 @@ const BUDGETS: [Row<'static>; 4] = [
     },
 ];
 
+#[test]
+fn budgets(rt: HostRuntime) -> Result<(), Fail> {
+    assert_rows(&rt, rt.alloc(), &BUDGETS)
+}
+
 /// As many demanded keys as may be known, and one more; and twice as many.
 const WORK: [Row<'static>; 2] = [
     Row {
@@ -225,33 +224,16 @@ const WORK: [Row<'static>; 2] = [
 ];
 
 #[test]
-fn budgets(rt: HostRuntime) -> Result<(), Fail> {
-    for row in &BUDGETS {
-        assert!(rt; holds(rt.alloc(), row)?, "{:?}", row.script);
-    }
-    Ok(())
-}
-
-#[test]
 fn work_by_the_first(rt: HostRuntime) -> Result<(), Fail> {
-    for row in &WORK {
-        assert!(rt; holds_by(rt.alloc(), row, "first")?, "{:?}", row.script);
-    }
-    Ok(())
+    assert_rows_by(&rt, rt.alloc(), &WORK, "first")
 }
 
 #[test]
 fn work_by_the_last(rt: HostRuntime) -> Result<(), Fail> {
-    for row in &WORK {
-        assert!(rt; holds_by(rt.alloc(), row, "last")?, "{:?}", row.script);
-    }
-    Ok(())
+    assert_rows_by(&rt, rt.alloc(), &WORK, "last")
 }
 
 #[test]
 fn work_by_turns(rt: HostRuntime) -> Result<(), Fail> {
-    for row in &WORK {
-        assert!(rt; holds_by(rt.alloc(), row, "turn")?, "{:?}", row.script);
-    }
-    Ok(())
+    assert_rows_by(&rt, rt.alloc(), &WORK, "turn")
 }

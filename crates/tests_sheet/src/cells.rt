@@ -8,7 +8,7 @@ use gl_plane::{Addr, Range, whole_grid};
 use gl_value::Scalar;
 use std::alloc::Global;
 use std::test::Fail;
-use tests_common::{address, content_of, range, scalar_text};
+use tests_common::{address, content_of, each_is_read, range, scalar_text};
 
 fn at(col: u16, row: u16) -> Result<Addr, Fail> {
     Addr::new(col, row).ok_or_else(|| Fail::new("off the grid"))
@@ -144,21 +144,22 @@ fn told(alloc: Global, text: &str) -> Result<String, Fail> {
 
 #[test]
 fn plain_texts(rt: HostRuntime) -> Result<(), Fail> {
-    for (text, want) in [
-        ("007", "7"),
-        ("-0", "0"),
-        ("9223372036854775807", "9223372036854775807"),
-        ("-9223372036854775808", "-9223372036854775808"),
-        ("9223372036854775808", "\"9223372036854775808\""),
-        ("-9223372036854775809", "\"-9223372036854775809\""),
-        ("-", "\"-\""),
-        ("+1", "\"+1\""),
-        ("1.0", "\"1.0\""),
-        ("TRUE", "TRUE"),
-        ("FALSE", "FALSE"),
-        ("true", "\"true\""),
-    ] {
-        assert_eq!(rt; told(rt.alloc(), text)?.as_str(), want, "{text}");
-    }
-    Ok(())
+    each_is_read(
+        rt.alloc(),
+        told,
+        &[
+            ("007", "7"),
+            ("-0", "0"),
+            ("9223372036854775807", "9223372036854775807"),
+            ("-9223372036854775808", "-9223372036854775808"),
+            ("9223372036854775808", "\"9223372036854775808\""),
+            ("-9223372036854775809", "\"-9223372036854775809\""),
+            ("-", "\"-\""),
+            ("+1", "\"+1\""),
+            ("1.0", "\"1.0\""),
+            ("TRUE", "TRUE"),
+            ("FALSE", "FALSE"),
+            ("true", "\"true\""),
+        ],
+    )
 }

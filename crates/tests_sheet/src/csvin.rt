@@ -5,9 +5,8 @@ use gl_csvin::contents;
 use gl_plane::Addr;
 use gl_views::content_text;
 use std::alloc::Global;
-use std::process::Abort;
 use std::test::Fail;
-use tests_common::address;
+use tests_common::{address, each_is_read};
 
 /// The contents of a payload, with `; ` between them.
 fn told(alloc: Global, payload: &str) -> Result<String, Fail> {
@@ -24,18 +23,11 @@ fn told(alloc: Global, payload: &str) -> Result<String, Fail> {
     Ok(out)
 }
 
-fn assert_told(rt: &impl Abort, alloc: Global, rows: &[(&str, &str)]) -> Result<(), Fail> {
-    for (payload, want) in rows {
-        assert_eq!(rt; told(alloc, payload)?.as_str(), *want, "{payload}");
-    }
-    Ok(())
-}
-
 #[test]
 fn fields_of_payloads(rt: HostRuntime) -> Result<(), Fail> {
-    assert_told(
-        &rt,
+    each_is_read(
         rt.alloc(),
+        told,
         &[
             ("-7,\"a\nb\"\n,=A9\n", "B2 -7; C2 \"a\\nb\"; C3 \"=A9\""),
             (
@@ -54,9 +46,9 @@ fn fields_of_payloads(rt: HostRuntime) -> Result<(), Fail> {
 
 #[test]
 fn line_ends_and_quotes(rt: HostRuntime) -> Result<(), Fail> {
-    assert_told(
-        &rt,
+    each_is_read(
         rt.alloc(),
+        told,
         &[
             // each kind of line end, and empty lines
             (

@@ -1,16 +1,17 @@
 //! Functions on arrays, by the texts of their arguments and of what they come to.
-use crate::calls::assert_calls;
+use crate::calls::called;
 use crate::values::value;
 use gl_arrays::sequence;
 use gl_value::{Scalar, Value};
 use std::alloc::Global;
 use std::test::Fail;
+use tests_common::each_is_read;
 
 #[test]
 fn sequences(rt: HostRuntime) -> Result<(), Fail> {
-    assert_calls(
-        &rt,
+    each_is_read(
         rt.alloc(),
+        called,
         &[
             ("SEQUENCE 2; 3", "{1 2 3 / 4 5 6}"),
             ("SEQUENCE 10001; 1", "#SIZE!"),
@@ -49,9 +50,9 @@ fn the_longest_sequence(rt: HostRuntime) -> Result<(), Fail> {
 
 #[test]
 fn rows_and_columns(rt: HostRuntime) -> Result<(), Fail> {
-    assert_calls(
-        &rt,
+    each_is_read(
         rt.alloc(),
+        called,
         &[
             ("TRANSPOSE {1 2 3 / 4 5 6}", "{1 4 / 2 5 / 3 6}"),
             ("ROWS {1 4 / 2 5 / 3 6}", "3"),
@@ -70,9 +71,9 @@ fn rows_and_columns(rt: HostRuntime) -> Result<(), Fail> {
 
 #[test]
 fn indexes(rt: HostRuntime) -> Result<(), Fail> {
-    assert_calls(
-        &rt,
+    each_is_read(
         rt.alloc(),
+        called,
         &[
             ("INDEX {1 2 / 3 4}; 1; 1", "1"),
             ("INDEX {1 2 / 3 4}; 1; 2", "2"),
@@ -91,9 +92,9 @@ fn indexes(rt: HostRuntime) -> Result<(), Fail> {
 
 #[test]
 fn lookups(rt: HostRuntime) -> Result<(), Fail> {
-    assert_calls(
-        &rt,
+    each_is_read(
         rt.alloc(),
+        called,
         &[
             ("LOOKUP 5; {5 / . / 5}; {1 / 2 / 3}", "1"),
             ("LOOKUP 0; {5 / . / 5}; {1 / 2 / 3}", "2"),
@@ -107,9 +108,9 @@ fn lookups(rt: HostRuntime) -> Result<(), Fail> {
 
 #[test]
 fn parts_taken(rt: HostRuntime) -> Result<(), Fail> {
-    assert_calls(
-        &rt,
+    each_is_read(
         rt.alloc(),
+        called,
         &[
             ("TAKE {1 2 3 / 4 5 6 / 7 8 9}; 2; -1", "{3 / 6}"),
             ("TAKE {1 2 3 / 4 5 6 / 7 8 9}; -2; 9", "{4 5 6 / 7 8 9}"),
@@ -126,9 +127,9 @@ fn parts_taken(rt: HostRuntime) -> Result<(), Fail> {
 
 #[test]
 fn parts_left(rt: HostRuntime) -> Result<(), Fail> {
-    assert_calls(
-        &rt,
+    each_is_read(
         rt.alloc(),
+        called,
         &[
             ("DROP {1 2 3 / 4 5 6 / 7 8 9}; 1; -2", "{4 / 7}"),
             ("DROP {1 2 3 / 4 5 6}; .; 0", "{1 2 3 / 4 5 6}"),
@@ -147,9 +148,9 @@ fn parts_left(rt: HostRuntime) -> Result<(), Fail> {
 
 #[test]
 fn stacks(rt: HostRuntime) -> Result<(), Fail> {
-    assert_calls(
-        &rt,
+    each_is_read(
         rt.alloc(),
+        called,
         &[
             ("HSTACK {1 / 2}; 9", "{1 9 / 2 #N/A}"),
             ("VSTACK {1 2}; 9", "{1 2 / 9 #N/A}"),
@@ -159,9 +160,9 @@ fn stacks(rt: HostRuntime) -> Result<(), Fail> {
 
 #[test]
 fn filters(rt: HostRuntime) -> Result<(), Fail> {
-    assert_calls(
-        &rt,
+    each_is_read(
         rt.alloc(),
+        called,
         &[
             ("FILTER {1 / 2 / 3}; {TRUE / . / TRUE}", "{1 / 3}"),
             ("FILTER {1 / 2 / 3}; {TRUE / #NUM! / #N/A}", "#NUM!"),
@@ -175,9 +176,9 @@ fn filters(rt: HostRuntime) -> Result<(), Fail> {
 
 #[test]
 fn distinct_rows(rt: HostRuntime) -> Result<(), Fail> {
-    assert_calls(
-        &rt,
+    each_is_read(
         rt.alloc(),
+        called,
         &[
             ("UNIQUE {0 / . / 0}", "{0 / .}"),
             ("UNIQUE {1 / 1 / 2}", "{1 / 2}"),

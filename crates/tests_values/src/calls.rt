@@ -9,7 +9,6 @@ use gl_funs::{
 };
 use gl_value::{Scalar, Value};
 use std::alloc::Global;
-use std::process::Abort;
 use std::test::Fail;
 
 fn over_elements(name: &str, values: &[Value]) -> Result<Scalar, Fail> {
@@ -142,17 +141,9 @@ fn answer(alloc: Global, name: &str, v: &[Value]) -> Result<Value, Fail> {
 }
 
 /// What a call comes to: a function's name, and behind a space its arguments.
-fn called(alloc: Global, call: &str) -> Result<String, Fail> {
+pub fn called(alloc: Global, call: &str) -> Result<String, Fail> {
     let Some((name, arguments)) = call.split_once(' ') else {
         return Err(Fail::new("no call"));
     };
     told(alloc, &answer(alloc, name, &values(alloc, arguments)?)?)
-}
-
-/// Each call comes to the text behind it.
-pub fn assert_calls(rt: &impl Abort, alloc: Global, rows: &[(&str, &str)]) -> Result<(), Fail> {
-    for (call, want) in rows {
-        assert_eq!(rt; called(alloc, call)?.as_str(), *want, "{call}");
-    }
-    Ok(())
 }

@@ -1,12 +1,13 @@
 //! Functions of elements and of scalars, by the texts of their arguments and of their results.
-use crate::calls::assert_calls;
+use crate::calls::called;
 use std::test::Fail;
+use tests_common::each_is_read;
 
 #[test]
 fn sums(rt: HostRuntime) -> Result<(), Fail> {
-    assert_calls(
-        &rt,
+    each_is_read(
         rt.alloc(),
+        called,
         &[
             ("SUM ", "0"),
             ("SUM 1; \"a\"; TRUE; 2", "3"),
@@ -25,9 +26,9 @@ fn sums(rt: HostRuntime) -> Result<(), Fail> {
 
 #[test]
 fn counts(rt: HostRuntime) -> Result<(), Fail> {
-    assert_calls(
-        &rt,
+    each_is_read(
         rt.alloc(),
+        called,
         &[
             ("COUNT ", "0"),
             ("COUNT 1; #N/A; 2", "2"),
@@ -39,9 +40,9 @@ fn counts(rt: HostRuntime) -> Result<(), Fail> {
 
 #[test]
 fn least_and_greatest(rt: HostRuntime) -> Result<(), Fail> {
-    assert_calls(
-        &rt,
+    each_is_read(
         rt.alloc(),
+        called,
         &[
             ("MIN ", "0"),
             ("MIN .; \"a\"", "0"),
@@ -59,9 +60,9 @@ fn least_and_greatest(rt: HostRuntime) -> Result<(), Fail> {
 
 #[test]
 fn all_and_any(rt: HostRuntime) -> Result<(), Fail> {
-    assert_calls(
-        &rt,
+    each_is_read(
         rt.alloc(),
+        called,
         &[
             ("AND ", "#VALUE!"),
             ("AND .", "#VALUE!"),
@@ -81,9 +82,9 @@ fn all_and_any(rt: HostRuntime) -> Result<(), Fail> {
 
 #[test]
 fn truths_and_tests(rt: HostRuntime) -> Result<(), Fail> {
-    assert_calls(
-        &rt,
+    each_is_read(
         rt.alloc(),
+        called,
         &[
             ("NOT TRUE", "FALSE"),
             ("NOT FALSE", "TRUE"),
@@ -105,9 +106,9 @@ fn truths_and_tests(rt: HostRuntime) -> Result<(), Fail> {
 
 #[test]
 fn sizes_of_numbers_and_remainders(rt: HostRuntime) -> Result<(), Fail> {
-    assert_calls(
-        &rt,
+    each_is_read(
         rt.alloc(),
+        called,
         &[
             ("ABS -7", "7"),
             ("ABS 7", "7"),
@@ -138,9 +139,9 @@ fn sizes_of_numbers_and_remainders(rt: HostRuntime) -> Result<(), Fail> {
 
 #[test]
 fn lengths(rt: HostRuntime) -> Result<(), Fail> {
-    assert_calls(
-        &rt,
+    each_is_read(
         rt.alloc(),
+        called,
         &[
             ("LEN \"\u{e9}\"", "1"),
             ("LEN \"\u{1f600}\u{e9}x\"", "3"),
@@ -160,9 +161,9 @@ fn lengths(rt: HostRuntime) -> Result<(), Fail> {
 
 #[test]
 fn beginnings(rt: HostRuntime) -> Result<(), Fail> {
-    assert_calls(
-        &rt,
+    each_is_read(
         rt.alloc(),
+        called,
         &[
             ("LEFT \"gridlet\"; 4", "\"grid\""),
             ("LEFT \"\u{e9}\u{1f600}x\"; 2", "\"\u{e9}\u{1f600}\""),
@@ -184,9 +185,9 @@ fn beginnings(rt: HostRuntime) -> Result<(), Fail> {
 
 #[test]
 fn ends(rt: HostRuntime) -> Result<(), Fail> {
-    assert_calls(
-        &rt,
+    each_is_read(
         rt.alloc(),
+        called,
         &[
             ("RIGHT \"gridlet\"; 3", "\"let\""),
             ("RIGHT \"x\u{e9}\u{1f600}\"; 2", "\"\u{e9}\u{1f600}\""),

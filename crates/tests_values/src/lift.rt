@@ -7,24 +7,24 @@ use std::alloc::Global;
 use std::process::Abort;
 use std::test::Fail;
 
-/// Ten of the first and one of the second; no number is `#VALUE!`.
-fn joined(x: &Scalar, y: &Scalar) -> Result<Scalar, NoMemory> {
+/// So many of the first and one of the second; no number is `#VALUE!`.
+fn joined(times: i64, x: &Scalar, y: &Scalar) -> Result<Scalar, NoMemory> {
     match (x, y) {
-        (Scalar::Int(m), Scalar::Int(n)) => Ok(Scalar::Int(m.wrapping_mul(10).wrapping_add(*n))),
+        (Scalar::Int(m), Scalar::Int(n)) => Ok(Scalar::Int(m.wrapping_mul(times).wrapping_add(*n))),
         _ => Ok(Scalar::Err(ErrKind::Value)),
     }
 }
 
-fn both(alloc: Global, u: &str, v: &str) -> Result<String, Fail> {
+fn both(alloc: Global, times: i64, u: &str, v: &str) -> Result<String, Fail> {
     let u = value(alloc, u)?;
     let v = value(alloc, v)?;
-    let w = lift2(alloc, &u, &v, |x: &Scalar, y: &Scalar| joined(x, y))?;
+    let w = lift2(alloc, &u, &v, |x: &Scalar, y: &Scalar| joined(times, x, y))?;
     told(alloc, &w)
 }
 
 fn assert_both(rt: &impl Abort, alloc: Global, rows: &[(&str, &str, &str)]) -> Result<(), Fail> {
     for (u, v, want) in rows {
-        assert_eq!(rt; both(alloc, u, v)?.as_str(), *want, "{u} {v}");
+        assert_eq!(rt; both(alloc, 10, u, v)?.as_str(), *want, "{u} {v}");
     }
     Ok(())
 }
@@ -59,33 +59,18 @@ fn extents_of_one_repeat(rt: HostRuntime) -> Result<(), Fail> {
     )
 }
 
-/// The sum of two numbers; no number is `#VALUE!`.
-fn plus(x: &Scalar, y: &Scalar) -> Result<Scalar, NoMemory> {
-    match (x, y) {
-        (Scalar::Int(m), Scalar::Int(n)) => Ok(Scalar::Int(m.wrapping_add(*n))),
-        _ => Ok(Scalar::Err(ErrKind::Value)),
-    }
-}
-
-fn summed(alloc: Global, u: &str, v: &str) -> Result<String, Fail> {
-    let u = value(alloc, u)?;
-    let v = value(alloc, v)?;
-    let w = lift2(alloc, &u, &v, |x: &Scalar, y: &Scalar| plus(x, y))?;
-    told(alloc, &w)
-}
-
 #[test]
 fn sums_of_sequences(rt: HostRuntime) -> Result<(), Fail> {
-    let table = summed(rt.alloc(), "{1 / 2}", "{1 2 3}")?;
+    let table = both(rt.alloc(), 1, "{1 / 2}", "{1 2 3}")?;
     assert_eq!(rt; table.as_str(), "{2 3 4 / 3 4 5}");
-    let column = summed(rt.alloc(), "{1 / 2}", "{1 / 2 / 3}")?;
+    let column = both(rt.alloc(), 1, "{1 / 2}", "{1 / 2 / 3}")?;
     assert_eq!(rt; column.as_str(), "{2 / 4 / #N/A}");
     Ok(())
 }
 
 fn ten_of(alloc: Global, v: &str) -> Result<String, Fail> {
     let v = value(alloc, v)?;
-    let w = lift1(alloc, &v, |x: &Scalar| joined(x, &Scalar::Int(0)))?;
+    let w = lift1(alloc, &v, |x: &Scalar| joined(10, x, &Scalar::Int(0)))?;
     told(alloc, &w)
 }
 
@@ -97,7 +82,7 @@ fn two_of_three(alloc: Global, v: &str) -> Result<String, Fail> {
         &v,
         &v,
         &v,
-        |x: &Scalar, y: &Scalar, _: &Scalar| joined(x, y),
+        |x: &Scalar, y: &Scalar, _: &Scalar| joined(10, x, y),
     )?;
     told(alloc, &w)
 }

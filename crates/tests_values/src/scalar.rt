@@ -7,7 +7,7 @@ use std::alloc::Global;
 use std::process::Abort;
 use std::rc::RcStr;
 use std::test::Fail;
-use tests_common::{scalar, scalar_text, text};
+use tests_common::{each_is_read, scalar, scalar_text, text};
 
 fn operate(alloc: Global, op: Op, x: &Scalar, y: &Scalar) -> Result<Scalar, NoMemory> {
     match op {
@@ -190,18 +190,19 @@ fn negated(alloc: Global, x: &str) -> Result<String, Fail> {
 
 #[test]
 fn the_sign_of_every_kind(rt: HostRuntime) -> Result<(), Fail> {
-    for (x, want) in [
-        (".", "0"),
-        ("7", "-7"),
-        ("\"a\"", "#VALUE!"),
-        ("TRUE", "#VALUE!"),
-        ("#N/A", "#N/A"),
-        ("sheet(A1:A1)", "#VALUE!"),
-        ("-9223372036854775808", "#NUM!"),
-    ] {
-        assert_eq!(rt; negated(rt.alloc(), x)?.as_str(), want, "{x}");
-    }
-    Ok(())
+    each_is_read(
+        rt.alloc(),
+        negated,
+        &[
+            (".", "0"),
+            ("7", "-7"),
+            ("\"a\"", "#VALUE!"),
+            ("TRUE", "#VALUE!"),
+            ("#N/A", "#N/A"),
+            ("sheet(A1:A1)", "#VALUE!"),
+            ("-9223372036854775808", "#NUM!"),
+        ],
+    )
 }
 
 fn assert_told(
