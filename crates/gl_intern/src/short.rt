@@ -3,7 +3,7 @@
 use gl_plane::{Addr, Range};
 
 /// A scalar: an integer itself, else its place among the plain scalars or the sheet values.
-#[derive(Clone, Copy, PartialEq, Eq, Debug)]
+#[derive(Clone, Copy, PartialEq, Eq)]
 pub enum ShortScalar {
     Int(i64),
     Plain(usize),
@@ -12,7 +12,7 @@ pub enum ShortScalar {
 
 /// A value: a scalar, the place of an array without sheet values, or how many rows and columns
 /// another array has, and the place of its last item.
-#[derive(Clone, Copy, PartialEq, Eq, Debug)]
+#[derive(Clone, Copy, PartialEq, Eq)]
 pub enum ShortValue {
     One(ShortScalar),
     Array(usize),
@@ -20,14 +20,14 @@ pub enum ShortValue {
 }
 
 /// An item of an array behind those before it, which end at a place.
-#[derive(Clone, Copy, PartialEq, Eq, Debug)]
+#[derive(Clone, Copy, PartialEq, Eq)]
 pub struct ShortItem {
     pub before: Option<usize>,
     pub item: ShortScalar,
 }
 
 /// An override behind those before it, which end at a place.
-#[derive(Clone, Copy, PartialEq, Eq, Debug)]
+#[derive(Clone, Copy, PartialEq, Eq)]
 pub struct ShortOverride {
     pub before: Option<usize>,
     pub at: Addr,
@@ -35,7 +35,7 @@ pub struct ShortOverride {
 }
 
 /// A sheet value: the place of its parent frame, none for the top, and its last override.
-#[derive(Clone, Copy, PartialEq, Eq, Debug)]
+#[derive(Clone, Copy, PartialEq, Eq)]
 pub struct ShortSheet {
     pub parent: Option<usize>,
     pub last: Option<ShortOverride>,
@@ -45,7 +45,7 @@ pub struct ShortSheet {
 }
 
 /// A frame but the top: the place of its oracle, and its sheet value.
-#[derive(Clone, Copy, PartialEq, Eq, Debug)]
+#[derive(Clone, Copy, PartialEq, Eq)]
 pub struct ShortFrame {
     pub oracle: usize,
     pub sheet: ShortSheet,
