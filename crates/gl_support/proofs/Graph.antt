@@ -1,6 +1,8 @@
 -- Edges that are added to a graph.
-use Rattle.std.proofs.Common.{All, ◌≡◌, ◌∙◌, ℕ, zero, suc, ◌<◌, ◌||◌, ◌&&◌, nat_eq, Bool, true, false, cond, List, [], ◌∷◌, ◌++◌, length, get_or, Vec, refl, sym, ap, arith}
+use Rattle.std.proofs.Common.{All, ◌≡◌, ◌∙◌, ℕ, zero, suc, ◌<◌, ◌||◌, ◌&&◌, nat_eq, Bool, true, false, cond, List, [], ◌∷◌, ◌++◌, ◌+◌, take, length, get_or, Vec, refl, sym, ap, arith}
+use Rattle.std.specs.List.{list_any}
 use Rattle.std.proofs.lemmas.List.{length-set}
+use Rattle.std.proofs.lemmas.List.Folds.{list_any_more}
 use Rattle.std.proofs.lemmas.List.Elements.{All-append}
 use Rattle.std.proofs.Math.Dec.{eqb-suc-zero, eqb-zero-suc, eqb-suc-suc}
 use Rattle.std.proofs.Math.ListN.{set}
@@ -60,3 +62,7 @@ joined false true here all b e = rw e (twice b here)
     twice false true = refl
     twice false false = refl
 joined false false here all b e = rw e refl
+
+-- a test that holds of one of the items so far, with the next one
+pub any_step : {X : Type 0} (p : X → Bool) (xs : List X) (i : ℕ) (x : X) (before after : Bool) → i < length xs → x ≡ get_or xs i x → before ≡ list_any p (take i xs) → after ≡ (before || p x) → after ≡ list_any p (take (i + 1) xs)
+any_step p xs i x before after h is old new = new ∙ ap (λ b. b || p x) old ∙ ap (λ y. list_any p (take i xs) || p y) is ∙ sym (list_any_more p xs i x h)
