@@ -7,7 +7,7 @@ use gl_plane::Addr;
 use std::marker::Model;
 
 /// The rows and columns of an area, from the first to the last.
-#[derive(Clone, Copy, PartialEq, Eq, Debug)]
+#[derive(Clone, Copy)]
 pub struct Area {
     pub top: u32,
     pub left: u32,

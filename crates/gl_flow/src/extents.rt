@@ -11,7 +11,7 @@ use std::marker::Model;
 pub const MOST: u16 = gl_plane::MAX_CELLS as u16;
 
 /// Rows and columns.
-#[derive(Clone, Copy, PartialEq, Eq, Debug)]
+#[derive(Clone, Copy)]
 pub struct Extents {
     pub rows: u16,
     pub cols: u16,

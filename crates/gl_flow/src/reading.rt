@@ -17,7 +17,7 @@ use gl_plane::{Addr, NoMemory, Range};
 use std::alloc::Global;
 
 /// A range or an address that is read, or `a#`.
-#[derive(Clone, Copy, PartialEq, Eq, Debug)]
+#[derive(Clone, Copy)]
 pub enum Piece {
     Reads(Range),
     Spills(Addr),
@@ -32,7 +32,10 @@ fn pieces(list: &mut Vec<Piece>, f: &Formula) -> Result<(), NoMemory>
         ≡ piece_trees list.old.items ++ without_calls (Fo.pieces (formula_tree f.now))) }
 {
     match f {
-        Formula::Int(_) | Formula::Text(_) | Formula::Bool(_) | Formula::Var(_) => Ok(()),
+        Formula::Int(_) => Ok(()),
+        Formula::Text(_) => Ok(()),
+        Formula::Bool(_) => Ok(()),
+        Formula::Var(_) => Ok(()),
         Formula::At(a) => push(list, Piece::Reads(Range::new(*a, *a))),
         Formula::Spill(a) => push(list, Piece::Spills(*a)),
         Formula::Area(r) => push(list, Piece::Reads(*r)),

@@ -129,17 +129,17 @@ fn written(f: &Formula) -> Option<u16>
 {
     match f {
         Formula::Int(n) => extent(*n),
-        Formula::Text(_)
-        | Formula::Bool(_)
-        | Formula::At(_)
-        | Formula::Spill(_)
-        | Formula::Area(_)
-        | Formula::Var(_)
-        | Formula::Neg(_)
-        | Formula::Chain(_, _, _)
-        | Formula::Compare(_, _, _)
-        | Formula::Call(_, _)
-        | Formula::Let(_, _, _) => None,
+        Formula::Text(_) => None,
+        Formula::Bool(_) => None,
+        Formula::At(_) => None,
+        Formula::Spill(_) => None,
+        Formula::Area(_) => None,
+        Formula::Var(_) => None,
+        Formula::Neg(_) => None,
+        Formula::Chain(_, _, _) => None,
+        Formula::Compare(_, _, _) => None,
+        Formula::Call(_, _) => None,
+        Formula::Let(_, _, _) => None,
     }
 }
 
@@ -201,7 +201,10 @@ pub fn shape(
         (bindings_of bindings.now) (formula_tree f.now)) }
 {
     match f {
-        Formula::Int(_) | Formula::Text(_) | Formula::Bool(_) | Formula::At(_) => Ok(None),
+        Formula::Int(_) => Ok(None),
+        Formula::Text(_) => Ok(None),
+        Formula::Bool(_) => Ok(None),
+        Formula::At(_) => Ok(None),
         Formula::Spill(a) => Ok(spilled.at(*a)),
         Formula::Area(r) => Ok(Some(extents_of(r))),
         Formula::Var(name) => Ok(bound(bindings, name)),

@@ -23,13 +23,13 @@ pub fn makes_sheets(f: &Formula) -> bool
     ensures { result ≡ list_any Fo.piece_makes (Fo.pieces (formula_tree f.now)) }
 {
     match f {
-        Formula::Int(_)
-        | Formula::Text(_)
-        | Formula::Bool(_)
-        | Formula::At(_)
-        | Formula::Spill(_)
-        | Formula::Area(_)
-        | Formula::Var(_) => false,
+        Formula::Int(_) => false,
+        Formula::Text(_) => false,
+        Formula::Bool(_) => false,
+        Formula::At(_) => false,
+        Formula::Spill(_) => false,
+        Formula::Area(_) => false,
+        Formula::Var(_) => false,
         Formula::Neg(g) => makes_sheets(g),
         Formula::Chain(_, g, rest) => either(makes_sheets(g), operands(rest)),
         Formula::Compare(_, g, h) => either(makes_sheets(g), makes_sheets(h)),

@@ -1,4 +1,6 @@
-use Rattle.gl_ast.specs.View.{argument_trees, operand_trees}
+use Rattle.std.proofs.Common.{ap, sym, ◌∙◌}
+use Rattle.gl_ast.specs.View.{formula_tree, argument_trees, operand_trees}
+use Rattle.gl_ast.specs.Forms.{formula_tree-Int, formula_tree-Text, formula_tree-Bool, formula_tree-At}
 use Rattle.gl_forecast.specs.Forecast as Fo
 use Rattle.gl_flow.specs.Shapes.{bindings_of, spilled_at}
 use Rattle.gl_flow.proofs.Joining.{joining_starts, stacking_starts}
@@ -18,3 +20,27 @@ pub stack-loop-x-init : goal.stack-loop-x-init
 stack-loop-x-init t c =
     let s = c.args.spilled.now in
     stacking_starts c.args.flip (Fo.shapes (spilled_at s.any s.places.now s.shapes.now) (bindings_of c.args.bindings.now) (argument_trees c.args.xs.now))
+
+pub shape-returns-in-Int : goal.shape-returns-in-Int
+shape-returns-in-Int t c =
+    let s = c.args.spilled.now in
+    let shape = Fo.shape (spilled_at s.any s.places.now s.shapes.now) (bindings_of c.args.bindings.now) in
+    sym (ap (λ f. shape (formula_tree f)) c.in-Int.is ∙ ap shape (formula_tree-Int _))
+
+pub shape-returns-in-Text : goal.shape-returns-in-Text
+shape-returns-in-Text t c =
+    let s = c.args.spilled.now in
+    let shape = Fo.shape (spilled_at s.any s.places.now s.shapes.now) (bindings_of c.args.bindings.now) in
+    sym (ap (λ f. shape (formula_tree f)) c.in-Text.is ∙ ap shape (formula_tree-Text _))
+
+pub shape-returns-in-Bool : goal.shape-returns-in-Bool
+shape-returns-in-Bool t c =
+    let s = c.args.spilled.now in
+    let shape = Fo.shape (spilled_at s.any s.places.now s.shapes.now) (bindings_of c.args.bindings.now) in
+    sym (ap (λ f. shape (formula_tree f)) c.in-Bool.is ∙ ap shape (formula_tree-Bool _))
+
+pub shape-returns-in-At : goal.shape-returns-in-At
+shape-returns-in-At t c =
+    let s = c.args.spilled.now in
+    let shape = Fo.shape (spilled_at s.any s.places.now s.shapes.now) (bindings_of c.args.bindings.now) in
+    sym (ap (λ f. shape (formula_tree f)) c.in-At.is ∙ ap shape (formula_tree-At _))
