@@ -89,11 +89,6 @@ const BESIDE_ARRAYS: [Row; 7] = [
     },
 ];
 
-#[test]
-fn what_is_kept_takes_no_step(rt: HostRuntime) -> Result<(), Fail> {
-    assert_rows(&rt, rt.alloc(), &BESIDE_ARRAYS)
-}
-
 /// A ring that is broken, and made again.
 const A_RING: [Row; 4] = [
     Row {
@@ -125,11 +120,6 @@ const A_RING: [Row; 4] = [
         most: 6,
     },
 ];
-
-#[test]
-fn a_ring_is_broken_and_made_again(rt: HostRuntime) -> Result<(), Fail> {
-    assert_rows(&rt, rt.alloc(), &A_RING)
-}
 
 /// A budget of each kind is spent, and is spent at once where it is asked again: of rounds, of
 /// depth, and of rounds in a copy. Behind an edit that mends it the sheet settles.
@@ -210,11 +200,6 @@ const SPENT: [Row; 9] = [
     },
 ];
 
-#[test]
-fn a_spent_budget_is_spent_at_once(rt: HostRuntime) -> Result<(), Fail> {
-    assert_rows(&rt, rt.alloc(), &SPENT)
-}
-
 /// The sheet settles as the row says, behind its edits.
 fn takes(alloc: Global, calc: &mut Calc, row: &Row, kind: u8) -> Result<bool, Fail>
     requires { kind ≤ 2 }
@@ -248,4 +233,11 @@ fn assert_rows(rt: &impl Abort, alloc: Global, rows: &[Row]) -> Result<(), Fail>
         assert!(rt; amiss.is_none(), "{amiss:?} by {kind}");
     }
     Ok(())
+}
+
+#[test]
+fn what_is_kept_and_what_is_spent_takes_no_step(rt: HostRuntime) -> Result<(), Fail> {
+    assert_rows(&rt, rt.alloc(), &BESIDE_ARRAYS)?;
+    assert_rows(&rt, rt.alloc(), &SPENT)?;
+    assert_rows(&rt, rt.alloc(), &A_RING)
 }

@@ -29,11 +29,6 @@ const ARRAYS: [Sheet; 3] = [
     },
 ];
 
-#[test]
-fn sheets_with_arrays(rt: HostRuntime) -> Result<(), Fail> {
-    assert_sheets(&rt, rt.alloc(), &ARRAYS)
-}
-
 const CELLS: [Sheet; 10] = [
     // a ring, and a cell that demands it
     Sheet {
@@ -141,6 +136,7 @@ const CELLS: [Sheet; 10] = [
 ];
 
 #[test]
-fn sheets_with_cells(rt: HostRuntime) -> Result<(), Fail> {
+fn sheets_with_arrays_and_cells(rt: HostRuntime) -> Result<(), Fail> {
+    assert_sheets(&rt, rt.alloc(), &ARRAYS)?;
     assert_sheets(&rt, rt.alloc(), &CELLS)
 }

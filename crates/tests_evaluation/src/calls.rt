@@ -30,11 +30,6 @@ const TRUTHS_AND_NUMBERS: [Row; 15] = [
     ("set A1 =NA()", 0, 0, "#N/A"),
 ];
 
-#[test]
-fn truths_and_numbers(rt: HostRuntime) -> Result<(), Fail> {
-    assert_rows(&rt, rt.alloc(), &TRUTHS_AND_NUMBERS)
-}
-
 const PARTS_AND_ARRAYS: [Row; 15] = [
     ("set A1 =ROWS(7)", 0, 0, "1"),
     ("set A1 =COLUMNS(7)", 0, 0, "1"),
@@ -52,11 +47,6 @@ const PARTS_AND_ARRAYS: [Row; 15] = [
     ("set A1 =LOOKUP(5,5,9)", 0, 0, "9"),
     ("set A1 =LOOKUP(5,6,9)", 0, 0, "#N/A"),
 ];
-
-#[test]
-fn parts_and_arrays(rt: HostRuntime) -> Result<(), Fail> {
-    assert_rows(&rt, rt.alloc(), &PARTS_AND_ARRAYS)
-}
 
 /// The value of A1 has these extents and elements.
 fn comes_to(alloc: Global, row: &Row) -> Result<bool, Fail> {
@@ -85,4 +75,10 @@ fn assert_rows(rt: &impl Abort, alloc: Global, rows: &[Row]) -> Result<(), Fail>
         assert!(rt; comes_to(alloc, row)?, "{}", row.0);
     }
     Ok(())
+}
+
+#[test]
+fn functions_of_scalars(rt: HostRuntime) -> Result<(), Fail> {
+    assert_rows(&rt, rt.alloc(), &TRUTHS_AND_NUMBERS)?;
+    assert_rows(&rt, rt.alloc(), &PARTS_AND_ARRAYS)
 }

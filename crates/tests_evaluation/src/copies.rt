@@ -65,11 +65,6 @@ const COPIES: [Sheet; 4] = [
     },
 ];
 
-#[test]
-fn copies(rt: HostRuntime) -> Result<(), Fail> {
-    assert_sheets(&rt, rt.alloc(), &COPIES)
-}
-
 const BUDGETS_AND_CYCLES: [Sheet; 3] = [
     Sheet {
         lines: &["set A1 1", "set B1 =C1+A1", "set C1 =G(A1:B1,A1,5)"],
@@ -97,11 +92,6 @@ const BUDGETS_AND_CYCLES: [Sheet; 3] = [
         ends: &[("F1", "settle A1:D3", "spent copyrounds")],
     },
 ];
-
-#[test]
-fn budgets_and_cycles(rt: HostRuntime) -> Result<(), Fail> {
-    assert_sheets(&rt, rt.alloc(), &BUDGETS_AND_CYCLES)
-}
 
 const CHOICES: [&str; 4] = [
     "set A1 =IFERROR(10/(SEQUENCE(1,3)-2),0)",
@@ -173,4 +163,10 @@ fn choices_by_version(rt: HostRuntime) -> Result<(), Fail> {
     assert!(rt; holds(rt.alloc(), Version::One, &CHOICES, &IN_ONE)?);
     assert!(rt; holds(rt.alloc(), Version::Two, &CHOICES, &IN_TWO)?);
     Ok(())
+}
+
+#[test]
+fn copies_budgets_and_cycles(rt: HostRuntime) -> Result<(), Fail> {
+    assert_sheets(&rt, rt.alloc(), &COPIES)?;
+    assert_sheets(&rt, rt.alloc(), &BUDGETS_AND_CYCLES)
 }

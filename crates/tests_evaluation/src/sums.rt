@@ -32,17 +32,22 @@ fn parts(alloc: Global) -> Result<Cells, Fail> {
     Ok(cells)
 }
 
+/// The counts of the formula by each pick rule.
+fn counts_by_each(alloc: Global) -> Result<[(u64, u64, Sight); 3], Fail> {
+    let w = Oracle::new(alloc);
+    let cells = parts(alloc)?;
+    let at = setting_of(alloc, &cells, &w);
+    Ok([
+        counts(&at, &["A1"], "A1", 0)?,
+        counts(&at, &["A1"], "A1", 1)?,
+        counts(&at, &["A1"], "A1", 2)?,
+    ])
+}
+
 #[test]
 fn all_references_of_a_formula_take_two_steps(rt: HostRuntime) -> Result<(), Fail> {
-    let w = Oracle::new(rt.alloc());
-    let cells = parts(rt.alloc())?;
-    let at = setting_of(rt.alloc(), &cells, &w);
-    for kind in 0u8..3 {
-        // one for each part, and two for what adds them
-        assert_eq!(rt;
-            counts(&at, &["A1"], "A1", kind)?,
-            (201, 202, Sight::Number(20_100))
-        );
-    }
+    // one for each part, and two for what adds them
+    let want = (201, 202, Sight::Number(20_100));
+    assert_eq!(rt; counts_by_each(rt.alloc())?, [want; 3]);
     Ok(())
 }

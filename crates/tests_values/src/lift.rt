@@ -4,7 +4,6 @@ use gl_lift::{lift1, lift2, lift3};
 use gl_plane::NoMemory;
 use gl_value::{ErrKind, Scalar};
 use std::alloc::Global;
-use std::process::Abort;
 use std::test::Fail;
 
 /// So many of the first and one of the second; no number is `#VALUE!`.
@@ -22,41 +21,24 @@ fn both(alloc: Global, times: i64, u: &str, v: &str) -> Result<String, Fail> {
     told(alloc, &w)
 }
 
-fn assert_both(rt: &impl Abort, alloc: Global, rows: &[(&str, &str, &str)]) -> Result<(), Fail> {
-    for (u, v, want) in rows {
-        assert_eq!(rt; both(alloc, 10, u, v)?.as_str(), *want, "{u} {v}");
-    }
-    Ok(())
-}
-
 #[test]
 fn two_values(rt: HostRuntime) -> Result<(), Fail> {
-    assert_both(
-        &rt,
-        rt.alloc(),
-        &[
-            ("{1 / 2}", "{3 4 5}", "{13 14 15 / 23 24 25}"),
-            ("{1 / 2}", "{6 / 7 / 8}", "{16 / 27 / #N/A}"),
-            ("1", "2", "12"),
-        ],
-    )
-}
-
-#[test]
-fn extents_of_one_repeat(rt: HostRuntime) -> Result<(), Fail> {
-    assert_both(
-        &rt,
-        rt.alloc(),
-        &[
-            ("{9}", "{9}", "{99}"),
-            ("{9}", "{1 2 / 3 4}", "{91 92 / 93 94}"),
-            ("{1 2 / 3 4}", "{9}", "{19 29 / 39 49}"),
-            ("{1 2 / 3 4}", "{1 2 / 3 4}", "{11 22 / 33 44}"),
-            ("{1 2 / 3 4}", "{5 / 6}", "{15 25 / 36 46}"),
-            ("{7 8}", "{1 2 / 3 4}", "{71 82 / 73 84}"),
-            ("{5 / 6}", "{7 8}", "{57 58 / 67 68}"),
-        ],
-    )
+    for (u, v, want) in [
+        ("{1 / 2}", "{3 4 5}", "{13 14 15 / 23 24 25}"),
+        ("{1 / 2}", "{6 / 7 / 8}", "{16 / 27 / #N/A}"),
+        ("1", "2", "12"),
+        // extents of one repeat
+        ("{9}", "{9}", "{99}"),
+        ("{9}", "{1 2 / 3 4}", "{91 92 / 93 94}"),
+        ("{1 2 / 3 4}", "{9}", "{19 29 / 39 49}"),
+        ("{1 2 / 3 4}", "{1 2 / 3 4}", "{11 22 / 33 44}"),
+        ("{1 2 / 3 4}", "{5 / 6}", "{15 25 / 36 46}"),
+        ("{7 8}", "{1 2 / 3 4}", "{71 82 / 73 84}"),
+        ("{5 / 6}", "{7 8}", "{57 58 / 67 68}"),
+    ] {
+        assert_eq!(rt; both(rt.alloc(), 10, u, v)?.as_str(), want, "{u} {v}");
+    }
+    Ok(())
 }
 
 #[test]
