@@ -97,31 +97,58 @@ fn results_behind(at: &Setting<'_>, names: &[&str], place: &str, kind: u8) -> Re
 
 /// A range, how many notes stay where it has changed, and the steps for each formula of the chain
 /// by each pick rule.
-type Change = (&'static str, usize, [[u64; 3]; 3]);
+struct Change {
+    place: &'static str,
+    kept: usize,
+    each: [[u64; 3]; 3],
+}
 
 const CHANGES: [Change; 6] = [
     // nothing rests on it: all results stay, and no step is taken
-    ("E5:F9", 3, [[0, 0, 0], [0, 0, 0], [0, 0, 0]]),
+    Change {
+        place: "E5:F9",
+        kept: 3,
+        each: [[0, 0, 0], [0, 0, 0], [0, 0, 0]],
+    },
     // by the second rule C1 is evaluated before B1, and once more behind it
-    ("A1:A1", 1, [[1, 1, 0], [1, 2, 0], [1, 1, 0]]),
-    ("B1:B1", 1, [[1, 1, 0], [1, 2, 0], [1, 1, 0]]),
+    Change {
+        place: "A1:A1",
+        kept: 1,
+        each: [[1, 1, 0], [1, 2, 0], [1, 1, 0]],
+    },
+    Change {
+        place: "B1:B1",
+        kept: 1,
+        each: [[1, 1, 0], [1, 2, 0], [1, 1, 0]],
+    },
     // B1 stays, and is known from the start: by no rule is C1 evaluated before it
-    ("C1:C1", 2, [[0, 1, 0], [0, 1, 0], [0, 1, 0]]),
-    ("D1:D1", 2, [[0, 0, 1], [0, 0, 1], [0, 0, 1]]),
-    ("A1:D1", 0, [[1, 1, 1], [1, 2, 1], [1, 1, 1]]),
+    Change {
+        place: "C1:C1",
+        kept: 2,
+        each: [[0, 1, 0], [0, 1, 0], [0, 1, 0]],
+    },
+    Change {
+        place: "D1:D1",
+        kept: 2,
+        each: [[0, 0, 1], [0, 0, 1], [0, 0, 1]],
+    },
+    Change {
+        place: "A1:D1",
+        kept: 0,
+        each: [[1, 1, 1], [1, 2, 1], [1, 1, 1]],
+    },
 ];
 
 /// A run behind the change takes these steps and sees what the first one saw.
 fn goes_on(at: &Setting<'_>, change: &Change, kind: u8) -> Result<bool, Fail>
     requires { kind ≤ 2 }
 {
-    let (place, stay, each) = *change;
-    let kept = results_behind(at, &CHAIN, place, kind)?;
+    let kept = results_behind(at, &CHAIN, change.place, kind)?;
     let count = kept.len();
     let ran = run_with(at, &CHAIN, kept, kind)?;
-    let [b, c, d] = each[usize::from(kind)];
+    let [b, c, d] = change.each[usize::from(kind)];
     Ok(
-        count == stay
+        count == change.kept
             && ran.each.as_slice() == [b, c, d].as_slice()
             && ran.steps == b.saturating_add(c).saturating_add(d)
             && ran.known == 3
@@ -137,7 +164,7 @@ fn what_rests_on_a_change_takes_steps(rt: HostRuntime) -> Result<(), Fail> {
     let at = setting_of(rt.alloc(), &cells, &w);
     for change in &CHANGES {
         for kind in 0u8..3 {
-            assert!(rt; goes_on(&at, change, kind)?, "{} by {kind}", change.0);
+            assert!(rt; goes_on(&at, change, kind)?, "{} by {kind}", change.place);
         }
     }
     Ok(())
@@ -151,20 +178,10 @@ pub fn outcome_of(results: &Results, name: &str) -> Result<Option<Sight>, Fail> 
     }
 }
 
-/// The number of a cell, where the list has one.
-fn number_in(list: &[(&str, i64)], name: &str) -> Option<Sight> {
-    for (listed, n) in list {
-        if *listed == name {
-            return Some(Sight::Number(*n));
-        }
-    }
-    None
-}
-
 /// The results have just these numbers as outcomes of cells.
 fn have(results: &Results, want: &[(&str, i64)]) -> Result<bool, Fail> {
-    for name in ["A1", "B1", "C1", "D1", "E1", "F1"] {
-        if outcome_of(results, name)? != number_in(want, name) {
+    for (name, n) in want {
+        if outcome_of(results, name)? != Some(Sight::Number(*n)) {
             return Ok(false);
         }
     }
@@ -195,12 +212,30 @@ fn stay(at: &Setting<'_>, row: &Staying) -> Result<bool, Fail> {
 }
 
 #[test]
-fn outcomes_stay_and_other_keys_have_none(rt: HostRuntime) -> Result<(), Fail> {
+fn outcomes_stay(rt: HostRuntime) -> Result<(), Fail> {
     let w = Oracle::new(rt.alloc());
     let cells = sheet_of(rt.alloc(), &LINES)?;
     let at = setting_of(rt.alloc(), &cells, &w);
     for row in &STAYING {
         assert!(rt; stay(&at, row)?, "{}", row.0);
+    }
+    Ok(())
+}
+
+#[test]
+fn other_keys_have_no_outcome(rt: HostRuntime) -> Result<(), Fail> {
+    let w = Oracle::new(rt.alloc());
+    let cells = sheet_of(rt.alloc(), &LINES)?;
+    let at = setting_of(rt.alloc(), &cells, &w);
+    let kept = results_behind(&at, &FORMULAS, "C1:C1", 0)?;
+    for (name, want) in [
+        ("A1", None),
+        ("B1", Some(Sight::Number(6))),
+        ("C1", None),
+        ("E1", None),
+        ("F1", None),
+    ] {
+        assert_eq!(rt; outcome_of(&kept, name)?, want, "of {name}");
     }
     Ok(())
 }

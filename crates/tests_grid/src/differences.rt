@@ -12,42 +12,78 @@ use tests_common::address;
 type Arrays = (&'static str, &'static [(&'static str, u16, u16)]);
 
 /// Two oracles, and how many ranges tell where they differ.
-type Pair = (Arrays, Arrays, usize);
+struct Pair {
+    before: Arrays,
+    after: Arrays,
+    ranges: usize,
+}
 
 const PAIRS: [Pair; 12] = [
-    (
-        ("F6", &[("A1", 1, 2), ("B2", 2, 2)]),
-        ("F6", &[("A1", 1, 2), ("B2", 2, 2)]),
-        0,
-    ),
+    Pair {
+        before: ("F6", &[("A1", 1, 2), ("B2", 2, 2)]),
+        after: ("F6", &[("A1", 1, 2), ("B2", 2, 2)]),
+        ranges: 0,
+    },
     // a new entry that spills, one that doesn't, and one before an equal one
-    (("F6", &[]), ("F6", &[("B2", 2, 2)]), 2),
-    (("C3", &[]), ("C3", &[("B2", 2, 2)]), 1),
-    (
-        ("F6", &[("B2", 2, 2)]),
-        ("F6", &[("A1", 1, 3), ("B2", 2, 2)]),
-        2,
-    ),
+    Pair {
+        before: ("F6", &[]),
+        after: ("F6", &[("B2", 2, 2)]),
+        ranges: 2,
+    },
+    Pair {
+        before: ("C3", &[]),
+        after: ("C3", &[("B2", 2, 2)]),
+        ranges: 1,
+    },
+    Pair {
+        before: ("F6", &[("B2", 2, 2)]),
+        after: ("F6", &[("A1", 1, 3), ("B2", 2, 2)]),
+        ranges: 2,
+    },
     // a permit that changes by a content, and one by another array
-    (("C3", &[("B2", 2, 2)]), ("F6", &[("B2", 2, 2)]), 2),
-    (
-        ("F6", &[("B1", 3, 1), ("A2", 1, 3)]),
-        ("F6", &[("B1", 1, 1), ("A2", 1, 3)]),
-        3,
-    ),
+    Pair {
+        before: ("C3", &[("B2", 2, 2)]),
+        after: ("F6", &[("B2", 2, 2)]),
+        ranges: 2,
+    },
+    Pair {
+        before: ("F6", &[("B1", 3, 1), ("A2", 1, 3)]),
+        after: ("F6", &[("B1", 1, 1), ("A2", 1, 3)]),
+        ranges: 3,
+    },
     // spills that grow in rows, in columns, in both, and in rows alone
-    (("F6", &[("B2", 2, 2)]), ("F6", &[("B2", 3, 2)]), 1),
-    (("F6", &[("B2", 2, 2)]), ("F6", &[("B2", 2, 3)]), 1),
-    (("F6", &[("B2", 2, 2)]), ("F6", &[("B2", 3, 4)]), 2),
-    (("F6", &[("B2", 1, 3)]), ("F6", &[("B2", 3, 1)]), 2),
+    Pair {
+        before: ("F6", &[("B2", 2, 2)]),
+        after: ("F6", &[("B2", 3, 2)]),
+        ranges: 1,
+    },
+    Pair {
+        before: ("F6", &[("B2", 2, 2)]),
+        after: ("F6", &[("B2", 2, 3)]),
+        ranges: 1,
+    },
+    Pair {
+        before: ("F6", &[("B2", 2, 2)]),
+        after: ("F6", &[("B2", 3, 4)]),
+        ranges: 2,
+    },
+    Pair {
+        before: ("F6", &[("B2", 1, 3)]),
+        after: ("F6", &[("B2", 3, 1)]),
+        ranges: 2,
+    },
     // another size of an array that may not spill
-    (("C3", &[("B2", 2, 2)]), ("C3", &[("B2", 3, 3)]), 0),
+    Pair {
+        before: ("C3", &[("B2", 2, 2)]),
+        after: ("C3", &[("B2", 3, 3)]),
+        ranges: 0,
+    },
     // roots that alternate
-    (
-        ("F6", &[("A1", 1, 1), ("A3", 2, 2), ("E4", 1, 1)]),
-        ("F6", &[("B1", 2, 2), ("A3", 2, 1), ("D4", 2, 2)]),
-        9,
-    ),
+    Pair {
+        before: ("F6", &[("A1", 1, 1), ("A3", 2, 2), ("E4", 1, 1)]),
+        after: ("F6", &[("B1", 2, 2), ("A3", 2, 1), ("D4", 2, 2)]),
+        ranges: 9,
+    },
 ];
 
 /// The oracle of these arrays: no two areas that spill meet.
@@ -113,9 +149,9 @@ fn holds(alloc: Global, before: &Arrays, after: &Arrays, count: usize) -> Result
 fn differences_are_told_both_ways(rt: HostRuntime) -> Result<(), Fail> {
     let alloc = rt.alloc();
     for (i, pair) in PAIRS.iter().enumerate() {
-        let (before, after, count) = pair;
-        assert!(rt; holds(alloc, before, after, *count)?, "at {i}");
-        assert!(rt; holds(alloc, after, before, *count)?, "back at {i}");
+        let (before, after) = (&pair.before, &pair.after);
+        assert!(rt; holds(alloc, before, after, pair.ranges)?, "at {i}");
+        assert!(rt; holds(alloc, after, before, pair.ranges)?, "back at {i}");
     }
     Ok(())
 }
@@ -130,7 +166,7 @@ fn copies(alloc: Global, arrays: &Arrays) -> Result<bool, Fail> {
 #[test]
 fn copies_are_equal(rt: HostRuntime) -> Result<(), Fail> {
     for (i, pair) in PAIRS.iter().enumerate() {
-        assert!(rt; copies(rt.alloc(), &pair.1)?, "at {i}");
+        assert!(rt; copies(rt.alloc(), &pair.after)?, "at {i}");
     }
     Ok(())
 }
