@@ -25,7 +25,7 @@ use Rattle.gl_core.specs.State.{entries, status_tree, first_keys, is_noted, IsFo
 use Rattle.gl_core.specs.Numbers.{key_at, keys_at, named, row_notes, numbers_of, outcome_at}
 use Rattle.gl_core.specs.Ledger.{written}
 use Rattle.gl_core.specs.Resuming.{IsResumed}
-use Rattle.gl_core.specs.Table.{known_keys, table_of, IsCore, IsBegun, AreBegun}
+use Rattle.gl_core.specs.Table.{known_keys, table_of, IsCore, IsBegun, AreBegun, held}
 use Rattle.gl_core.specs.declared.ledger.Ledger.{Ledger}
 use Rattle.gl_core.specs.declared.entries.Entries.{Entries}
 use Rattle.gl_core.specs.declared.status.Status.{Status}
@@ -34,7 +34,6 @@ use Rattle.gl_core.proofs.Wakes.{get_there, get_within}
 use Rattle.gl_core.proofs.Places.{member_at, place_of, at_place, keys_entries}
 use Rattle.gl_core.proofs.Numbered.{get_map, length-map, key_in, keys_apart, outcome_is}
 use Rattle.gl_core.proofs.Cores.{readable, known_apart, known_length, known_statuses, known_at, state_length, marks_length}
-use Rattle.gl_core.proofs.Picks.{held}
 use Rattle.gl_core.proofs.Reading.{nothing_ahead}
 
 take_front : {X : Type 0} (xs ys : List X) → take (length xs) (xs ++ ys) ≡ xs

@@ -1,11 +1,12 @@
 -- Keys and notes by numbers.
-use Rattle.std.specs.Prelude.{◌≡◌, ℕ, zero, suc, ◌<◌, ◌^◌, ◌++◌, List, [], ◌∷◌, length, map, slice_get, slice_index, Option, Some, None}
+use Rattle.std.specs.Prelude.{◌≡◌, ℕ, zero, suc, ◌<◌, ◌^◌, ◌++◌, List, [], ◌∷◌, length, map, slice_get, slice_index, Option, Some, None, Result, OnErr, IfOk}
 use Rattle.gl_query.specs.Lists.{Member, AreDistinct}
 use Rattle.gl_query.specs.Remembered.{Note}
 use Rattle.gl_calculus.specs.Grid.{Range}
 use Rattle.gl_calculus.specs.Key as K
 use Rattle.gl_calculus.specs.Value as V
 use Rattle.gl_calculus.specs.Memory.{Notes}
+use Rattle.gl_plane.specs.declared.NoMemory.{NoMemory}
 use Rattle.gl_support.specs.Rows.{notes_of}
 use Rattle.gl_support.specs.declared.row.Row.{Row}
 use Rattle.gl_demand.specs.View.{outcome_tree}
@@ -72,6 +73,13 @@ pub record AreBooked (ks : List K.Key) : Type 0 where
   pub apart : AreDistinct ks
   pub sound : AreSoundKeys ks
   pub few : length ks < 2 ^ 32
+
+-- A key gets its number, or has it already, and only more keys come. Without memory the keys stay.
+pub record GetsNumber (k : K.Key) (old : List K.Key) (r : Result ℕ NoMemory) (new : List K.Key) : Type 0 where
+  pub number : IfOk r (λ n. slice_get new n ≡ Some k)
+  pub grows : Grows old new
+  pub booked : AreBooked old → AreBooked new
+  pub err : OnErr r (new ≡ old)
 
 -- the numbers of these keys
 abbrev pub AreNumbers : List K.Key → List ℕ → List K.Key → Type 0

@@ -1,9 +1,8 @@
 //! Keys by numbers.
-ghost use Rattle.std.specs.Prelude.{◌≡◌, ◌<◌, ◌^◌, [], Some, None, IsTrue, length, slice_get, IfOk};
-ghost use Rattle.std.specs.Prelude.{OnErr};
+ghost use Rattle.std.specs.Prelude.{◌≡◌, ◌<◌, ◌^◌, [], Some, None, IsTrue, length, slice_get};
 ghost use Rattle.gl_calculus.specs.Sound.{is_sound_key};
 ghost use Rattle.gl_demand.specs.View.{key_tree};
-ghost use Rattle.gl_core.specs.Numbers.{Grows, IsNumber, AreBooked};
+ghost use Rattle.gl_core.specs.Numbers.{IsNumber, AreBooked, GetsNumber};
 ghost use Rattle.gl_core.specs.Words.{key_word};
 
 use crate::guesses::{
@@ -130,10 +129,7 @@ impl Book {
     /// before.
     pub fn number(&mut self, key: Key) -> Result<u32, NoMemory>
         requires { IsTrue (is_sound_key (key_tree key)) }
-        ensures number { IfOk result (λ n. slice_get self.new n ≡ Some (key_tree key)) }
-        ensures grows { Grows self.old self.new }
-        ensures booked { AreBooked self.old → AreBooked self.new }
-        ensures err { OnErr result (self.new ≡ self.old) }
+        ensures { GetsNumber (key_tree key) self.old result self.new }
     {
         match copy_word(&key) {
             Some(word) => self.number_by_word(word, key),
@@ -145,10 +141,7 @@ impl Book {
     fn number_by_form(&mut self, key: Key) -> Result<u32, NoMemory>
         requires sound { IsTrue (is_sound_key (key_tree key)) }
         requires word { key_word (key_tree key) ≡ None }
-        ensures number { IfOk result (λ n. slice_get self.new n ≡ Some (key_tree key)) }
-        ensures grows { Grows self.old self.new }
-        ensures booked { AreBooked self.old → AreBooked self.new }
-        ensures err { OnErr result (self.new ≡ self.old) }
+        ensures { GetsNumber (key_tree key) self.old result self.new }
     {
         place_key(&mut self.interner, &mut self.keys, key, None)
     }
@@ -157,10 +150,7 @@ impl Book {
     fn number_by_word(&mut self, word: u64, key: Key) -> Result<u32, NoMemory>
         requires sound { IsTrue (is_sound_key (key_tree key)) }
         requires word { key_word (key_tree key) ≡ Some word }
-        ensures number { IfOk result (λ n. slice_get self.new n ≡ Some (key_tree key)) }
-        ensures grows { Grows self.old self.new }
-        ensures booked { AreBooked self.old → AreBooked self.new }
-        ensures err { OnErr result (self.new ≡ self.old) }
+        ensures { GetsNumber (key_tree key) self.old result self.new }
     {
         match guess(&self.guesses, word) {
             Some(n) => self.number_by_guess(word, n, key),
@@ -173,10 +163,7 @@ impl Book {
     fn number_by_guess(&mut self, word: u64, n: u32, key: Key) -> Result<u32, NoMemory>
         requires sound { IsTrue (is_sound_key (key_tree key)) }
         requires word { key_word (key_tree key) ≡ Some word }
-        ensures number { IfOk result (λ n. slice_get self.new n ≡ Some (key_tree key)) }
-        ensures grows { Grows self.old self.new }
-        ensures booked { AreBooked self.old → AreBooked self.new }
-        ensures err { OnErr result (self.new ≡ self.old) }
+        ensures { GetsNumber (key_tree key) self.old result self.new }
     {
         if self.is_at(n as usize, &key) {
             return Ok(n);
@@ -189,10 +176,7 @@ impl Book {
     fn number_anew(&mut self, word: u64, key: Key) -> Result<u32, NoMemory>
         requires sound { IsTrue (is_sound_key (key_tree key)) }
         requires word { key_word (key_tree key) ≡ Some word }
-        ensures number { IfOk result (λ n. slice_get self.new n ≡ Some (key_tree key)) }
-        ensures grows { Grows self.old self.new }
-        ensures booked { AreBooked self.old → AreBooked self.new }
-        ensures err { OnErr result (self.new ≡ self.old) }
+        ensures { GetsNumber (key_tree key) self.old result self.new }
     {
         let next = self.keys.len() as u32;
         remember(&mut self.guesses, word, next)?;

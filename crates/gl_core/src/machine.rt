@@ -73,22 +73,14 @@ impl Model for Core {
     ghost use Rattle.std.specs.Coded.{codes};
     ghost use Rattle.gl_calculus.specs.Codes.{coded_key, coded_outcome, coded_note};
     ghost use Rattle.gl_core.specs.Held.{Held};
-    ghost use Rattle.gl_demand.specs.Marks.{mark_trees};
     ghost use Rattle.gl_core.specs.Marks.{coded_mark};
-    ghost use Rattle.gl_core.specs.Ledger.{written};
-    ghost use Rattle.gl_core.specs.Table.{table_of, IsCore};
+    ghost use Rattle.gl_core.specs.Table.{held, IsCore};
 
     ghost Value = { Held };
 
     ghost coded = { Prim.hlevel (codes, coded_key, coded_outcome, coded_note, coded_mark) };
 
-    ghost view = { λ c.
-        record {
-          state = table_of c.ledger c.entries;
-          seeds = c.seeds;
-          notes = written c.ledger;
-          marks = mark_trees c.entries.marks.items;
-        } };
+    ghost view = { λ c. held c.ledger c.entries c.seeds };
 
     ghost invariant = { λ c. IsCore c.ledger c.entries };
 }

@@ -9,21 +9,27 @@ use Rattle.gl_core.proofs.picking.go_by_mark.Goals as goal
 
 pub move_mark-requires-clause-there : goal.move_mark-requires-clause-there
 move_mark-requires-clause-there c =
-    let (k, ek) = the_key_at c.args.ledger.now c.args.entries.now c.requires.core c.args.p c.requires.there in
-    there_after c.args.ledger.now c.go_on.new.ledger c.args.entries.now c.go_on.new.entries c.requires.core c.go_on.ensures.core c.args.p c.requires.there k (key_tree c.args.next.key) (c.in-Ok.ensures.state k ek)
+    let (k, ek) = the_key_at c.args.ledger.now c.args.entries.now c.requires.place.core c.args.p c.requires.place.there in
+    there_after c.args.ledger.now c.go_on.new.ledger c.args.entries.now c.go_on.new.entries c.requires.place.core c.go_on.ensures.needs.core c.args.p c.requires.place.there k (key_tree c.args.next.key) (c.in-Ok.ensures.needs.state k ek)
 
 pub move_mark-requires-clause-table : goal.move_mark-requires-clause-table
-move_mark-requires-clause-table c = c.go_on.ensures.core.table
+move_mark-requires-clause-table c = c.go_on.ensures.needs.core.table
 
-pub returns-in-Ok-clause-state : goal.returns-in-Ok-clause-state
-returns-in-Ok-clause-state c k ek = table_stays c.go_on.new.ledger c.go_on.new.entries c.move_mark.new.self c.move_mark.ensures.known c.move_mark.ensures.statuses ∙ c.in-Ok.ensures.state k ek
+pub returns-in-Ok-clause-needs : goal.returns-in-Ok-clause-needs
+returns-in-Ok-clause-needs c =
+    let needs = c.in-Ok.ensures.needs in
+    record {
+      state = λ k ek. (table_stays c.go_on.new.ledger c.go_on.new.entries c.move_mark.new.self c.move_mark.ensures.others.keys.known c.move_mark.ensures.others.keys.statuses ∙ needs.state k ek);
+      answer = needs.answer;
+      notes = needs.notes;
+      err = tt;
+      core = marked_core c.go_on.new.ledger c.go_on.new.entries c.move_mark.new.self needs.core c.move_mark.ensures.others.table c.move_mark.ensures.others.keys.known c.move_mark.ensures.others.keys.statuses c.move_mark.ensures.others.passed;
+      marks_err = tt;
+    }
 
 pub returns-in-Ok-clause-marks : goal.returns-in-Ok-clause-marks
 returns-in-Ok-clause-marks c m d =
-    let (k, ek) = the_key_at c.args.ledger.now c.args.entries.now c.requires.core c.args.p c.requires.there in
-    let there = there_after c.args.ledger.now c.go_on.new.ledger c.args.entries.now c.go_on.new.entries c.requires.core c.go_on.ensures.core c.args.p c.requires.there k (key_tree c.args.next.key) (c.in-Ok.ensures.state k ek) in
-    let (x, e) = mark_there c.go_on.new.ledger c.go_on.new.entries c.go_on.ensures.core c.args.p there in
+    let (k, ek) = the_key_at c.args.ledger.now c.args.entries.now c.requires.place.core c.args.p c.requires.place.there in
+    let there = there_after c.args.ledger.now c.go_on.new.ledger c.args.entries.now c.go_on.new.entries c.requires.place.core c.go_on.ensures.needs.core c.args.p c.requires.place.there k (key_tree c.args.next.key) (c.in-Ok.ensures.needs.state k ek) in
+    let (x, e) = mark_there c.go_on.new.ledger c.go_on.new.entries c.go_on.ensures.needs.core c.args.p there in
     moved_by c.args.p c.args.next.place m (mark_trees c.args.entries.now.marks.items) (mark_trees c.go_on.new.entries.marks.items) (mark_trees c.move_mark.new.self.marks.items) c.in-Ok.ensures.marks d c.move_mark.ensures.marks x e
-
-pub returns-in-Ok-clause-core : goal.returns-in-Ok-clause-core
-returns-in-Ok-clause-core c = marked_core c.go_on.new.ledger c.go_on.new.entries c.move_mark.new.self c.go_on.ensures.core c.move_mark.ensures.table c.move_mark.ensures.known c.move_mark.ensures.statuses c.move_mark.ensures.passed

@@ -26,7 +26,7 @@ returns-clause-first c x f =
     let is2 : c.deref-2.result.now ≡ x.reads.items = c.deref-2.ensures.value ∙ ap (λ (z : Row Outcome Range). z.reads.items) row in
     let n = c.first_unresolved-count.result in
     let from = sym (index_of_get e.passed.items c.args.p c.index-2.result.now (item_at e.passed.items c.args.p c.index-2.result.now c.index-2.ensures (omega (arith, c.requires.there, c.requires.core.table.passed)))) in
-    let all = (pick_passes l e c.pass.new.self c.requires.core c.pass.ensures.table c.args.p c.args.row x f by c.deref.result.now is c.index-2.result.now n from c.first_unresolved-count.ensures.passed c.pass.ensures.known c.pass.ensures.statuses c.pass.ensures.passed).1 in
+    let all = (pick_passes l e c.pass.new.self c.requires.core c.pass.ensures.table c.args.p c.args.row x f by c.deref.result.now is c.index-2.result.now n from c.first_unresolved-count.ensures.passed c.pass.ensures.keys.known c.pass.ensures.keys.statuses c.pass.ensures.passed).1 in
     let read : c.copied.result ≡ slice_get x.reads.items n = c.copied.ensures ∙ got c.get.result c.deref-2.result.now n c.get.ensures.lookup.0 c.get.ensures.lookup.1 ∙ ap (λ (ns : List ℕ). slice_get ns n) is2 in
     ap (option_map (key_at l.book)) read
     ∙ first_at l e c.requires.core x.reads.items (row_below l e c.requires.core c.args.row x f).1 n (λ i j a d. all i j a (ap (λ (ns : List ℕ). slice_get ns i) is ∙ d)) (λ j d. c.first_unresolved-count.ensures.next j (ap (λ (ns : List ℕ). slice_get ns n) is ∙ d))
@@ -46,4 +46,4 @@ returns-clause-core c =
     let (x, f, g) = c.requires.row in
     let is : c.deref.result.now ≡ x.reads.items = c.deref.ensures.value ∙ ap (λ (y : Row Outcome Range). y.reads.items) (same_item l.rows.items c.args.row c.index.result.now x c.index.ensures f) in
     let from = sym (index_of_get e.passed.items c.args.p c.index-2.result.now (item_at e.passed.items c.args.p c.index-2.result.now c.index-2.ensures (omega (arith, c.requires.there, c.requires.core.table.passed)))) in
-    (pick_passes l e c.pass.new.self c.requires.core c.pass.ensures.table c.args.p c.args.row x f g c.deref.result.now is c.index-2.result.now c.first_unresolved-count.result from c.first_unresolved-count.ensures.passed c.pass.ensures.known c.pass.ensures.statuses c.pass.ensures.passed).0
+    (pick_passes l e c.pass.new.self c.requires.core c.pass.ensures.table c.args.p c.args.row x f g c.deref.result.now is c.index-2.result.now c.first_unresolved-count.result from c.first_unresolved-count.ensures.passed c.pass.ensures.keys.known c.pass.ensures.keys.statuses c.pass.ensures.passed).0

@@ -18,45 +18,36 @@ use Rattle.gl_core.proofs.picking.pick_unnoted.Goals as goal
 
 pub go_by_mark-requires-clause-sound : goal.go_by_mark-requires-clause-sound
 go_by_mark-requires-clause-sound g c =
-    let (m, em) = mark_there c.args.ledger.now c.args.entries.now c.requires.core c.args.p c.requires.there in
+    let (m, em) = mark_there c.args.ledger.now c.args.entries.now c.requires.pickable.place.core c.args.p c.requires.pickable.place.there in
     let st = table_of c.args.ledger.now c.args.entries.now in
     let is = subst (IsNext (table same_key st) (keys_from (sheet c.args.cells.now) c.args.w.now m.0) m.1) c.in-Some.is (c.in_ok-next.ensures m em) in
     is.2
 
-pub returns-in-Some-clause-state : goal.returns-in-Some-clause-state
-returns-in-Some-clause-state g c =
-    let st = table_of c.args.ledger.now c.args.entries.now in
-    let p = program (version_tree c.args.version) (sheet c.args.cells.now) c.args.w.now in
-    let (m, em) = mark_there c.args.ledger.now c.args.entries.now c.requires.core c.args.p c.requires.there in
-    let is = subst (IsNext (table same_key st) (keys_from (sheet c.args.cells.now) c.args.w.now m.0) m.1) c.in-Some.is (c.in_ok-next.ensures m em) in
-    on_ok c.go_by_mark.result c.go_by_mark.ensures.state (λ s k ek.
-    mark_turn (sheet c.args.cells.now) c.args.w.now p st k m c.in-Some.next (c.requires.ahead k m ek em) is (table_of c.go_by_mark.new.ledger c.go_by_mark.new.entries) (s k ek))
-
-pub returns-in-Some-clause-answer : goal.returns-in-Some-clause-answer
-returns-in-Some-clause-answer g c =
-    let st = table_of c.args.ledger.now c.args.entries.now in
-    let p = program (version_tree c.args.version) (sheet c.args.cells.now) c.args.w.now in
-    let (m, em) = mark_there c.args.ledger.now c.args.entries.now c.requires.core c.args.p c.requires.there in
-    let is = subst (IsNext (table same_key st) (keys_from (sheet c.args.cells.now) c.args.w.now m.0) m.1) c.in-Some.is (c.in_ok-next.ensures m em) in
-    if_ok c.go_by_mark.result c.go_by_mark.ensures.answer (λ picked a k ek.
-    mark_answer (sheet c.args.cells.now) c.args.w.now p st k m c.in-Some.next (c.requires.ahead k m ek em) is (picked_tree picked) (written c.args.ledger.now) (written c.go_by_mark.new.ledger) a c.go_by_mark.ensures.notes)
-
-pub returns-in-Some-clause-err : goal.returns-in-Some-clause-err
-returns-in-Some-clause-err g c = on_err c.go_by_mark.result c.go_by_mark.ensures.err (λ d. (d, c.go_by_mark.ensures.notes))
-
-pub returns-in-Some-clause-marks : goal.returns-in-Some-clause-marks
-returns-in-Some-clause-marks g c =
-    let st = table_of c.args.ledger.now c.args.entries.now in
-    let p = program (version_tree c.args.version) (sheet c.args.cells.now) c.args.w.now in
-    let (m, em) = mark_there c.args.ledger.now c.args.entries.now c.requires.core c.args.p c.requires.there in
-    let is = subst (IsNext (table same_key st) (keys_from (sheet c.args.cells.now) c.args.w.now m.0) m.1) c.in-Some.is (c.in_ok-next.ensures m em) in
-    on_ok c.go_by_mark.result c.go_by_mark.ensures.marks (λ b k ek.
-    mark_moved (sheet c.args.cells.now) c.args.w.now p st k m c.in-Some.next (c.requires.ahead k m ek em) is c.args.p (mark_trees c.args.entries.now.marks.items) (mark_trees c.go_by_mark.new.entries.marks.items) (b m em))
+pub returns-in-Some-clause-picked : goal.returns-in-Some-clause-picked
+returns-in-Some-clause-picked g c =
+    let l = c.args.ledger.now in
+    let e = c.args.entries.now in
+    let S = sheet c.args.cells.now in
+    let w = c.args.w.now in
+    let st = table_of l e in
+    let p = program (version_tree c.args.version) S w in
+    let r = c.go_by_mark.result in
+    let needs = c.go_by_mark.ensures.needs in
+    let (m, em) = mark_there l e c.requires.pickable.place.core c.args.p c.requires.pickable.place.there in
+    let is = subst (IsNext (table same_key st) (keys_from S w m.0) m.1) c.in-Some.is (c.in_ok-next.ensures m em) in
+    record {
+      state = on_ok r needs.state (λ s k ek. mark_turn S w p st k m c.in-Some.next (c.requires.ahead k m ek em) is (table_of c.go_by_mark.new.ledger c.go_by_mark.new.entries) (s k ek));
+      answer = if_ok r needs.answer (λ picked a k ek. mark_answer S w p st k m c.in-Some.next (c.requires.ahead k m ek em) is (picked_tree picked) (written l) (written c.go_by_mark.new.ledger) a needs.notes);
+      err = on_err r needs.err (λ d. (d, needs.notes));
+      core = needs.core;
+      marks = on_ok r c.go_by_mark.ensures.marks (λ b k ek. mark_moved S w p st k m c.in-Some.next (c.requires.ahead k m ek em) is c.args.p (mark_trees e.marks.items) (mark_trees c.go_by_mark.new.entries.marks.items) (b m em));
+      marks_err = needs.marks_err;
+    }
 
 pub returns-in-Some-clause-evaluated : goal.returns-in-Some-clause-evaluated
 returns-in-Some-clause-evaluated g c =
     let st = table_of c.args.ledger.now c.args.entries.now in
-    if_ok c.go_by_mark.result c.go_by_mark.ensures.answer (λ picked a e. absurd (needs_not_resolved st (at same_key st (key_tree c.in-Some.next.key)) picked a e))
+    if_ok c.go_by_mark.result c.go_by_mark.ensures.needs.answer (λ picked a e. absurd (needs_not_resolved st (at same_key st (key_tree c.in-Some.next.key)) picked a e))
 
 pub returns-in-None-clause-counted : goal.returns-in-None-clause-counted
 returns-in-None-clause-counted g c = inr c.go_by_step.ensures.counted

@@ -31,50 +31,44 @@ overflow_cast-i g c =
     let k : c.args.i < 2 ^ 32 = omega (arith, l, m, t.statuses, t.few, c.requires.there) in
     search (rules, k)
 
-pub pick_at-requires-clause-there : goal.pick_at-requires-clause-there
-pick_at-requires-clause-there g c =
+pub pick_at-requires-clause-pickable : goal.pick_at-requires-clause-pickable
+pick_at-requires-clause-pickable g c =
     let h = subst (IsFor (version_tree c.args.version) (sheet c.args.cells.now) c.args.w.now) (sym c.self.view_is) c.requires.for_it in
-    there (version_tree c.args.version) (sheet c.args.cells.now) c.args.w.now c.self.inside.ledger c.self.inside.entries c.self.inside.seeds h c.self.invariant c.args.i c.idle_place-p.result c.idle_place-p.ensures.before c.idle_place-p.ensures.idle
-
-pub pick_at-requires-clause-proper : goal.pick_at-requires-clause-proper
-pick_at-requires-clause-proper g c =
-    let h = subst (IsFor (version_tree c.args.version) (sheet c.args.cells.now) c.args.w.now) (sym c.self.view_is) c.requires.for_it in
-    proper_there (version_tree c.args.version) (sheet c.args.cells.now) c.args.w.now c.self.inside.ledger c.self.inside.entries c.self.inside.seeds h c.self.invariant c.args.i c.idle_place-p.result c.idle_place-p.ensures.before c.idle_place-p.ensures.idle
+    record {
+      place = record { core = c.self.invariant; there = there (version_tree c.args.version) (sheet c.args.cells.now) c.args.w.now c.self.inside.ledger c.self.inside.entries c.self.inside.seeds h c.self.invariant c.args.i c.idle_place-p.result c.idle_place-p.ensures.before c.idle_place-p.ensures.idle; idle = c.idle_place-p.ensures.idle };
+      proper = proper_there (version_tree c.args.version) (sheet c.args.cells.now) c.args.w.now c.self.inside.ledger c.self.inside.entries c.self.inside.seeds h c.self.invariant c.args.i c.idle_place-p.result c.idle_place-p.ensures.before c.idle_place-p.ensures.idle;
+      outcomes = outcomes_true (version_tree c.args.version) (sheet c.args.cells.now) c.args.w.now c.self.inside.ledger c.self.inside.entries c.self.inside.seeds h c.self.invariant c.args.i c.idle_place-p.result c.idle_place-p.ensures.before c.idle_place-p.ensures.idle;
+    }
 
 pub pick_at-requires-clause-true_notes : goal.pick_at-requires-clause-true_notes
 pick_at-requires-clause-true_notes g c =
     let h = subst (IsFor (version_tree c.args.version) (sheet c.args.cells.now) c.args.w.now) (sym c.self.view_is) c.requires.for_it in
     h.true_notes
 
-pub pick_at-requires-clause-outcomes : goal.pick_at-requires-clause-outcomes
-pick_at-requires-clause-outcomes g c =
-    let h = subst (IsFor (version_tree c.args.version) (sheet c.args.cells.now) c.args.w.now) (sym c.self.view_is) c.requires.for_it in
-    outcomes_true (version_tree c.args.version) (sheet c.args.cells.now) c.args.w.now c.self.inside.ledger c.self.inside.entries c.self.inside.seeds h c.self.invariant c.args.i c.idle_place-p.result c.idle_place-p.ensures.before c.idle_place-p.ensures.idle
-
 pub returns-clause-state : goal.returns-clause-state
 returns-clause-state g c =
     let h = subst (IsFor (version_tree c.args.version) (sheet c.args.cells.now) c.args.w.now) (sym c.self.view_is) c.requires.for_it in
-    on_ok c.pick_at.result (picked_state (version_tree c.args.version) (sheet c.args.cells.now) c.args.w.now c.self.inside.ledger c.self.inside.entries c.self.inside.seeds h c.self.invariant c.args.i c.idle_place-p.result c.idle_place-p.ensures.before c.idle_place-p.ensures.idle c.pick_at.new.ledger c.pick_at.new.entries c.pick_at.result c.pick_at.ensures.state c.pick_at.ensures.answer c.pick_at.ensures.err) (λ e. e ∙ ap (λ (x : Held). pick same_key max_demanded (program (version_tree c.args.version) (sheet c.args.cells.now) c.args.w.now) (state_of x) c.args.i) c.self.view_is)
+    on_ok c.pick_at.result (picked_state (version_tree c.args.version) (sheet c.args.cells.now) c.args.w.now c.self.inside.ledger c.self.inside.entries c.self.inside.seeds h c.self.invariant c.args.i c.idle_place-p.result c.idle_place-p.ensures.before c.idle_place-p.ensures.idle c.pick_at.new.ledger c.pick_at.new.entries c.pick_at.result c.pick_at.ensures.picked.state c.pick_at.ensures.picked.answer c.pick_at.ensures.picked.err) (λ e. e ∙ ap (λ (x : Held). pick same_key max_demanded (program (version_tree c.args.version) (sheet c.args.cells.now) c.args.w.now) (state_of x) c.args.i) c.self.view_is)
 
 pub returns-clause-answer : goal.returns-clause-answer
 returns-clause-answer g c =
     let h = subst (IsFor (version_tree c.args.version) (sheet c.args.cells.now) c.args.w.now) (sym c.self.view_is) c.requires.for_it in
-    if_ok c.pick_at.result (picked_answer (version_tree c.args.version) (sheet c.args.cells.now) c.args.w.now c.self.inside.ledger c.self.inside.entries c.self.inside.seeds h c.self.invariant c.args.i c.idle_place-p.result c.idle_place-p.ensures.before c.idle_place-p.ensures.idle c.pick_at.new.ledger c.pick_at.new.entries c.pick_at.result c.pick_at.ensures.state c.pick_at.ensures.answer c.pick_at.ensures.err) (λ a e. e ∙ ap (λ (x : Held). answer_at same_key max_demanded (program (version_tree c.args.version) (sheet c.args.cells.now) c.args.w.now) (state_of x) (nth (idle_keys (state_of x)) c.args.i)) c.self.view_is)
+    if_ok c.pick_at.result (picked_answer (version_tree c.args.version) (sheet c.args.cells.now) c.args.w.now c.self.inside.ledger c.self.inside.entries c.self.inside.seeds h c.self.invariant c.args.i c.idle_place-p.result c.idle_place-p.ensures.before c.idle_place-p.ensures.idle c.pick_at.new.ledger c.pick_at.new.entries c.pick_at.result c.pick_at.ensures.picked.state c.pick_at.ensures.picked.answer c.pick_at.ensures.picked.err) (λ a e. e ∙ ap (λ (x : Held). answer_at same_key max_demanded (program (version_tree c.args.version) (sheet c.args.cells.now) c.args.w.now) (state_of x) (nth (idle_keys (state_of x)) c.args.i)) c.self.view_is)
 
 pub returns-clause-notes : goal.returns-clause-notes
 returns-clause-notes g c =
     let h = subst (IsFor (version_tree c.args.version) (sheet c.args.cells.now) c.args.w.now) (sym c.self.view_is) c.requires.for_it in
-    if_ok c.pick_at.result (picked_notes (version_tree c.args.version) (sheet c.args.cells.now) c.args.w.now c.self.inside.ledger c.self.inside.entries c.self.inside.seeds h c.self.invariant c.args.i c.idle_place-p.result c.idle_place-p.ensures.before c.idle_place-p.ensures.idle c.pick_at.new.ledger c.pick_at.new.entries c.pick_at.result c.pick_at.ensures.state c.pick_at.ensures.answer c.pick_at.ensures.err) (λ a e. e ∙ ap (λ (x : Held). noted_after (notes_in x) (nth (idle_keys (state_of x)) c.args.i) (picked_tree a)) c.self.view_is)
+    if_ok c.pick_at.result (picked_notes (version_tree c.args.version) (sheet c.args.cells.now) c.args.w.now c.self.inside.ledger c.self.inside.entries c.self.inside.seeds h c.self.invariant c.args.i c.idle_place-p.result c.idle_place-p.ensures.before c.idle_place-p.ensures.idle c.pick_at.new.ledger c.pick_at.new.entries c.pick_at.result c.pick_at.ensures.picked.state c.pick_at.ensures.picked.answer c.pick_at.ensures.picked.err) (λ a e. e ∙ ap (λ (x : Held). noted_after (notes_in x) (nth (idle_keys (state_of x)) c.args.i) (picked_tree a)) c.self.view_is)
 
 pub returns-clause-seeds : goal.returns-clause-seeds
 returns-clause-seeds g c =
     let h = subst (IsFor (version_tree c.args.version) (sheet c.args.cells.now) c.args.w.now) (sym c.self.view_is) c.requires.for_it in
-    picked_seeds (version_tree c.args.version) (sheet c.args.cells.now) c.args.w.now c.self.inside.ledger c.self.inside.entries c.self.inside.seeds h c.self.invariant c.args.i c.idle_place-p.result c.idle_place-p.ensures.before c.idle_place-p.ensures.idle c.pick_at.new.ledger c.pick_at.new.entries c.pick_at.result c.pick_at.ensures.state c.pick_at.ensures.answer c.pick_at.ensures.err ∙ ap seeds_of c.self.view_is
+    picked_seeds (version_tree c.args.version) (sheet c.args.cells.now) c.args.w.now c.self.inside.ledger c.self.inside.entries c.self.inside.seeds h c.self.invariant c.args.i c.idle_place-p.result c.idle_place-p.ensures.before c.idle_place-p.ensures.idle c.pick_at.new.ledger c.pick_at.new.entries c.pick_at.result c.pick_at.ensures.picked.state c.pick_at.ensures.picked.answer c.pick_at.ensures.picked.err ∙ ap seeds_of c.self.view_is
 
 pub returns-clause-stays : goal.returns-clause-stays
 returns-clause-stays g c =
     let h = subst (IsFor (version_tree c.args.version) (sheet c.args.cells.now) c.args.w.now) (sym c.self.view_is) c.requires.for_it in
-    picked_stays (version_tree c.args.version) (sheet c.args.cells.now) c.args.w.now c.self.inside.ledger c.self.inside.entries c.self.inside.seeds h c.self.invariant c.args.i c.idle_place-p.result c.idle_place-p.ensures.before c.idle_place-p.ensures.idle c.pick_at.new.ledger c.pick_at.new.entries c.pick_at.result c.pick_at.ensures.state c.pick_at.ensures.answer c.pick_at.ensures.err c.pick_at.ensures.core c.pick_at.ensures.marks c.pick_at.ensures.marks_err
+    picked_stays (version_tree c.args.version) (sheet c.args.cells.now) c.args.w.now c.self.inside.ledger c.self.inside.entries c.self.inside.seeds h c.self.invariant c.args.i c.idle_place-p.result c.idle_place-p.ensures.before c.idle_place-p.ensures.idle c.pick_at.new.ledger c.pick_at.new.entries c.pick_at.result c.pick_at.ensures.picked.state c.pick_at.ensures.picked.answer c.pick_at.ensures.picked.err c.pick_at.ensures.picked.core c.pick_at.ensures.picked.marks c.pick_at.ensures.picked.marks_err
 
 pub returns-clause-counted : goal.returns-clause-counted
 returns-clause-counted g c =
@@ -101,7 +95,4 @@ pick_at-requires-clause-ahead g c =
 pub returns-clause-ordered : goal.returns-clause-ordered
 returns-clause-ordered g c o =
     let h = subst (IsFor (version_tree c.args.version) (sheet c.args.cells.now) c.args.w.now) (sym c.self.view_is) c.requires.for_it in
-    picked_order (version_tree c.args.version) (sheet c.args.cells.now) c.args.w.now c.self.inside.ledger c.self.inside.entries c.self.inside.seeds h c.self.invariant c.args.i c.idle_place-p.result c.idle_place-p.ensures.before c.idle_place-p.ensures.idle c.pick_at.new.ledger c.pick_at.new.entries c.pick_at.result c.pick_at.ensures.state c.pick_at.ensures.answer c.pick_at.ensures.err (subst (λ (x : Held). AreOrdered [] (notes_in x)) (sym c.self.view_is) o)
-
-pub pick_at-requires-clause-idle : goal.pick_at-requires-clause-idle
-pick_at-requires-clause-idle g c = c.idle_place-p.ensures.idle
+    picked_order (version_tree c.args.version) (sheet c.args.cells.now) c.args.w.now c.self.inside.ledger c.self.inside.entries c.self.inside.seeds h c.self.invariant c.args.i c.idle_place-p.result c.idle_place-p.ensures.before c.idle_place-p.ensures.idle c.pick_at.new.ledger c.pick_at.new.entries c.pick_at.result c.pick_at.ensures.picked.state c.pick_at.ensures.picked.answer c.pick_at.ensures.picked.err (subst (λ (x : Held). AreOrdered [] (notes_in x)) (sym c.self.view_is) o)

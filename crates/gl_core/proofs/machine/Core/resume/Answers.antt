@@ -9,9 +9,8 @@ use Rattle.gl_ast.specs.View.{version_tree}
 use Rattle.gl_cells.specs.Sheet.{sheet}
 use Rattle.gl_query.specs.InOrder.{AreOrdered}
 use Rattle.gl_core.specs.State.{first_keys, IsFor}
-use Rattle.gl_core.specs.Table.{table_of}
+use Rattle.gl_core.specs.Table.{table_of, held}
 use Rattle.gl_core.proofs.Numbered.{length-map}
-use Rattle.gl_core.proofs.Picks.{held}
 use Rattle.gl_core.proofs.Resumed.{resumed_seeds, for_resumed, too_many}
 use Rattle.gl_core.proofs.machine.Core.resume.Goals as goal
 
