@@ -1,19 +1,16 @@
 //! The replies to the items of a script.
-ghost use Rattle.std.specs.Prelude.{◌≡◌, ◌≤◌, ℕ, None, IfOk, OnErr, codes};
-ghost use Rattle.gl_language.specs.Text.{Bytes};
-ghost use Rattle.gl_protocol.specs.Acts.{Acts};
+ghost use Rattle.std.specs.Prelude.{◌≡◌, ◌≤◌, None, IfOk, codes};
 ghost use Rattle.gl_protocol.specs.Commands.{LineWord, TruncatedWord, error_line};
 ghost use Rattle.gl_protocol.specs.Framing.{Line};
 ghost use Rattle.gl_protocol.specs.Header.{payload_len};
 ghost use Rattle.gl_protocol.specs.Output.{is_line};
 ghost use Rattle.gl_ast.specs.View.{version_tree};
-ghost use Rattle.gl_csvin.specs.Import.{csv_records};
 ghost use Rattle.gl_order.specs.Rule.{PicksBelow, rule_of};
-ghost use Rattle.gl_script.specs.Command.{Asks};
 ghost use Rattle.gl_run.specs.Kept.{IsKept};
 ghost use Rattle.gl_run.specs.Replies.{IsNoQuery, IsProperRequest, IsQueryOf};
-ghost use Rattle.gl_run.specs.Script.{known_of, script_of};
-ghost use Rattle.gl_run.specs.Spends.{Spends};
+ghost use Rattle.gl_run.specs.Script.{script_of};
+ghost use Rattle.gl_run.specs.Answering.{StaysOnErr, ActsOn, SpendsOn, ActsOnLines};
+ghost use Rattle.gl_run.specs.Answering.{SpendsOnLines, SpendsNothing};
 
 use crate::edits::{clear, set};
 use crate::exports::export;
@@ -53,12 +50,10 @@ pub fn answer_line<F: Fn(u8, u64, u64) -> u64, L: Watch>(
     requires kind { kind ≤ 2 }
     requires line { payload_len line.now ≡ None }
     requires kept { IsKept (script_of script.old) }
-    ensures acts { IfOk result (λ reply.
-        Acts csv_records (version_tree version) (script_of script.old) (Line line.now)
-        (script_of script.new) reply.items) }
-    ensures spends { IfOk result (λ reply. Spends (version_tree version) (known_of script.old)
-        (Line line.now) reply.items (known_of script.new) steps.old steps.new) }
-    ensures err { OnErr result (script_of script.new ≡ script_of script.old) }
+    ensures acts { ActsOn (version_tree version) (Line line.now) script.old result script.new }
+    ensures spends { SpendsOn (version_tree version) (Line line.now) script.old steps.old result
+        script.new steps.new }
+    ensures err { StaysOnErr script.old result script.new }
     ensures kept { IsKept (script_of script.new) }
 {
     match command(alloc, line) {
@@ -81,16 +76,10 @@ fn answer_request<F: Fn(u8, u64, u64) -> u64, L: Watch>(
     requires kind { kind ≤ 2 }
     requires proper { IsProperRequest request }
     requires kept { IsKept (script_of script.old) }
-    ensures acts { IfOk result (λ reply.
-        (l : Bytes)
-        → payload_len l ≡ None
-        → Asks l request
-        → Acts csv_records (version_tree version) (script_of script.old) (Line l)
-        (script_of script.new) reply.items) }
-    ensures spends { IfOk result (λ reply. (l : Bytes) → payload_len l ≡ None → Asks l request
-        → Spends (version_tree version) (known_of script.old) (Line l) reply.items
-        (known_of script.new) steps.old steps.new) }
-    ensures err { OnErr result (script_of script.new ≡ script_of script.old) }
+    ensures acts { ActsOnLines (version_tree version) request script.old result script.new }
+    ensures spends { SpendsOnLines (version_tree version) request script.old steps.old result
+        script.new steps.new }
+    ensures err { StaysOnErr script.old result script.new }
 {
     match query_of(&request) {
         Some(query) => answer_query(alloc, script, version, order, kind, steps, query),
@@ -136,19 +125,9 @@ fn answer_other(
     requires other { IsNoQuery request }
     requires proper { IsProperRequest request }
     requires kept { IsKept (script_of script.old) }
-    ensures acts { IfOk result (λ reply.
-        (l : Bytes)
-        → payload_len l ≡ None
-        → Asks l request
-        → Acts csv_records (version_tree version) (script_of script.old) (Line l)
-        (script_of script.new) reply.items) }
-    ensures spends { IfOk result (λ reply.
-        (n : ℕ) (l : Bytes)
-        → payload_len l ≡ None
-        → Asks l request
-        → Spends (version_tree version) (known_of script.old) (Line l) reply.items
-        (known_of script.new) n n) }
-    ensures err { OnErr result (script_of script.new ≡ script_of script.old) }
+    ensures acts { ActsOnLines (version_tree version) request script.old result script.new }
+    ensures spends { SpendsNothing (version_tree version) request script.old result script.new }
+    ensures err { StaysOnErr script.old result script.new }
 {
     match request {
         Request::Nothing => Ok(Vec::new(alloc)),

@@ -1,16 +1,13 @@
 //! Edits of the sheet.
-ghost use Rattle.std.specs.Prelude.{◌≡◌, ◌∷◌, [], Some, IfOk, OnErr};
+ghost use Rattle.std.specs.Prelude.{◌∷◌, [], Some, IfOk};
 ghost use Rattle.gl_language.specs.Content.{IsProperContent};
 ghost use Rattle.gl_protocol.specs.Commands as C;
-ghost use Rattle.gl_protocol.specs.Commands.{places_in};
-ghost use Rattle.gl_protocol.specs.Script.{change, removals};
+ghost use Rattle.gl_protocol.specs.Script.{removals};
 ghost use Rattle.gl_cells.specs.Content.{content_tree};
 ghost use Rattle.gl_calc.specs.View.{sheet_of};
-ghost use Rattle.gl_run.specs.Changed.{IsChanged};
 ghost use Rattle.gl_run.specs.Ready.{IsReady};
 ghost use Rattle.gl_run.specs.Replies.{IsRefusal, put_word};
-ghost use Rattle.gl_run.specs.Script.{known_of, script_of};
-ghost use Rattle.gl_run.specs.Spends.{Touches};
+ghost use Rattle.gl_run.specs.Answering.{DoesRequest};
 
 use crate::changes::{removals, setting};
 use crate::lines::{error_line, text_line};
@@ -39,12 +36,7 @@ pub(crate) fn set(
     content: Content,
 ) -> Result<Vec<u8>, NoMemory>
     requires { IsProperContent (content_tree content) }
-    ensures does { IfOk result (λ reply.
-        IsChanged (change (script_of script.old) (C.Request.Set a (content_tree content)))
-        (script_of script.old) (script_of script.new) reply.items) }
-    ensures touches { IfOk result (λ reply.
-        Touches reply.items (a ∷ []) (known_of script.old) (known_of script.new)) }
-    ensures err { OnErr result (script_of script.new ≡ script_of script.old) }
+    ensures { DoesRequest (C.Request.Set a (content_tree content)) script.old result script.new }
 {
     let list = setting(alloc, a, &content)?;
     match prepare(alloc, script, list) {
@@ -63,12 +55,7 @@ fn put_ready(
 ) -> Result<Vec<u8>, NoMemory>
     requires proper { IsProperContent (content_tree content) }
     requires ready { IsReady script.old ((a, Some (content_tree content)) ∷ []) ready }
-    ensures does { IfOk result (λ reply.
-        IsChanged (change (script_of script.old) (C.Request.Set a (content_tree content)))
-        (script_of script.old) (script_of script.new) reply.items) }
-    ensures touches { IfOk result (λ reply.
-        Touches reply.items (a ∷ []) (known_of script.old) (known_of script.new)) }
-    ensures err { OnErr result (script_of script.new ≡ script_of script.old) }
+    ensures { DoesRequest (C.Request.Set a (content_tree content)) script.old result script.new }
 {
     let reply = text_line(alloc, "ok")?;
     match script.calc.put(a, content) {
@@ -82,13 +69,7 @@ fn put_ready(
 
 /// Removes the contents of a range.
 pub(crate) fn clear(alloc: Global, script: &mut Script, range: &Range) -> Result<Vec<u8>, NoMemory>
-    ensures does { IfOk result (λ reply.
-        IsChanged (change (script_of script.old) (C.Request.Clear range.now))
-        (script_of script.old) (script_of script.new) reply.items) }
-    ensures touches { IfOk result (λ reply.
-        Touches reply.items (places_in (sheet_of script.old.calc) range.now) (known_of script.old)
-        (known_of script.new)) }
-    ensures err { OnErr result (script_of script.new ≡ script_of script.old) }
+    ensures { DoesRequest (C.Request.Clear range.now) script.old result script.new }
 {
     let list = removals(alloc, script.calc.cells(), range)?;
     match prepare(alloc, script, list) {
@@ -105,13 +86,7 @@ fn clear_ready(
     range: &Range,
 ) -> Result<Vec<u8>, NoMemory>
     requires { IsReady script.old (removals (sheet_of script.old.calc) range.now) ready }
-    ensures does { IfOk result (λ reply.
-        IsChanged (change (script_of script.old) (C.Request.Clear range.now))
-        (script_of script.old) (script_of script.new) reply.items) }
-    ensures touches { IfOk result (λ reply.
-        Touches reply.items (places_in (sheet_of script.old.calc) range.now) (known_of script.old)
-        (known_of script.new)) }
-    ensures err { OnErr result (script_of script.new ≡ script_of script.old) }
+    ensures { DoesRequest (C.Request.Clear range.now) script.old result script.new }
 {
     let reply = text_line(alloc, "ok")?;
     script.calc.clear(range);

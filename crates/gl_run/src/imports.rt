@@ -1,5 +1,5 @@
 //! Imports.
-ghost use Rattle.std.specs.Prelude.{◌≡◌, ℕ, Some, map, IfOk, IsSome, OnErr};
+ghost use Rattle.std.specs.Prelude.{ℕ, Some, IfOk, IsSome};
 ghost use Rattle.gl_calculus.specs.Formula.{Version as PlainVersion};
 ghost use Rattle.gl_language.specs.Text.{Bytes};
 ghost use Rattle.gl_calculus.specs.Formula.{IsSheet};
@@ -10,12 +10,12 @@ ghost use Rattle.gl_protocol.specs.Header.{payload_len};
 ghost use Rattle.gl_cells.specs.Sheet.{sheet, AreProper};
 ghost use Rattle.gl_csvin.specs.Import.{csv_records};
 ghost use Rattle.gl_script.specs.Command.{Asks};
-ghost use Rattle.gl_run.specs.Changed.{IsChanged, imported_state};
 ghost use Rattle.gl_run.specs.Kept.{IsKept};
 ghost use Rattle.gl_run.specs.Ready.{IsReady};
 ghost use Rattle.gl_run.specs.Replies.{HasPlace, IsRefusal, csv_word};
 ghost use Rattle.gl_run.specs.Script.{known_of, script_of};
-ghost use Rattle.gl_run.specs.Spends.{Spends, Touches};
+ghost use Rattle.gl_run.specs.Spends.{Spends};
+ghost use Rattle.gl_run.specs.Answering.{StaysOnErr, Imports};
 
 use crate::changes::settings;
 use crate::edits::put_refusal;
@@ -45,7 +45,7 @@ pub fn answer_import(
     ensures spends { IfOk result (λ reply. (version : PlainVersion) (n : ℕ)
         → Spends version (known_of script.old) (Import header.now payload.now) reply.items
         (known_of script.new) n n) }
-    ensures err { OnErr result (script_of script.new ≡ script_of script.old) }
+    ensures err { StaysOnErr script.old result script.new }
     ensures kept { IsKept (script_of script.new) }
 {
     match place(alloc, header) {
@@ -90,7 +90,7 @@ fn import_at(
     ensures spends { IfOk result (λ reply. (version : PlainVersion) (l : Bytes) (n : ℕ)
         → HasPlace l (Some at) → Spends version (known_of script.old) (Import l payload.now)
         reply.items (known_of script.new) n n) }
-    ensures err { OnErr result (script_of script.new ≡ script_of script.old) }
+    ensures err { StaysOnErr script.old result script.new }
 {
     match contents(alloc, payload, at) {
         Ok(list) => put_fields(alloc, script, list),
@@ -106,12 +106,7 @@ fn put_fields(
 ) -> Result<Vec<u8>, NoMemory>
     requires proper { AreProper list.items }
     requires ordered { IsSheet (sheet list.items) }
-    ensures puts { IfOk result (λ reply.
-        IsChanged (imported_state (script_of script.old) (sheet list.items))
-        (script_of script.old) (script_of script.new) reply.items) }
-    ensures touches { IfOk result (λ reply. Touches reply.items (map (λ e. e.0) (sheet list.items))
-        (known_of script.old) (known_of script.new)) }
-    ensures err { OnErr result (script_of script.new ≡ script_of script.old) }
+    ensures { Imports (sheet list.items) script.old result script.new }
 {
     let changes = settings(alloc, &list)?;
     match prepare(alloc, script, changes) {
@@ -129,12 +124,7 @@ fn put_all_ready(
 ) -> Result<Vec<u8>, NoMemory>
     requires proper { AreProper list.items }
     requires ready { IsReady script.old (settings (sheet list.items)) ready }
-    ensures puts { IfOk result (λ reply.
-        IsChanged (imported_state (script_of script.old) (sheet list.items))
-        (script_of script.old) (script_of script.new) reply.items) }
-    ensures touches { IfOk result (λ reply. Touches reply.items (map (λ e. e.0) (sheet list.items))
-        (known_of script.old) (known_of script.new)) }
-    ensures err { OnErr result (script_of script.new ≡ script_of script.old) }
+    ensures { Imports (sheet list.items) script.old result script.new }
 {
     let reply = text_line(alloc, "ok")?;
     match script.calc.put_all(alloc, list) {

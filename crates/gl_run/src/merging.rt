@@ -1,18 +1,18 @@
 //! Replicas: how a script becomes one, and the edits that it takes.
-ghost use Rattle.std.specs.Prelude.{◌≡◌, ◌∷◌, [], IsTrue, IsSome, IfOk, OnErr, option_map};
+ghost use Rattle.std.specs.Prelude.{◌≡◌, ◌∷◌, [], IsTrue, IsSome, option_map};
 ghost use Rattle.gl_edits.specs.Replicas.{is_stamp};
 ghost use Rattle.gl_protocol.specs.Commands as C;
-ghost use Rattle.gl_protocol.specs.Script.{change, allowed_change};
+ghost use Rattle.gl_protocol.specs.Script.{allowed_change};
 ghost use Rattle.gl_cells.specs.Content.{content_tree};
 ghost use Rattle.gl_calc.specs.View.{sheet_of};
 ghost use Rattle.gl_merge.specs.Edit.{IsProperOption, edit_tree};
 ghost use Rattle.gl_script.specs.Command.{edit_of};
-ghost use Rattle.gl_run.specs.Changed.{IsChanged, Marks, Puts, marked_by};
-ghost use Rattle.gl_run.specs.Merged.{CanTakeOne, HasRoom, IsKnown, IsLater, IsMerged, Judges};
-ghost use Rattle.gl_run.specs.Merged.{Rooms, Takes, TouchesMerged};
+ghost use Rattle.gl_run.specs.Changed.{Marks, Puts, marked_by};
+ghost use Rattle.gl_run.specs.Merged.{CanTakeOne, HasRoom, IsKnown, IsLater, Judges};
+ghost use Rattle.gl_run.specs.Merged.{Rooms, Takes};
 ghost use Rattle.gl_run.specs.Script.{known_of, script_of};
-ghost use Rattle.gl_run.specs.Spends.{Touches};
-ghost use Rattle.gl_run.specs.Touched.{touched_by, touched_by_one};
+ghost use Rattle.gl_run.specs.Touched.{touched_by_one};
+ghost use Rattle.gl_run.specs.Answering.{DoesRequest, Merges};
 
 use crate::changes::shared;
 use crate::edits::put_refusal;
@@ -27,13 +27,7 @@ use std::alloc::Global;
 
 /// Makes the script the replica of a site, where it is none and its sheet is empty.
 pub(crate) fn site(alloc: Global, script: &mut Script, site: u16) -> Result<Vec<u8>, NoMemory>
-    ensures does { IfOk result (λ reply.
-        IsChanged (change (script_of script.old) (C.Request.Site site)) (script_of script.old)
-        (script_of script.new) reply.items) }
-    ensures touches { IfOk result (λ reply.
-        Touches reply.items (touched_by (script_of script.old) (C.Request.Site site))
-        (known_of script.old) (known_of script.new)) }
-    ensures err { OnErr result (script_of script.new ≡ script_of script.old) }
+    ensures { DoesRequest (C.Request.Site site) script.old result script.new }
 {
     if script.replica.is_some() {
         return error_line(alloc, "site");
@@ -58,12 +52,7 @@ pub(crate) fn edit(
 ) -> Result<Vec<u8>, NoMemory>
     requires stamp { IsTrue (is_stamp time site) }
     requires proper { IsProperOption content }
-    ensures does { IfOk result (λ reply.
-        IsMerged (script_of script.old) (edit_of time site at content) (script_of script.new)
-        reply.items) }
-    ensures touches { IfOk result (λ reply. TouchesMerged reply.items (edit_of time site at content)
-        (known_of script.old) (known_of script.new)) }
-    ensures err { OnErr result (script_of script.new ≡ script_of script.old) }
+    ensures { Merges (edit_of time site at content) script.old result script.new }
 {
     match Stamp::new(time, site) {
         Some(stamp) => merge(alloc, script, Edit::new(stamp, at, content)),
@@ -73,11 +62,7 @@ pub(crate) fn edit(
 
 /// Takes an edit by what it is to the register of its address.
 fn merge(alloc: Global, script: &mut Script, e: Edit) -> Result<Vec<u8>, NoMemory>
-    ensures does { IfOk result (λ reply. IsMerged (script_of script.old) (edit_tree e)
-        (script_of script.new) reply.items) }
-    ensures touches { IfOk result (λ reply. TouchesMerged reply.items (edit_tree e)
-        (known_of script.old) (known_of script.new)) }
-    ensures err { OnErr result (script_of script.new ≡ script_of script.old) }
+    ensures { Merges (edit_tree e) script.old result script.new }
 {
     match judge(script, &e) {
         Some(Judged::Wins) => merge_later(alloc, script, e),
@@ -102,11 +87,7 @@ fn judge(script: &Script, e: &Edit) -> Option<Judged>
 /// first, so that the replica takes it only with that.
 fn merge_known(alloc: Global, script: &mut Script, e: Edit) -> Result<Vec<u8>, NoMemory>
     requires { IsKnown (script_of script.old) (edit_tree e) }
-    ensures does { IfOk result (λ reply. IsMerged (script_of script.old) (edit_tree e)
-        (script_of script.new) reply.items) }
-    ensures touches { IfOk result (λ reply. TouchesMerged reply.items (edit_tree e)
-        (known_of script.old) (known_of script.new)) }
-    ensures err { OnErr result (script_of script.new ≡ script_of script.old) }
+    ensures { Merges (edit_tree e) script.old result script.new }
 {
     let reply = text_line(alloc, "ok")?;
     take(script, e);
@@ -116,11 +97,7 @@ fn merge_known(alloc: Global, script: &mut Script, e: Edit) -> Result<Vec<u8>, N
 /// Takes an edit that is later than the register of its address.
 fn merge_later(alloc: Global, script: &mut Script, e: Edit) -> Result<Vec<u8>, NoMemory>
     requires { IsLater (script_of script.old) (edit_tree e) }
-    ensures does { IfOk result (λ reply. IsMerged (script_of script.old) (edit_tree e)
-        (script_of script.new) reply.items) }
-    ensures touches { IfOk result (λ reply. TouchesMerged reply.items (edit_tree e)
-        (known_of script.old) (known_of script.new)) }
-    ensures err { OnErr result (script_of script.new ≡ script_of script.old) }
+    ensures { Merges (edit_tree e) script.old result script.new }
 {
     match make_room(script, e.place()) {
         Ok(()) => put_later(alloc, script, e),
@@ -148,11 +125,7 @@ fn make_room(script: &mut Script, a: Addr) -> Result<(), RoomFault>
 fn put_later(alloc: Global, script: &mut Script, e: Edit) -> Result<Vec<u8>, NoMemory>
     requires later { IsLater (script_of script.old) (edit_tree e) }
     requires room { HasRoom script.old e.place }
-    ensures does { IfOk result (λ reply. IsMerged (script_of script.old) (edit_tree e)
-        (script_of script.new) reply.items) }
-    ensures touches { IfOk result (λ reply. TouchesMerged reply.items (edit_tree e)
-        (known_of script.old) (known_of script.new)) }
-    ensures err { OnErr result (script_of script.new ≡ script_of script.old) }
+    ensures { Merges (edit_tree e) script.old result script.new }
 {
     let reply = text_line(alloc, "ok")?;
     let content = shared(e.content())?;

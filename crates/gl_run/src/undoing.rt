@@ -3,21 +3,21 @@ ghost use Rattle.std.specs.Prelude.{◌≡◌, ◌++◌, [], IfOk, OnOk, OnErr, 
 ghost use Rattle.gl_query.specs.Lists.{AreDistinct};
 ghost use Rattle.gl_calculus.specs.Formula.{IsSheet};
 ghost use Rattle.gl_protocol.specs.Commands as C;
-ghost use Rattle.gl_protocol.specs.Script.{change, with_changes};
+ghost use Rattle.gl_protocol.specs.Script.{with_changes};
 ghost use Rattle.gl_cells.specs.Sheet.{sheet, AreProper};
 ghost use Rattle.gl_calc.specs.View.{sheet_of};
 ghost use Rattle.gl_cells.specs.Content.{content_tree};
 ghost use Rattle.gl_undo.specs.View.{AreProperChanges, IsProperOption, changes_tree, places};
-ghost use Rattle.gl_run.specs.Changed.{IsChanged, Marks};
+ghost use Rattle.gl_run.specs.Changed.{Marks};
 ghost use Rattle.gl_replies.specs.Rooms.{HasRoom};
 ghost use Rattle.gl_run.specs.Kept.{IsKept};
 ghost use Rattle.gl_run.specs.Restored.{StepsBack, StepsForward};
-ghost use Rattle.gl_run.specs.Script.{known_of, script_of};
-ghost use Rattle.gl_run.specs.Spends.{Touches};
+ghost use Rattle.gl_run.specs.Script.{script_of};
 ghost use Rattle.gl_protocol.specs.Script.{and_content, coming};
 ghost use Rattle.gl_run.specs.Touched.{and_address, going};
 ghost use Rattle.gl_run.specs.Touched.{cleared, without_these};
-ghost use Rattle.gl_run.specs.Touched.{touched_by, touched_by_all};
+ghost use Rattle.gl_run.specs.Touched.{touched_by_all};
+ghost use Rattle.gl_run.specs.Answering.{DoesRequest};
 
 use crate::changes::{Change, Parts};
 use crate::lines::{error_line, text_line};
@@ -30,12 +30,7 @@ use std::alloc::Global;
 /// Undoes the latest step.
 pub(crate) fn undo(alloc: Global, script: &mut Script) -> Result<Vec<u8>, NoMemory>
     requires { IsKept (script_of script.old) }
-    ensures does { IfOk result (λ reply. IsChanged (change (script_of script.old) C.Request.Undo)
-        (script_of script.old) (script_of script.new) reply.items) }
-    ensures touches { IfOk result (λ reply.
-        Touches reply.items (touched_by (script_of script.old) C.Request.Undo) (known_of script.old)
-        (known_of script.new)) }
-    ensures err { OnErr result (script_of script.new ≡ script_of script.old) }
+    ensures { DoesRequest C.Request.Undo script.old result script.new }
 {
     if script.replica.is_some() {
         return error_line(alloc, "site");
@@ -51,12 +46,7 @@ pub(crate) fn undo(alloc: Global, script: &mut Script) -> Result<Vec<u8>, NoMemo
 /// the sheet changes only with it.
 fn undo_step(alloc: Global, script: &mut Script, list: Vec<Change>) -> Result<Vec<u8>, NoMemory>
     requires { StepsBack script.old list.items }
-    ensures does { IfOk result (λ reply. IsChanged (change (script_of script.old) C.Request.Undo)
-        (script_of script.old) (script_of script.new) reply.items) }
-    ensures touches { IfOk result (λ reply.
-        Touches reply.items (touched_by (script_of script.old) C.Request.Undo) (known_of script.old)
-        (known_of script.new)) }
-    ensures err { OnErr result (script_of script.new ≡ script_of script.old) }
+    ensures { DoesRequest C.Request.Undo script.old result script.new }
 {
     let reply = text_line(alloc, "ok")?;
     match restore(alloc, &mut script.calc, list) {
@@ -71,12 +61,7 @@ fn undo_step(alloc: Global, script: &mut Script, list: Vec<Change>) -> Result<Ve
 /// Does the latest undone step again.
 pub(crate) fn redo(alloc: Global, script: &mut Script) -> Result<Vec<u8>, NoMemory>
     requires { IsKept (script_of script.old) }
-    ensures does { IfOk result (λ reply. IsChanged (change (script_of script.old) C.Request.Redo)
-        (script_of script.old) (script_of script.new) reply.items) }
-    ensures touches { IfOk result (λ reply.
-        Touches reply.items (touched_by (script_of script.old) C.Request.Redo) (known_of script.old)
-        (known_of script.new)) }
-    ensures err { OnErr result (script_of script.new ≡ script_of script.old) }
+    ensures { DoesRequest C.Request.Redo script.old result script.new }
 {
     if script.replica.is_some() {
         return error_line(alloc, "site");
@@ -91,12 +76,7 @@ pub(crate) fn redo(alloc: Global, script: &mut Script) -> Result<Vec<u8>, NoMemo
 /// Does the latest undone step again, with what its addresses had after it.
 fn redo_step(alloc: Global, script: &mut Script, list: Vec<Change>) -> Result<Vec<u8>, NoMemory>
     requires { StepsForward script.old list.items }
-    ensures does { IfOk result (λ reply. IsChanged (change (script_of script.old) C.Request.Redo)
-        (script_of script.old) (script_of script.new) reply.items) }
-    ensures touches { IfOk result (λ reply.
-        Touches reply.items (touched_by (script_of script.old) C.Request.Redo) (known_of script.old)
-        (known_of script.new)) }
-    ensures err { OnErr result (script_of script.new ≡ script_of script.old) }
+    ensures { DoesRequest C.Request.Redo script.old result script.new }
 {
     let reply = text_line(alloc, "ok")?;
     match restore(alloc, &mut script.calc, list) {

@@ -1,24 +1,20 @@
 // The replies of a session, item by item.
-ghost use Rattle.std.specs.Prelude.{◌≡◌, ◌≢◌, ◌||◌, ◌≤◌, ℕ, false, None, IfOk, IfErr, OnOk, IfSome};
+ghost use Rattle.std.specs.Prelude.{◌≡◌, ◌≢◌, ◌||◌, ◌≤◌, ℕ, false, None, IfOk, OnOk, IfSome};
 ghost use Rattle.std.specs.Prelude.{codes};
 ghost use Rattle.std.specs.Option.{option_to_list};
 ghost use Rattle.gl_order.specs.Rule.{PicksBelow, rule_of};
-ghost use Rattle.gl_port.specs.Causes.{Stays};
 ghost use Rattle.gl_ast.specs.View.{version_tree};
-ghost use Rattle.gl_csvin.specs.Import.{csv_records};
 ghost use Rattle.gl_script.specs.Framer.{told};
 ghost use Rattle.gl_script.specs.Framer.{stream_at};
 ghost use Rattle.gl_protocol.specs.FramingLaw.{up_to_quit};
-ghost use Rattle.gl_protocol.specs.Stream.{nothing, step, gained, after, closing};
+ghost use Rattle.gl_protocol.specs.Stream.{nothing, step, gained, after};
 ghost use Rattle.gl_protocol.specs.Framing.{has_quit};
-ghost use Rattle.gl_protocol.specs.Acts.{Acts};
 ghost use Rattle.gl_protocol.specs.Output.{is_line, is_refusal};
-ghost use Rattle.gl_run.specs.Script.{known_of, script_of};
-ghost use Rattle.gl_run.specs.Spends.{Spends};
+ghost use Rattle.gl_run.specs.Script.{known_of};
 ghost use Rattle.gl_run.specs.State.{state_of, start, fresh};
-ghost use Rattle.gl_run.specs.Act.{Act};
 ghost use Rattle.gl_run.specs.Framed.{IsFramed, HasHeader};
-ghost use Rattle.gl_run.specs.Emitted.{Emits, Leaves};
+ghost use Rattle.gl_run.specs.Serving.{ended_item, byte_item, last_item, TellsQuit, Serves};
+ghost use Rattle.gl_run.specs.Answering.{ActsOnSome, SpendsOnSome, Leads};
 
 use crate::answers::{answer_line, answer_long, answer_truncated, is_version_line};
 use crate::imports::answer_import;
@@ -94,12 +90,10 @@ impl Session {
         requires rule { PicksBelow (F.pre (rule_of order.now)) (F.post (rule_of order.now)) }
         requires kind { kind ≤ 2 }
         requires framed { IfSome (told ended self.old.framer) IsFramed }
-        ensures acts { IfOk result (λ reply. IfSome (told ended self.old.framer) (λ item.
-            Acts csv_records (version_tree version) (script_of self.old.script) item
-            (script_of self.new.script) reply.items)) }
-        ensures spends { IfOk result (λ reply. IfSome (told ended self.old.framer) (λ item.
-            Spends (version_tree version) (known_of self.old.script) item reply.items
-            (known_of self.new.script) steps.old steps.new)) }
+        ensures acts { ActsOnSome (version_tree version) (told ended self.old.framer)
+            self.old.script result self.new.script }
+        ensures spends { SpendsOnSome (version_tree version) (told ended self.old.framer)
+            self.old.script steps.old result self.new.script steps.new }
         ensures framer { self.new.framer ≡ self.old.framer }
         ensures version { self.new.version ≡ self.old.version }
         ensures refused { self.new.refused ≡ self.old.refused }
@@ -138,9 +132,8 @@ impl Session {
         requires rule { PicksBelow (F.pre (rule_of order.now)) (F.post (rule_of order.now)) }
         requires kind { kind ≤ 2 }
         requires framed { IfSome (told ended self.old.framer) IsFramed }
-        ensures acts { IfOk result (λ reply. IfSome (told ended self.old.framer) (λ item.
-            Act (fresh (known_of self.old.script) steps.old) item (state_of self.new steps.new)
-            reply.items)) }
+        ensures acts { Leads (told ended self.old.framer)
+            (fresh (known_of self.old.script) steps.old) result (state_of self.new steps.new) }
         ensures framer { self.new.framer ≡ self.old.framer }
         ensures refused { self.new.refused ≡ self.old.refused }
     {
@@ -164,8 +157,8 @@ impl Session {
         requires rule { PicksBelow (F.pre (rule_of order.now)) (F.post (rule_of order.now)) }
         requires kind { kind ≤ 2 }
         requires framed { IfSome (told ended self.old.framer) IsFramed }
-        ensures acts { IfOk result (λ reply. IfSome (told ended self.old.framer) (λ item.
-            Act (state_of self.old steps.old) item (state_of self.new steps.new) reply.items)) }
+        ensures acts { Leads (told ended self.old.framer) (state_of self.old steps.old) result
+            (state_of self.new steps.new) }
         ensures framer { self.new.framer ≡ self.old.framer }
         ensures refused { self.new.refused ≡ self.old.refused }
     {
@@ -199,19 +192,10 @@ impl Session {
         requires kind { kind ≤ 2 }
         requires some { ended ≢ Ended.Nothing }
         requires framed { IfSome (told ended self.old.framer) IsFramed }
-        ensures ok { OnOk result (Emits self.old self.new steps.old steps.new
-            (K.taken sink.old) (K.taken sink.new) (K.takes sink.old) (K.takes sink.new)
-            (option_to_list (told ended self.old.framer))) }
-        ensures quits { IfOk result (λ quits.
-            quits ≡ has_quit (option_to_list (told ended self.old.framer))) }
+        ensures serves { Serves K.taken K.takes K.is_exact K.faults sink.old sink.new result
+            self.old steps.old self.new steps.new (ended_item ended self.old.framer) }
+        ensures quits { TellsQuit result (ended_item ended self.old.framer) }
         ensures framer { self.new.framer ≡ self.old.framer }
-        ensures err { IfErr result (λ stop. Leaves stop
-            (state_of self.old steps.old) (K.taken sink.old) (K.taken sink.new)
-            (K.takes sink.old) (K.is_exact sink.old) (K.is_exact sink.new)
-            (K.faults sink.old) (K.faults sink.new)
-            (option_to_list (told ended self.old.framer))) }
-        ensures count { OnOk result (Stays (K.is_exact sink.old) (K.is_exact sink.new)
-            (K.faults sink.old) (K.faults sink.new)) }
     {
         let quits = self.quits(ended);
         let reply = self.answer(alloc, order, kind, steps, ended)?;
@@ -235,19 +219,10 @@ impl Session {
         requires rule { PicksBelow (F.pre (rule_of order.now)) (F.post (rule_of order.now)) }
         requires kind { kind ≤ 2 }
         requires framed { IfSome (told ended self.old.framer) IsFramed }
-        ensures ok { OnOk result (Emits self.old self.new steps.old steps.new
-            (K.taken sink.old) (K.taken sink.new) (K.takes sink.old) (K.takes sink.new)
-            (option_to_list (told ended self.old.framer))) }
-        ensures quits { IfOk result (λ quits.
-            quits ≡ has_quit (option_to_list (told ended self.old.framer))) }
+        ensures serves { Serves K.taken K.takes K.is_exact K.faults sink.old sink.new result
+            self.old steps.old self.new steps.new (ended_item ended self.old.framer) }
+        ensures quits { TellsQuit result (ended_item ended self.old.framer) }
         ensures framer { self.new.framer ≡ self.old.framer }
-        ensures err { IfErr result (λ stop. Leaves stop
-            (state_of self.old steps.old) (K.taken sink.old) (K.taken sink.new)
-            (K.takes sink.old) (K.is_exact sink.old) (K.is_exact sink.new)
-            (K.faults sink.old) (K.faults sink.new)
-            (option_to_list (told ended self.old.framer))) }
-        ensures count { OnOk result (Stays (K.is_exact sink.old) (K.is_exact sink.new)
-            (K.faults sink.old) (K.faults sink.new)) }
     {
         match ended {
             Ended::Nothing => Ok(false),
@@ -268,20 +243,11 @@ impl Session {
         requires rule { PicksBelow (F.pre (rule_of order.now)) (F.post (rule_of order.now)) }
         requires kind { kind ≤ 2 }
         requires header { HasHeader (stream_at self.old.framer) }
-        ensures ok { OnOk result (Emits self.old self.new steps.old steps.new
-            (K.taken sink.old) (K.taken sink.new) (K.takes sink.old) (K.takes sink.new)
-            (option_to_list (step (stream_at self.old.framer) b).1)) }
-        ensures quits { IfOk result (λ quits.
-            quits ≡ has_quit (option_to_list (step (stream_at self.old.framer) b).1)) }
+        ensures serves { Serves K.taken K.takes K.is_exact K.faults sink.old sink.new result
+            self.old steps.old self.new steps.new (byte_item self.old.framer b) }
+        ensures quits { TellsQuit result (byte_item self.old.framer b) }
         ensures framer { OnOk result
             (stream_at self.new.framer ≡ (step (stream_at self.old.framer) b).0) }
-        ensures err { IfErr result (λ stop. Leaves stop
-            (state_of self.old steps.old) (K.taken sink.old) (K.taken sink.new)
-            (K.takes sink.old) (K.is_exact sink.old) (K.is_exact sink.new)
-            (K.faults sink.old) (K.faults sink.new)
-            (option_to_list (step (stream_at self.old.framer) b).1)) }
-        ensures count { OnOk result (Stays (K.is_exact sink.old) (K.is_exact sink.new)
-            (K.faults sink.old) (K.faults sink.new)) }
     {
         let ended = self.framer.push(b)?;
         self.emit(alloc, order, kind, steps, ended, sink)
@@ -301,20 +267,12 @@ impl Session {
         requires rule { PicksBelow (F.pre (rule_of order.now)) (F.post (rule_of order.now)) }
         requires kind { kind ≤ 2 }
         requires header { HasHeader (stream_at self.old.framer) }
-        ensures ok { OnOk result (Emits self.old self.new steps.old steps.new
-            (K.taken sink.old) (K.taken sink.new) (K.takes sink.old) (K.takes sink.new)
-            (up_to_quit (gained (stream_at self.old.framer) chunk.now))) }
-        ensures quits { IfOk result (λ quits.
-            quits ≡ has_quit (gained (stream_at self.old.framer) chunk.now)) }
+        ensures serves { Serves K.taken K.takes K.is_exact K.faults sink.old sink.new result
+            self.old steps.old self.new steps.new
+            (up_to_quit (gained (stream_at self.old.framer) chunk.now)) }
+        ensures quits { TellsQuit result (gained (stream_at self.old.framer) chunk.now) }
         ensures framer { IfOk result (λ quits. quits ≡ false
             → stream_at self.new.framer ≡ after (stream_at self.old.framer) chunk.now) }
-        ensures err { IfErr result (λ stop. Leaves stop
-            (state_of self.old steps.old) (K.taken sink.old) (K.taken sink.new)
-            (K.takes sink.old) (K.is_exact sink.old) (K.is_exact sink.new)
-            (K.faults sink.old) (K.faults sink.new)
-            (up_to_quit (gained (stream_at self.old.framer) chunk.now))) }
-        ensures count { OnOk result (Stays (K.is_exact sink.old) (K.is_exact sink.new)
-            (K.faults sink.old) (K.faults sink.new)) }
     {
         for b in chunk {
             match self.take_byte(alloc, order, kind, steps, *b, sink) {
@@ -339,16 +297,8 @@ impl Session {
         requires rule { PicksBelow (F.pre (rule_of order.now)) (F.post (rule_of order.now)) }
         requires kind { kind ≤ 2 }
         requires header { HasHeader (stream_at self.old.framer) }
-        ensures ok { OnOk result (Emits self.old self.new steps.old steps.new
-            (K.taken sink.old) (K.taken sink.new) (K.takes sink.old) (K.takes sink.new)
-            (option_to_list (closing (stream_at self.old.framer)))) }
-        ensures err { IfErr result (λ stop. Leaves stop
-            (state_of self.old steps.old) (K.taken sink.old) (K.taken sink.new)
-            (K.takes sink.old) (K.is_exact sink.old) (K.is_exact sink.new)
-            (K.faults sink.old) (K.faults sink.new)
-            (option_to_list (closing (stream_at self.old.framer)))) }
-        ensures count { OnOk result (Stays (K.is_exact sink.old) (K.is_exact sink.new)
-            (K.faults sink.old) (K.faults sink.new)) }
+        ensures serves { Serves K.taken K.takes K.is_exact K.faults sink.old sink.new result
+            self.old steps.old self.new steps.new (last_item self.old.framer) }
     {
         let ended = self.framer.finish()?;
         self.emit(alloc, order, kind, steps, ended, sink)?;

@@ -1,4 +1,4 @@
-use Rattle.std.proofs.Common.{◌≡◌, ◌∙◌, ℕ, Vec, Global, IfOk, sym, ap, subst}
+use Rattle.std.proofs.Common.{rules, ◌≡◌, ◌∙◌, ℕ, Vec, Global, IfOk, sym, ap, subst}
 use Rattle.std.proofs.lemmas.Result.{IfOk-weaker}
 use Rattle.gl_calculus.specs.Formula.{Cells}
 use Rattle.gl_calculus.specs.Grid.{AreInOrder}
@@ -30,18 +30,18 @@ clear_ready-requires c =
     let value = c.in_ok-list.ensures.value ∙ ap (λ (Z : Cells). removals Z r) same in
     subst (λ (cs : Changes). IsReady mid cs c.in-Ok.ready) value c.in-Ok.ensures.ready
 
-pub returns-in-Ok-clause-does : goal.returns-in-Ok-clause-does
-returns-in-Ok-clause-does c =
+pub returns-in-Ok : goal.returns-in-Ok
+returns-in-Ok c =
     let x = C.Request.Clear c.args.range.now in
     let same = ap (λ (K : Known). K.script) c.in-Ok.ensures.known in
-    subst (λ (s : P.Script). IfOk c.clear_ready.result (λ reply. IsChanged (change s x) s (script_of c.clear_ready.new.script) reply.items)) same c.clear_ready.ensures.does
+    record {
+      does = subst (λ (s : P.Script). IfOk c.clear_ready.result (λ reply. IsChanged (change s x) s (script_of c.clear_ready.new.script) reply.items)) same c.clear_ready.ensures.does;
+      touches = subst (λ (K : Known). IfOk c.clear_ready.result (λ reply. Touches reply.items (places_in K.script.sheet c.args.range.now) K (known_of c.clear_ready.new.script))) c.in-Ok.ensures.known c.clear_ready.ensures.touches;
+      err = search rules;
+    }
 
-pub returns-in-Ok-clause-touches : goal.returns-in-Ok-clause-touches
-returns-in-Ok-clause-touches c =
-    subst (λ (K : Known). IfOk c.clear_ready.result (λ reply. Touches reply.items (places_in K.script.sheet c.args.range.now) K (known_of c.clear_ready.new.script))) c.in-Ok.ensures.known c.clear_ready.ensures.touches
-
-pub returns-in-Err-clause-does : goal.returns-in-Err-clause-does
-returns-in-Err-clause-does c =
+pub returns-in-Err : goal.returns-in-Err
+returns-in-Err c =
     let s = script_of c.args.script.now in
     let s' = script_of c.prepare.new.script in
     let r = c.args.range.now in
@@ -50,15 +50,13 @@ returns-in-Err-clause-does c =
     let refused : IsRefusedBy o s' (removals s.sheet r) = subst (λ (cs : Changes). IsRefusedBy o s' cs) value c.in-Err.ensures.ready in
     let W : Vec ℕ Global → Type 0 = λ reply. IsRefusal o reply.items in
     let Q : Vec ℕ Global → Type 0 = λ reply. IsChanged (change s (C.Request.Clear r)) s s' reply.items in
-    IfOk-weaker c.local_refusal.result W Q
-    (λ reply p. refused_changed o s s' (removals s.sheet r) (Is (without s.sheet r)) reply.items (ap (λ (K : Known). K.script) c.in-Err.ensures.known) refused p) c.local_refusal.ensures
-
-pub returns-in-Err-clause-touches : goal.returns-in-Err-clause-touches
-returns-in-Err-clause-touches c =
     let K = known_of c.args.script.now in
     let K' = known_of c.prepare.new.script in
-    let o = local_word c.in-Err.fault in
     let ps = places_in K.script.sheet c.args.range.now in
-    let W : Vec ℕ Global → Type 0 = λ reply. IsRefusal o reply.items in
-    let Q : Vec ℕ Global → Type 0 = λ reply. Touches reply.items ps K K' in
-    IfOk-weaker c.local_refusal.result W Q (λ reply p. touches_kept ps K K' c.in-Err.ensures.known o reply.items p) c.local_refusal.ensures
+    let T : Vec ℕ Global → Type 0 = λ reply. Touches reply.items ps K K' in
+    record {
+      does = IfOk-weaker c.local_refusal.result W Q
+          (λ reply p. refused_changed o s s' (removals s.sheet r) (Is (without s.sheet r)) reply.items (ap (λ (K : Known). K.script) c.in-Err.ensures.known) refused p) c.local_refusal.ensures;
+      touches = IfOk-weaker c.local_refusal.result W T (λ reply p. touches_kept ps K K' c.in-Err.ensures.known o reply.items p) c.local_refusal.ensures;
+      err = search rules;
+    }

@@ -22,7 +22,7 @@ returns-in-Ok-clause-acts c =
     let p = c.args.payload.now in
     let P : Vec ℕ Global → Type 0 = λ reply. IsChanged (imported_state s cs) s s' reply.items in
     let Q : Vec ℕ Global → Type 0 = λ reply. (version : Version) (l : List ℕ) → HasPlace l (Some c.args.at) → Acts csv_records version s (Import l p) s' reply.items in
-    IfOk-weaker c.put_fields.result P Q (λ reply h version l at. import_put version s s' l p reply.items c.args.at cs at c.in-Ok.ensures.answers h) c.put_fields.ensures.puts
+    IfOk-weaker c.put_fields.result P Q (λ reply h version l at. import_put version s s' l p reply.items c.args.at cs at c.in-Ok.ensures.answers h) c.put_fields.ensures.does
 
 pub returns-in-Err-clause-acts : goal.returns-in-Err-clause-acts
 returns-in-Err-clause-acts c =

@@ -1,4 +1,4 @@
-use Rattle.std.proofs.Common.{ℕ, map, Vec, Global, IfOk, sym, ap, subst}
+use Rattle.std.proofs.Common.{rules, ℕ, map, Vec, Global, IfOk, sym, ap, subst}
 use Rattle.std.proofs.lemmas.Result.{IfOk-weaker}
 use Rattle.gl_calculus.specs.Grid.{AreInOrder}
 use Rattle.gl_edits.specs.Replicas.{Changes}
@@ -26,17 +26,17 @@ prepare-requires-clause-ordered c = subst (λ (cs : Changes). AreInOrder (places
 pub put_all_ready-requires-clause-ready : goal.put_all_ready-requires-clause-ready
 put_all_ready-requires-clause-ready c = subst (λ (cs : Changes). IsReady c.prepare.new.script cs c.in-Ok.ready) (rw c.deref.ensures.value at c.in_ok-changes.ensures.value) c.in-Ok.ensures.ready
 
-pub returns-in-Ok-clause-puts : goal.returns-in-Ok-clause-puts
-returns-in-Ok-clause-puts c =
+pub returns-in-Ok : goal.returns-in-Ok
+returns-in-Ok c =
     let same = ap (λ (K : Known). K.script) c.in-Ok.ensures.known in
-    subst (λ (s : P.Script). IfOk c.put_all_ready.result (λ reply. IsChanged (imported_state s (sheet c.args.list.items)) s (script_of c.put_all_ready.new.script) reply.items)) same c.put_all_ready.ensures.puts
+    record {
+      does = subst (λ (s : P.Script). IfOk c.put_all_ready.result (λ reply. IsChanged (imported_state s (sheet c.args.list.items)) s (script_of c.put_all_ready.new.script) reply.items)) same c.put_all_ready.ensures.does;
+      touches = subst (λ (K : Known). IfOk c.put_all_ready.result (λ reply. Touches reply.items (map (λ e. e.0) (sheet c.args.list.items)) K (known_of c.put_all_ready.new.script))) c.in-Ok.ensures.known c.put_all_ready.ensures.touches;
+      err = search rules;
+    }
 
-pub returns-in-Ok-clause-touches : goal.returns-in-Ok-clause-touches
-returns-in-Ok-clause-touches c =
-    subst (λ (K : Known). IfOk c.put_all_ready.result (λ reply. Touches reply.items (map (λ e. e.0) (sheet c.args.list.items)) K (known_of c.put_all_ready.new.script))) c.in-Ok.ensures.known c.put_all_ready.ensures.touches
-
-pub returns-in-Err-clause-puts : goal.returns-in-Err-clause-puts
-returns-in-Err-clause-puts c =
+pub returns-in-Err : goal.returns-in-Err
+returns-in-Err c =
     let s = script_of c.args.script.now in
     let s' = script_of c.prepare.new.script in
     let cs = sheet c.args.list.items in
@@ -45,15 +45,13 @@ returns-in-Err-clause-puts c =
     let refused : IsRefusedBy o s' (settings cs) = subst (λ (ds : Changes). IsRefusedBy o s' ds) value c.in-Err.ensures.ready in
     let W : Vec ℕ Global → Type 0 = λ reply. IsRefusal o reply.items in
     let Q : Vec ℕ Global → Type 0 = λ reply. IsChanged (imported_state s cs) s s' reply.items in
-    IfOk-weaker c.local_refusal.result W Q
-    (λ reply p. refused_changed o s s' (settings cs) (allowed (with_contents s.sheet cs)) reply.items (ap (λ (K : Known). K.script) c.in-Err.ensures.known) refused p) c.local_refusal.ensures
-
-pub returns-in-Err-clause-touches : goal.returns-in-Err-clause-touches
-returns-in-Err-clause-touches c =
     let K = known_of c.args.script.now in
     let K' = known_of c.prepare.new.script in
-    let o = local_word c.in-Err.fault in
     let ps = map (λ e. e.0) (sheet c.args.list.items) in
-    let W : Vec ℕ Global → Type 0 = λ reply. IsRefusal o reply.items in
-    let Q : Vec ℕ Global → Type 0 = λ reply. Touches reply.items ps K K' in
-    IfOk-weaker c.local_refusal.result W Q (λ reply p. touches_kept ps K K' c.in-Err.ensures.known o reply.items p) c.local_refusal.ensures
+    let T : Vec ℕ Global → Type 0 = λ reply. Touches reply.items ps K K' in
+    record {
+      does = IfOk-weaker c.local_refusal.result W Q
+          (λ reply p. refused_changed o s s' (settings cs) (allowed (with_contents s.sheet cs)) reply.items (ap (λ (K : Known). K.script) c.in-Err.ensures.known) refused p) c.local_refusal.ensures;
+      touches = IfOk-weaker c.local_refusal.result W T (λ reply p. touches_kept ps K K' c.in-Err.ensures.known o reply.items p) c.local_refusal.ensures;
+      err = search rules;
+    }

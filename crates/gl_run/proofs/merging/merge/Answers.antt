@@ -1,4 +1,4 @@
-use Rattle.std.proofs.Common.{◌≡◌, ℕ, Some, Vec, Global, inl, inr, refl}
+use Rattle.std.proofs.Common.{rules, ◌≡◌, ℕ, Some, Vec, Global, inl, inr, refl}
 use Rattle.std.proofs.lemmas.Result.{IfOk-weaker}
 use Rattle.gl_protocol.specs.Commands as C
 use Rattle.gl_protocol.specs.Commands.{error_line}
@@ -19,34 +19,30 @@ merge_known-requires c = inl (rw c.in-Some-Loses.field-0-is at c.in-Some-Loses.e
 pub merge_known-requires-in-Some-Same : goal.merge_known-requires-in-Some-Same
 merge_known-requires-in-Some-Same c = inr (rw c.in-Some-Same.field-0-is at c.in-Some-Same.ensures)
 
-pub returns-in-Some-Conflict-clause-does : goal.returns-in-Some-Conflict-clause-does
-returns-in-Some-Conflict-clause-does c =
+pub returns-in-Some-Conflict : goal.returns-in-Some-Conflict
+returns-in-Some-Conflict c =
     let s = script_of c.args.script.now in
     let e = edit_tree c.args.e in
     let W : Vec ℕ Global → Type 0 = λ reply. reply.items ≡ error_line C.ConflictWord in
     let Q : Vec ℕ Global → Type 0 = λ reply. IsMerged s e s reply.items in
-    IfOk-weaker c.error_line.result W Q (λ reply p. conflict_merged s e reply.items (rw c.in-Some-Conflict.field-0-is at c.in-Some-Conflict.ensures) p) c.error_line.ensures
-
-pub returns-in-Some-Conflict-clause-touches : goal.returns-in-Some-Conflict-clause-touches
-returns-in-Some-Conflict-clause-touches c =
     let K = known_of c.args.script.now in
-    let e = edit_tree c.args.e in
-    let W : Vec ℕ Global → Type 0 = λ reply. reply.items ≡ error_line C.ConflictWord in
-    let Q : Vec ℕ Global → Type 0 = λ reply. TouchesMerged reply.items e K K in
-    IfOk-weaker c.error_line.result W Q (λ reply p. touches_kept (touched_by K.script (C.Request.Merge e)) K K refl (Some C.ConflictWord) reply.items p) c.error_line.ensures
+    let T : Vec ℕ Global → Type 0 = λ reply. TouchesMerged reply.items e K K in
+    record {
+      does = IfOk-weaker c.error_line.result W Q (λ reply p. conflict_merged s e reply.items (rw c.in-Some-Conflict.field-0-is at c.in-Some-Conflict.ensures) p) c.error_line.ensures;
+      touches = IfOk-weaker c.error_line.result W T (λ reply p. touches_kept (touched_by K.script (C.Request.Merge e)) K K refl (Some C.ConflictWord) reply.items p) c.error_line.ensures;
+      err = search rules;
+    }
 
-pub returns-in-None-clause-does : goal.returns-in-None-clause-does
-returns-in-None-clause-does c =
+pub returns-in-None : goal.returns-in-None
+returns-in-None c =
     let s = script_of c.args.script.now in
     let e = edit_tree c.args.e in
     let W : Vec ℕ Global → Type 0 = λ reply. reply.items ≡ error_line C.SiteWord in
     let Q : Vec ℕ Global → Type 0 = λ reply. IsMerged s e s reply.items in
-    IfOk-weaker c.error_line-in-None.result W Q (λ reply p. alone_merged s e reply.items c.in-None.ensures p) c.error_line-in-None.ensures
-
-pub returns-in-None-clause-touches : goal.returns-in-None-clause-touches
-returns-in-None-clause-touches c =
     let K = known_of c.args.script.now in
-    let e = edit_tree c.args.e in
-    let W : Vec ℕ Global → Type 0 = λ reply. reply.items ≡ error_line C.SiteWord in
-    let Q : Vec ℕ Global → Type 0 = λ reply. TouchesMerged reply.items e K K in
-    IfOk-weaker c.error_line-in-None.result W Q (λ reply p. touches_kept (touched_by K.script (C.Request.Merge e)) K K refl (Some C.SiteWord) reply.items p) c.error_line-in-None.ensures
+    let T : Vec ℕ Global → Type 0 = λ reply. TouchesMerged reply.items e K K in
+    record {
+      does = IfOk-weaker c.error_line-in-None.result W Q (λ reply p. alone_merged s e reply.items c.in-None.ensures p) c.error_line-in-None.ensures;
+      touches = IfOk-weaker c.error_line-in-None.result W T (λ reply p. touches_kept (touched_by K.script (C.Request.Merge e)) K K refl (Some C.SiteWord) reply.items p) c.error_line-in-None.ensures;
+      err = search rules;
+    }

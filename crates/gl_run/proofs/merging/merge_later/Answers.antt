@@ -1,4 +1,4 @@
-use Rattle.std.proofs.Common.{◌≡◌, ℕ, Some, IfOk, Vec, Global, is_some, sym, ap, subst}
+use Rattle.std.proofs.Common.{rules, ◌≡◌, ℕ, Some, IfOk, Vec, Global, is_some, sym, ap, subst}
 use Rattle.std.proofs.lemmas.Result.{IfOk-weaker}
 use Rattle.gl_protocol.specs.Commands as C
 use Rattle.gl_protocol.specs.Commands.{error_line}
@@ -21,16 +21,16 @@ put_later-requires-clause-later c = subst (λ (K : Known). IsLater K.script (edi
 pub put_later-requires-clause-room : goal.put_later-requires-clause-room
 put_later-requires-clause-room c = subst (λ (a : Addr). HasRoom c.make_room.new.script a) c.place.ensures c.in-Ok.ensures.room
 
-pub returns-in-Ok-clause-does : goal.returns-in-Ok-clause-does
-returns-in-Ok-clause-does c =
-    subst (λ (K : Known). IfOk c.put_later.result (λ reply. IsMerged K.script (edit_tree c.args.e) (script_of c.put_later.new.script) reply.items)) c.in-Ok.ensures.known c.put_later.ensures.does
+pub returns-in-Ok : goal.returns-in-Ok
+returns-in-Ok c =
+    record {
+      does = subst (λ (K : Known). IfOk c.put_later.result (λ reply. IsMerged K.script (edit_tree c.args.e) (script_of c.put_later.new.script) reply.items)) c.in-Ok.ensures.known c.put_later.ensures.does;
+      touches = subst (λ (K : Known). IfOk c.put_later.result (λ reply. TouchesMerged reply.items (edit_tree c.args.e) K (known_of c.put_later.new.script))) c.in-Ok.ensures.known c.put_later.ensures.touches;
+      err = search rules;
+    }
 
-pub returns-in-Ok-clause-touches : goal.returns-in-Ok-clause-touches
-returns-in-Ok-clause-touches c =
-    subst (λ (K : Known). IfOk c.put_later.result (λ reply. TouchesMerged reply.items (edit_tree c.args.e) K (known_of c.put_later.new.script))) c.in-Ok.ensures.known c.put_later.ensures.touches
-
-pub returns-in-Err-Edits-clause-does : goal.returns-in-Err-Edits-clause-does
-returns-in-Err-Edits-clause-does c =
+pub returns-in-Err-Edits : goal.returns-in-Err-Edits
+returns-in-Err-Edits c =
     let z = c.make_room.new.script in
     let e = c.args.e in
     let same = c.in-Err-Edits.ensures.known in
@@ -38,14 +38,12 @@ returns-in-Err-Edits-clause-does c =
     let full = subst (λ (a : Addr). IsFull z a) c.place.ensures (rw c.in-Err-Edits.field-0-is at c.in-Err-Edits.ensures.room) in
     let W : Vec ℕ Global → Type 0 = λ reply. reply.items ≡ error_line C.EditsWord in
     let Q : Vec ℕ Global → Type 0 = λ reply. IsMerged (script_of z) (edit_tree e) (script_of z) reply.items in
-    subst (λ (K : Known). IfOk c.error_line.result (λ reply. IsMerged K.script (edit_tree e) (script_of z) reply.items)) same
-    (IfOk-weaker c.error_line.result W Q (λ reply p. full_merged z e later reply.items full p) c.error_line.ensures)
-
-pub returns-in-Err-Edits-clause-touches : goal.returns-in-Err-Edits-clause-touches
-returns-in-Err-Edits-clause-touches c =
     let K = known_of c.args.script.now in
     let K' = known_of c.make_room.new.script in
-    let e = edit_tree c.args.e in
-    let W : Vec ℕ Global → Type 0 = λ reply. reply.items ≡ error_line C.EditsWord in
-    let Q : Vec ℕ Global → Type 0 = λ reply. TouchesMerged reply.items e K K' in
-    IfOk-weaker c.error_line.result W Q (λ reply p. touches_kept (touched_by K.script (C.Request.Merge e)) K K' c.in-Err-Edits.ensures.known (Some C.EditsWord) reply.items p) c.error_line.ensures
+    let T : Vec ℕ Global → Type 0 = λ reply. TouchesMerged reply.items (edit_tree e) K K' in
+    record {
+      does = subst (λ (K : Known). IfOk c.error_line.result (λ reply. IsMerged K.script (edit_tree e) (script_of z) reply.items)) same
+          (IfOk-weaker c.error_line.result W Q (λ reply p. full_merged z e later reply.items full p) c.error_line.ensures);
+      touches = IfOk-weaker c.error_line.result W T (λ reply p. touches_kept (touched_by K.script (C.Request.Merge (edit_tree e))) K K' c.in-Err-Edits.ensures.known (Some C.EditsWord) reply.items p) c.error_line.ensures;
+      err = search rules;
+    }

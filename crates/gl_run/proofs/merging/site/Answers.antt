@@ -1,4 +1,4 @@
-use Rattle.std.proofs.Common.{◌≡◌, ◌∙◌, ℕ, length, [], Some, Vec, Global, option_map, refl, sym, ap, arith}
+use Rattle.std.proofs.Common.{rules, ◌≡◌, ◌∙◌, ℕ, length, [], Some, Vec, Global, option_map, refl, sym, ap, arith}
 use Rattle.std.proofs.lemmas.Result.{IfOk-weaker}
 use Rattle.gl_protocol.specs.Commands as C
 use Rattle.gl_protocol.specs.Commands.{error_line}
@@ -13,47 +13,44 @@ use Rattle.gl_run.proofs.Spending.{touches_kept, touches_marks, marks_nothing}
 use Rattle.gl_run.proofs.Stepping.{alone, some_replica}
 use Rattle.gl_run.proofs.merging.site.Goals as goal
 
-pub returns-then-is_some-clause-does : goal.returns-then-is_some-clause-does
-returns-then-is_some-clause-does c =
+pub returns-then-is_some : goal.returns-then-is_some
+returns-then-is_some c =
     let x = c.args.script.now in
     let s = script_of x in
     let r = some_replica x (sym c.is_some.ensures ∙ c.if-is_some.true) in
     let W : Vec ℕ Global → Type 0 = λ reply. reply.items ≡ error_line C.SiteWord in
     let Q : Vec ℕ Global → Type 0 = λ reply. IsChanged (change s (C.Request.Site c.args.site)) s s reply.items in
-    IfOk-weaker c.error_line.result W Q (λ reply p. site_in_replica s c.args.site r.0 reply.items r.1 p) c.error_line.ensures
-
-pub returns-then-is_some-clause-touches : goal.returns-then-is_some-clause-touches
-returns-then-is_some-clause-touches c =
     let K = known_of c.args.script.now in
-    let W : Vec ℕ Global → Type 0 = λ reply. reply.items ≡ error_line C.SiteWord in
-    let Q : Vec ℕ Global → Type 0 = λ reply. Touches reply.items [] K K in
-    IfOk-weaker c.error_line.result W Q (λ reply p. touches_kept [] K K refl (Some C.SiteWord) reply.items p) c.error_line.ensures
+    let T : Vec ℕ Global → Type 0 = λ reply. Touches reply.items [] K K in
+    record {
+      does = IfOk-weaker c.error_line.result W Q (λ reply p. site_in_replica s c.args.site r.0 reply.items r.1 p) c.error_line.ensures;
+      touches = IfOk-weaker c.error_line.result W T (λ reply p. touches_kept [] K K refl (Some C.SiteWord) reply.items p) c.error_line.ensures;
+      err = search rules;
+    }
 
-pub returns-clause-does : goal.returns-clause-does
-returns-clause-does c =
+pub returns : goal.returns
+returns c =
     let x = c.args.script.now in
     let none = alone x (sym c.is_some.ensures ∙ c.if-is_some.false) in
-    site_done (script_of x) c.args.site (replica_tree c.new.result) (history_tree c.clear.new.self) c.in_ok-reply.reply.items (ap (option_map replica_tree) none)
-    (omega (arith, c.contents.ensures.count, ap length c.cells.ensures, c.if-contents-gt0.false)) c.new.ensures c.clear.ensures c.in_ok-reply.ensures
-
-pub returns-clause-touches : goal.returns-clause-touches
-returns-clause-touches c =
-    let x = c.args.script.now in
     let z = record x { replica = Some c.new.result; history = c.clear.new.self } in
-    touches_marks x z [] c.in_ok-reply.reply.items c.in_ok-reply.ensures (marks_nothing x.calc x.calc refl)
+    record {
+      does = site_done (script_of x) c.args.site (replica_tree c.new.result) (history_tree c.clear.new.self) c.in_ok-reply.reply.items (ap (option_map replica_tree) none)
+          (omega (arith, c.contents.ensures.count, ap length c.cells.ensures, c.if-contents-gt0.false)) c.new.ensures c.clear.ensures c.in_ok-reply.ensures;
+      touches = touches_marks x z [] c.in_ok-reply.reply.items c.in_ok-reply.ensures (marks_nothing x.calc x.calc refl);
+      err = tt;
+    }
 
-pub returns-then-contents-gt0-clause-does : goal.returns-then-contents-gt0-clause-does
-returns-then-contents-gt0-clause-does c =
+pub returns-then-contents-gt0 : goal.returns-then-contents-gt0
+returns-then-contents-gt0 c =
     let x = c.args.script.now in
     let s = script_of x in
     let none = alone x (sym c.is_some.ensures ∙ c.if-is_some.false) in
     let W : Vec ℕ Global → Type 0 = λ reply. reply.items ≡ error_line C.SiteWord in
     let Q : Vec ℕ Global → Type 0 = λ reply. IsChanged (change s (C.Request.Site c.args.site)) s s reply.items in
-    IfOk-weaker c.error_line-then-contents-gt0.result W Q (λ reply p. site_too_late s c.args.site reply.items (ap (option_map replica_tree) none) (omega (arith, c.contents.ensures.count, ap length c.cells.ensures, c.if-contents-gt0.true)) p) c.error_line-then-contents-gt0.ensures
-
-pub returns-then-contents-gt0-clause-touches : goal.returns-then-contents-gt0-clause-touches
-returns-then-contents-gt0-clause-touches c =
     let K = known_of c.args.script.now in
-    let W : Vec ℕ Global → Type 0 = λ reply. reply.items ≡ error_line C.SiteWord in
-    let Q : Vec ℕ Global → Type 0 = λ reply. Touches reply.items [] K K in
-    IfOk-weaker c.error_line-then-contents-gt0.result W Q (λ reply p. touches_kept [] K K refl (Some C.SiteWord) reply.items p) c.error_line-then-contents-gt0.ensures
+    let T : Vec ℕ Global → Type 0 = λ reply. Touches reply.items [] K K in
+    record {
+      does = IfOk-weaker c.error_line-then-contents-gt0.result W Q (λ reply p. site_too_late s c.args.site reply.items (ap (option_map replica_tree) none) (omega (arith, c.contents.ensures.count, ap length c.cells.ensures, c.if-contents-gt0.true)) p) c.error_line-then-contents-gt0.ensures;
+      touches = IfOk-weaker c.error_line-then-contents-gt0.result W T (λ reply p. touches_kept [] K K refl (Some C.SiteWord) reply.items p) c.error_line-then-contents-gt0.ensures;
+      err = search rules;
+    }

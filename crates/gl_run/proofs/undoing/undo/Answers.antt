@@ -1,4 +1,4 @@
-use Rattle.std.proofs.Common.{◌≡◌, ◌∙◌, ℕ, Some, Vec, Global, option_map, refl, sym, ap, subst}
+use Rattle.std.proofs.Common.{rules, ◌≡◌, ◌∙◌, ℕ, Some, Vec, Global, option_map, refl, sym, ap, subst}
 use Rattle.std.proofs.lemmas.Result.{IfOk-weaker}
 use Rattle.gl_edits.specs.Steps.{befores}
 use Rattle.gl_protocol.specs.Commands as C
@@ -18,22 +18,21 @@ use Rattle.gl_run.proofs.Spending.{touches_kept}
 use Rattle.gl_run.proofs.Stepping.{alone, some_replica, told_first, told_nothing, undo_in_replica, undo_nothing}
 use Rattle.gl_run.proofs.undoing.undo.Goals as goal
 
-pub returns-then-is_some-clause-does : goal.returns-then-is_some-clause-does
-returns-then-is_some-clause-does c =
+pub returns-then-is_some : goal.returns-then-is_some
+returns-then-is_some c =
     let x = c.args.script.now in
     let s = script_of x in
     let r = some_replica x (sym c.is_some.ensures ∙ c.if-is_some.true) in
     let W : Vec ℕ Global → Type 0 = λ reply. reply.items ≡ error_line C.SiteWord in
     let Q : Vec ℕ Global → Type 0 = λ reply. IsChanged (change s C.Request.Undo) s s reply.items in
-    IfOk-weaker c.error_line.result W Q (λ reply p. undo_in_replica s r.0 reply.items r.1 p) c.error_line.ensures
-
-pub returns-then-is_some-clause-touches : goal.returns-then-is_some-clause-touches
-returns-then-is_some-clause-touches c =
     let K = known_of c.args.script.now in
     let ps = touched_by K.script C.Request.Undo in
-    let W : Vec ℕ Global → Type 0 = λ reply. reply.items ≡ error_line C.SiteWord in
-    let Q : Vec ℕ Global → Type 0 = λ reply. Touches reply.items ps K K in
-    IfOk-weaker c.error_line.result W Q (λ reply p. touches_kept ps K K refl (Some C.SiteWord) reply.items p) c.error_line.ensures
+    let T : Vec ℕ Global → Type 0 = λ reply. Touches reply.items ps K K in
+    record {
+      does = IfOk-weaker c.error_line.result W Q (λ reply p. undo_in_replica s r.0 reply.items r.1 p) c.error_line.ensures;
+      touches = IfOk-weaker c.error_line.result W T (λ reply p. touches_kept ps K K refl (Some C.SiteWord) reply.items p) c.error_line.ensures;
+      err = search rules;
+    }
 
 pub undo_step-requires : goal.undo_step-requires
 undo_step-requires c =
@@ -47,19 +46,18 @@ undo_step-requires c =
       room = subst (HasRoom (sheet_of x.calc)) (sym (told_first befores (done x.history) (changes_tree c.in-Ok-Some.list.items) (rw c.in-Ok-Some.field-0-is at c.in-Ok-Some.ensures.value))) (can_undo (script_of x) c.requires (rw c.in-Ok-Some.field-0-is at c.in-Ok-Some.ensures.left));
     }
 
-pub returns-in-Ok-None-clause-does : goal.returns-in-Ok-None-clause-does
-returns-in-Ok-None-clause-does c =
+pub returns-in-Ok-None : goal.returns-in-Ok-None
+returns-in-Ok-None c =
     let x = c.args.script.now in
     let s = script_of x in
     let none = told_nothing befores (done x.history) (rw c.in-Ok-None.field-0-is at c.in-Ok-None.ensures.value) in
     let W : Vec ℕ Global → Type 0 = λ reply. reply.items ≡ error_line C.UndoWord in
     let Q : Vec ℕ Global → Type 0 = λ reply. IsChanged (change s C.Request.Undo) s s reply.items in
-    IfOk-weaker c.error_line-in-Ok-None.result W Q (λ reply p. undo_nothing s reply.items (ap (option_map replica_tree) (alone x (sym c.is_some.ensures ∙ c.if-is_some.false))) none p) c.error_line-in-Ok-None.ensures
-
-pub returns-in-Ok-None-clause-touches : goal.returns-in-Ok-None-clause-touches
-returns-in-Ok-None-clause-touches c =
     let K = known_of c.args.script.now in
     let ps = touched_by K.script C.Request.Undo in
-    let W : Vec ℕ Global → Type 0 = λ reply. reply.items ≡ error_line C.UndoWord in
-    let Q : Vec ℕ Global → Type 0 = λ reply. Touches reply.items ps K K in
-    IfOk-weaker c.error_line-in-Ok-None.result W Q (λ reply p. touches_kept ps K K refl (Some C.UndoWord) reply.items p) c.error_line-in-Ok-None.ensures
+    let T : Vec ℕ Global → Type 0 = λ reply. Touches reply.items ps K K in
+    record {
+      does = IfOk-weaker c.error_line-in-Ok-None.result W Q (λ reply p. undo_nothing s reply.items (ap (option_map replica_tree) (alone x (sym c.is_some.ensures ∙ c.if-is_some.false))) none p) c.error_line-in-Ok-None.ensures;
+      touches = IfOk-weaker c.error_line-in-Ok-None.result W T (λ reply p. touches_kept ps K K refl (Some C.UndoWord) reply.items p) c.error_line-in-Ok-None.ensures;
+      err = search rules;
+    }

@@ -12,16 +12,15 @@ use Rattle.gl_run.proofs.Spending.{touches_marks}
 use Rattle.gl_run.proofs.Stepping.{undo_done}
 use Rattle.gl_run.proofs.undoing.undo_step.Goals as goal
 
-pub returns-in-Ok-clause-does : goal.returns-in-Ok-clause-does
-returns-in-Ok-clause-does c =
-    let x = c.args.script.now in
-    undo_done (script_of x) (sheet_of c.restore.new.calc) (history_tree c.moved_back.new.self) (changes_tree c.args.list.items) c.in_ok-reply.reply.items (ap (option_map replica_tree) c.requires.alone) c.requires.changes c.in-Ok.ensures.sheet c.moved_back.ensures c.in_ok-reply.ensures
-
-pub returns-in-Ok-clause-touches : goal.returns-in-Ok-clause-touches
-returns-in-Ok-clause-touches c =
+pub returns-in-Ok : goal.returns-in-Ok
+returns-in-Ok c =
     let x = c.args.script.now in
     let S = sheet_of x.calc in
     let z = record x { calc = c.restore.new.calc; history = c.moved_back.new.self } in
     let reply = c.in_ok-reply.reply.items in
     let marks : Marks (touched_by_all S (latest_changes befores (done x.history))) x.calc z.calc = subst (λ (cs : Changes). Marks (touched_by_all S cs) x.calc z.calc) c.requires.changes c.in-Ok.ensures.marks in
-    touches_marks x z (touched_by_all S (latest_changes befores (done x.history))) reply c.in_ok-reply.ensures marks
+    record {
+      does = undo_done (script_of x) (sheet_of c.restore.new.calc) (history_tree c.moved_back.new.self) (changes_tree c.args.list.items) c.in_ok-reply.reply.items (ap (option_map replica_tree) c.requires.alone) c.requires.changes c.in-Ok.ensures.sheet c.moved_back.ensures c.in_ok-reply.ensures;
+      touches = touches_marks x z (touched_by_all S (latest_changes befores (done x.history))) reply c.in_ok-reply.ensures marks;
+      err = tt;
+    }
