@@ -32,7 +32,8 @@ impl Model for Changes {
 
     ghost view = { λ a. a.ranges.items };
 
-    ghost invariant = { λ a. IsHull a.hull a.ranges.items × AreHulls 0 a.ranges.items a.hulls.items };
+    ghost invariant = { λ a. IsHull a.hull a.ranges.items
+        × AreHulls 0 a.ranges.items a.hulls.items };
 }
 
 impl Changes {
