@@ -1,5 +1,5 @@
 -- What binary search finds among overrides in order.
-use Rattle.std.proofs.Common.{◌≡◌, ℕ, zero, suc, ◌≤◌, ◌<◌, true, false, ◌&&◌, List, [], ◌∷◌, get_or, length, Some, None, arith, refl, ap, sym, subst, inl, inr}
+use Rattle.std.proofs.Common.{◌≡◌, ℕ, zero, suc, ◌+◌, ◌≤◌, ◌<◌, true, false, ◌&&◌, List, [], ◌∷◌, get_or, length, Some, None, arith, refl, ap, sym, subst, inl, inr}
 use Rattle.std.proofs.lemmas.Bool.{and_parts, cases_lt}
 use Rattle.std.proofs.lemmas.Bool.Decides.{nat_tests}
 use Rattle.std.specs.List.{HoldsAt}
@@ -9,6 +9,7 @@ use Rattle.std.specs.declared.cmp.Ordering.TheVariants.{Less, Equal, Greater}
 use Rattle.gl_calculus.specs.Grid.{Addr, Range, same_addr, is_before, covers}
 use Rattle.gl_calculus.specs.Sheet.{override_at}
 use Rattle.gl_calculus.specs.Sound.{are_inside}
+use Rattle.gl_value.specs.Parts.{spot, past}
 use Rattle.gl_value.specs.View.{value_tree, override_trees}
 use Rattle.gl_value.specs.declared.Value.{Value}
 use Rattle.gl_plane.specs.Exact.{exact_addr}
@@ -81,3 +82,50 @@ pub not_found : (r : Range) (xs : List (Addr × Value)) (a : Addr) (i : ℕ) →
 not_found r xs a i h place =
     let parts = place (risen r xs a h) in
     absent xs a (λ k d l. elim (cases_lt k i) [ inl below ↦ less_is (get_or xs k d).0 a (parts.0 k d (omega arith) below) | inr above ↦ greater_is (get_or xs k d).0 a (parts.1 k d above l) ])
+
+-- ---- the places of an address among the overrides
+
+back : (a b : Addr) → is_before b a ≡ true → is_before a b ≡ false
+back a b h = grind (arith, nat_tests)
+
+less_before : (p a : Addr) → addr.cmp p a ≡ Less → is_before a p ≡ false
+less_before p a h = grind (arith, nat_tests)
+
+greater_before : (p a : Addr) → addr.cmp p a ≡ Greater → is_before a p ≡ true
+greater_before p a h = grind (arith, nat_tests)
+
+-- at an override that the address has
+here : (r : Range) (xs : List (Addr × Value)) (a : Addr) (i : ℕ) → are_inside r (override_trees xs) ≡ true → i < length xs → HoldsAt (λ (o : Addr × Value). same_addr a o.0 ≡ true) xs i
+    → (i ≡ spot a (override_trees xs)) × (i + 1 ≡ past a (override_trees xs))
+here r [] a i h l s = absurd (omega (arith, l))
+here r (y ∷ ys) a zero h l s = let e : same_addr a y.0 ≡ true = s y in rw e (refl, refl)
+here r (y ∷ ys) a (suc i) h l s =
+    let first = first_before r y ys i y h (omega arith) in
+    let before : is_before y.0 a ≡ true = subst (λ b. is_before y.0 b ≡ true) (sym (exact_addr.0 a (get_or ys i y).0 (s y))) first in
+    let rest = here r ys a i (inside_tail r y ys h) (omega arith) (λ d. s d) in
+    rw (apart_back a y.0 before, back a y.0 before) (omega (arith, rest.0), omega (arith, rest.1))
+
+-- between those before the address and those after it
+between : (xs : List (Addr × Value)) (a : Addr) (i : ℕ) → i ≤ length xs
+    → ((k : ℕ) (d : Addr × Value) → k < length xs → k < i → addr.cmp (get_or xs k d).0 a ≡ Less)
+    → ((k : ℕ) (d : Addr × Value) → i ≤ k → k < length xs → addr.cmp (get_or xs k d).0 a ≡ Greater)
+    → (i ≡ spot a (override_trees xs)) × (i ≡ past a (override_trees xs))
+between [] a i l below above = (omega (arith, l), omega (arith, l))
+between (y ∷ ys) a zero l below above =
+    let g = above 0 y (omega arith) (omega arith) in
+    rw (greater_is y.0 a g, greater_before y.0 a g) (refl, refl)
+between (y ∷ ys) a (suc i) l below above =
+    let g = below 0 y (omega arith) (omega arith) in
+    let rest = between ys a i (omega arith) (λ k d m n. below (suc k) d (omega arith) (omega arith)) (λ k d m n. above (suc k) d (omega arith) (omega arith)) in
+    rw (less_is y.0 a g, less_before y.0 a g) (omega (arith, rest.0), omega (arith, rest.1))
+
+pub places_found : (r : Range) (xs : List (Addr × Value)) (a : Addr) (i : ℕ) → are_inside r (override_trees xs) ≡ true → i < length xs → HoldsAt (λ (o : Addr × Value). addr.cmp o.0 a ≡ Equal) xs i
+    → (i ≡ spot a (override_trees xs)) × (i + 1 ≡ past a (override_trees xs))
+places_found r xs a i h l at = here r xs a i h l (λ d. equal_is (get_or xs i d).0 a (at d))
+
+pub places_absent : (r : Range) (xs : List (Addr × Value)) (a : Addr) (i : ℕ) → are_inside r (override_trees xs) ≡ true → i ≤ length xs
+    → (IsNonDecreasingBy (λ (o : Addr × Value). ordering_index (addr.cmp o.0 a)) xs → IsPartitionPoint (λ (o : Addr × Value). addr.cmp o.0 a ≡ Less) (λ (o : Addr × Value). addr.cmp o.0 a ≡ Greater) xs i)
+    → (i ≡ spot a (override_trees xs)) × (i ≡ past a (override_trees xs))
+places_absent r xs a i h l place =
+    let parts = place (risen r xs a h) in
+    between xs a i l (λ k d m n. parts.0 k d (omega arith) n) (λ k d m n. parts.1 k d m n)

@@ -10,7 +10,7 @@ ghost use Rattle.gl_calculus.specs.Sheet.{override_at, frame_rank, rank_above, s
 ghost use Rattle.gl_calculus.specs.Sheet.{scalars_weight, value_weight, weight, frame_weight};
 ghost use Rattle.gl_calculus.specs.Sheet.{sheet, update};
 ghost use Rattle.gl_calculus.specs.Sound.{is_sound_scalar, are_sound, is_sound_value};
-ghost use Rattle.gl_calculus.specs.Sound.{are_sound_overrides, is_sound_sheet, is_sound_frame};
+ghost use Rattle.gl_calculus.specs.Sound.{is_sound_sheet, is_sound_frame};
 ghost use Rattle.gl_value.specs.View.{value_tree, array_tree, frame_tree, sheet_tree, scalar_tree};
 ghost use Rattle.gl_value.specs.View.{override_trees, item_trees};
 ghost use Rattle.gl_value.specs.Parts.{value_rank, weight_at, is_sound_made};
@@ -190,6 +190,19 @@ impl Value {
     }
 }
 
+impl SheetVal {
+    /// The weight of the override at the address, and 0 where there is none.
+    fn weight_at(&self, a: Addr) -> u32
+        requires { IsTrue (is_sound_sheet (sheet_tree self.now)) }
+        ensures { result ≡ weight_at (override_trees self.now.overrides.items) a }
+    {
+        match self.get_override(a) {
+            Some(v) => v.weight(),
+            None => 0,
+        }
+    }
+}
+
 impl Env {
     /// The weight of the frame: that of its sheet value and one for each entry of its oracle.
     #[tactic(auto, using(crate::specs::Forms::trees))]
@@ -246,25 +259,12 @@ pub fn update(alloc: Global, env: &Env, s: &SheetVal, a: Addr, v: Value) -> Resu
     if rank > MAX_RANK {
         return Ok(Made::Deep);
     }
-    let weight = s.weight + v.weight() - weight_at(&s.overrides, a);
+    let weight = s.weight + v.weight() - s.weight_at(a);
     if weight > MAX_WEIGHT {
         return Ok(Made::Heavy);
     }
-    let overrides = put(alloc, &s.overrides, a, v)?;
+    let overrides = put(alloc, s, a, v)?;
     make(alloc, s.region, overrides, s.env.share()?, rank, weight)
-}
-
-/// The weight of the override at the address.
-fn weight_at(overrides: &[(Addr, Value)], a: Addr) -> u32
-    requires { IsTrue (are_sound_overrides (override_trees overrides.now)) }
-    ensures { result ≡ weight_at (override_trees overrides.now) a }
-{
-    for (b, x) in overrides {
-        if a == *b {
-            return x.weight();
-        }
-    }
-    0
 }
 
 /// The sheet value of these parts.
