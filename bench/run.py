@@ -114,6 +114,13 @@ def gridlets():
     return [], '\n'.join(lines) + '\n'
 
 
+def what_ifs():
+    """200 copies of a region of 9,990 addresses, 101 of which have content."""
+    lines = ['set A1 5'] + ['set B%d =A1+%d' % (i, i) for i in range(1, 101)]
+    lines += ['set L%d =VIEW(UPDATE(SHEET(A1:J999),A1,%d),B7)' % (i, i) for i in range(1, 201)]
+    return [], '\n'.join(lines + ['show L200']) + '\n'
+
+
 def recursion(n):
     """A recursion of copies in which the keys double at each level."""
     inner = 'UPDATE(UPDATE(SHEET(A1:B3),A1,A1-2),A2,SEQUENCE(2,1))'
@@ -180,7 +187,7 @@ def flow_column():
 
 
 WORKLOADS = [generator, chain, sums, spills, copies, table, commands, asked_again, leaf_edits,
-             siblings, gridlets, recursion22, recursion26, recursion64, totals, explained_chain,
+             siblings, gridlets, what_ifs, recursion22, recursion26, recursion64, totals, explained_chain,
              explained_total, flow_ranges, flow_arrays, flow_column]
 
 

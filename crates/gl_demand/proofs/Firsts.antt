@@ -23,7 +23,7 @@ abbrev pub First : (Addr → Type 0) → Option Addr → Type 0
 First P None = (b : Addr) → P b → ⊥
 First P (Some a) = P a × ((b : Addr) → P b → Before b a → ⊥)
 
-order : (a b : Addr) → (a ≡ b) ⊎ (Before a b ⊎ Before b a)
+pub order : (a b : Addr) → (a ≡ b) ⊎ (Before a b ⊎ Before b a)
 order a b = by_row (cases_order a.row b.row)
   where
     by_col : a.row ≡ b.row → (a.col ≡ b.col) ⊎ ((a.col < b.col) ⊎ (b.col < a.col)) → (a ≡ b) ⊎ (Before a b ⊎ Before b a)
@@ -147,7 +147,7 @@ listed_by : (t : Bool) (b a : Addr) (c : Content) (S : Cells) → same_addr a b 
 listed_by true b a c S e h k = inl (addr_exact a b e)
 listed_by false b a c S e h k = inr (k h)
 
-listed : (S : Cells) (a : Addr) → has_content S a ≡ true → Member a (keys S)
+pub listed : (S : Cells) (a : Addr) → has_content S a ≡ true → Member a (keys S)
 listed [] a h = absurd (cc h)
 listed ((b, c) ∷ S) a h = listed_by (same_addr a b) b a c S refl h (listed S a)
 
@@ -156,7 +156,7 @@ unlisted_by true b a c S e h = refl
 unlisted_by false b a c S e (inl q) = absurd (clash (subst (λ x. same_addr a x ≡ true) q (addr_same a)) e)
 unlisted_by false b a c S e (inr h) = h
 
-unlisted : (S : Cells) (a : Addr) → Member a (keys S) → has_content S a ≡ true
+pub unlisted : (S : Cells) (a : Addr) → Member a (keys S) → has_content S a ≡ true
 unlisted [] a m = absurd m
 unlisted ((b, c) ∷ S) a (inl e) = unlisted_by (same_addr a b) b a c S refl (inl e)
 unlisted ((b, c) ∷ S) a (inr m) = unlisted_by (same_addr a b) b a c S refl (inr (unlisted S a m))

@@ -25,3 +25,5 @@ pub mod Calling
 pub mod Groups
 pub mod PassingOn
 pub mod FirstReads
+pub mod Overridden
+pub mod Filled

@@ -21,3 +21,6 @@ pub mod Arity
 pub mod Choices
 pub mod Values
 pub mod Passing
+pub mod Filling
+pub mod Worlds
+pub mod Calls

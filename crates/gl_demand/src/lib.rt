@@ -10,6 +10,7 @@ mod context;
 mod demand;
 mod elements;
 mod evaluating;
+mod filling;
 mod formulas;
 mod held;
 mod key;

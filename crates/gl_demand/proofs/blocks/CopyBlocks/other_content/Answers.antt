@@ -1,0 +1,23 @@
+use Rattle.std.proofs.Common.{Some, None, sym, subst, ◌∙◌}
+use Rattle.gl_calculus.proofs.Tests.{addr_exact}
+use Rattle.gl_cells.specs.Sheet.{sheet}
+use Rattle.gl_value.specs.View.{sheet_tree}
+use Rattle.gl_demand.specs.Blocks.{has_content_in}
+use Rattle.gl_demand.specs.Filling.{IsFirst, is_filled}
+use Rattle.gl_demand.proofs.Filled.{none_other, first_other, second_other}
+use Rattle.gl_demand.proofs.blocks.CopyBlocks.other_content.Goals as goal
+
+pub returns-in-None : goal.returns-in-None
+returns-in-None c area whole =
+    none_other (has_content_in (sheet c.args.self.now.cells.now) (sheet_tree c.args.self.now.sheet.now)) area c.args.root c.args.part.now whole c.in-None.ensures
+
+pub returns-then-eq : goal.returns-then-eq
+returns-then-eq c area whole =
+    let S = sheet c.args.self.now.cells.now in
+    let s = sheet_tree c.args.self.now.sheet.now in
+    let root : IsFirst (is_filled S s c.args.part.now None) (Some c.args.root) = subst (λ a. IsFirst (is_filled S s c.args.part.now None) (Some a)) (addr_exact c.in-Some.a c.args.root (sym c.eq.ensures ∙ c.if-eq.true)) c.in-Some.ensures in
+    second_other (has_content_in S s) area c.args.root c.args.part.now whole c.next_filled-then-eq.result root c.next_filled-then-eq.ensures
+
+pub returns-else-eq : goal.returns-else-eq
+returns-else-eq c area whole =
+    first_other (has_content_in (sheet c.args.self.now.cells.now) (sheet_tree c.args.self.now.sheet.now)) area c.args.root c.args.part.now whole c.in-Some.a c.in-Some.ensures (sym c.eq.ensures ∙ c.if-eq.false)

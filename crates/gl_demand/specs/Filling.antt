@@ -1,0 +1,45 @@
+-- The addresses with content in a frame, one after the other.
+use Rattle.std.specs.Prelude.{◌≡◌, Bool, true, ◌&&◌, ◌||◌, is_some, List, Option, Some, None, map}
+use Rattle.std.specs.List.{find}
+use Rattle.gl_calculus.specs.Grid.{Addr, Range, is_before, covers}
+use Rattle.gl_calculus.specs.Value.{Overrides, SheetValue, Frame}
+use Rattle.gl_calculus.specs.Sheet.{override_at}
+use Rattle.gl_calculus.specs.Formula.{Cells}
+use Rattle.gl_cells.specs.Search.{is_in_play}
+use Rattle.gl_value.specs.declared.Value.{Value}
+use Rattle.gl_demand.specs.Blocks.{has_content_in}
+use Rattle.gl_demand.specs.Held.{override_in}
+
+-- the address passes the test, and none before it does; or no address does
+abbrev pub IsFirst : (Addr → Bool) → Option Addr → Type 0
+IsFirst p None = (b : Addr) → p b ≡ true → ⊥
+IsFirst p (Some a) = (p a ≡ true) × ((b : Addr) → p b ≡ true → is_before b a ≡ true → ⊥)
+
+-- the address comes before another, if there is one
+abbrev pub comes_before : Option Addr → Addr → Bool
+comes_before None b = true
+comes_before (Some a) b = is_before b a
+
+-- the first override in the range, after one address and before another, if these are given
+abbrev pub next_override : List (Addr × Value) → Range → Option Addr → Option Addr → Option Addr
+next_override os r after before = find (λ b. is_in_play r after b && comes_before before b) (map (λ o. o.0) os)
+
+-- one of these overrides, in the range and after an address, if one is given
+abbrev pub is_overridden_by : Overrides → Range → Option Addr → Addr → Bool
+is_overridden_by os r after b = is_in_play r after b && is_some (override_at os b)
+
+-- an override of the frame, or of one outward, in the range and after an address, if one is given
+abbrev pub is_overridden : Frame → Range → Option Addr → Addr → Bool
+is_overridden e r after b = is_in_play r after b && is_some (override_in e b)
+
+-- The first address that passes the test, or that is overridden.
+abbrev pub IsFirstWith : Frame → Range → Option Addr → (Addr → Bool) → Option Addr → Type 0
+IsFirstWith e r after p = IsFirst (λ b. p b || is_overridden e r after b)
+
+-- an address of the range with content in a frame of the sheet value, after another, if one is given
+abbrev pub is_filled : Cells → SheetValue → Range → Option Addr → Addr → Bool
+is_filled S s r after b = is_in_play r after b && has_content_in S s b
+
+-- of the addresses that pass the test, the part has those that the area has
+abbrev pub HasAll : (Addr → Bool) → (area part : Range) → Type 0
+HasAll has area part = (b : Addr) → has b ≡ true → covers part b ≡ covers area b
