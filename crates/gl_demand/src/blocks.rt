@@ -1,7 +1,8 @@
 //! What stands in the way of arrays: the contents of the sheet, or those of a sheet value's region.
 ghost use Rattle.std.specs.Prelude.{◌≡◌, ◌&&◌, not, true, IsTrue};
 ghost use Rattle.std.specs.List.{find};
-ghost use Rattle.gl_calculus.specs.Grid.{Addr as Plain, Range as Area, same_addr, addresses, covers};
+ghost use Rattle.gl_calculus.specs.Grid.{Addr as Plain, Range as Area, same_addr, addresses};
+ghost use Rattle.gl_calculus.specs.Grid.{covers};
 ghost use Rattle.gl_calculus.specs.Sound.{is_sound_sheet};
 ghost use Rattle.gl_cells.specs.Sheet.{sheet};
 ghost use Rattle.gl_value.specs.View.{sheet_tree};

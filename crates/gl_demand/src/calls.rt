@@ -4,10 +4,10 @@ ghost use Rattle.gl_ast.specs.View.{version_tree, fun_tree, argument_trees};
 ghost use Rattle.gl_calculus.specs.Evaluation as E;
 ghost use Rattle.gl_calculus.specs.Formula as F;
 ghost use Rattle.gl_calculus.specs.Sound.{is_sound_value};
-ghost use Rattle.gl_cells.specs.Sheet.{sheet};
 ghost use Rattle.gl_value.specs.View.{value_tree, frame_tree};
 ghost use Rattle.gl_demand.specs.Scope.{bindings_of};
-ghost use Rattle.gl_demand.specs.Walk.{world};
+ghost use Rattle.gl_demand.specs.Calls.{call_in};
+ghost use Rattle.gl_demand.specs.Worlds.{world_of};
 ghost use Rattle.gl_demand.specs.Values.{plain_call};
 ghost use Rattle.gl_demand.specs.Walks.{Walks};
 
@@ -33,12 +33,9 @@ pub fn call<K: Known>(
     xs: &[Formula],
     trail: &mut Trail,
 ) -> Result<Value, Halt>
-    ensures walk { Walks
-        (world (sheet ctx.now.cells.now) ctx.now.w.now (K.outcomes ctx.now.known.now))
-        (E.call (version_tree ctx.now.version) (frame_tree ctx.now.env.now) (fun_tree fun)
-        (E.arguments (version_tree ctx.now.version) (frame_tree ctx.now.env.now)
-        (bindings_of scope.now.bindings.items) (argument_trees xs.now))) value_tree trail.old result
-        trail.new }
+    ensures walk { Walks (world_of ctx.now)
+        (call_in ctx.now scope.now (fun_tree fun) xs.now)
+        value_tree trail.old result trail.new }
     ensures sound { IfOk result (λ v. IsTrue (is_sound_value (value_tree v))) }
 {
     match fun {
@@ -62,12 +59,9 @@ fn call_if<K: Known>(
     xs: &[Formula],
     trail: &mut Trail,
 ) -> Result<Value, Halt>
-    ensures walk { Walks
-        (world (sheet ctx.now.cells.now) ctx.now.w.now (K.outcomes ctx.now.known.now))
-        (E.call (version_tree ctx.now.version) (frame_tree ctx.now.env.now) F.Fun.If
-        (E.arguments (version_tree ctx.now.version) (frame_tree ctx.now.env.now)
-        (bindings_of scope.now.bindings.items) (argument_trees xs.now))) value_tree trail.old result
-        trail.new }
+    ensures walk { Walks (world_of ctx.now)
+        (call_in ctx.now scope.now F.Fun.If xs.now)
+        value_tree trail.old result trail.new }
     ensures sound { IfOk result (λ v. IsTrue (is_sound_value (value_tree v))) }
 {
     match xs {
@@ -99,12 +93,9 @@ fn call_if_error<K: Known>(
     xs: &[Formula],
     trail: &mut Trail,
 ) -> Result<Value, Halt>
-    ensures walk { Walks
-        (world (sheet ctx.now.cells.now) ctx.now.w.now (K.outcomes ctx.now.known.now))
-        (E.call (version_tree ctx.now.version) (frame_tree ctx.now.env.now) F.Fun.IfError
-        (E.arguments (version_tree ctx.now.version) (frame_tree ctx.now.env.now)
-        (bindings_of scope.now.bindings.items) (argument_trees xs.now))) value_tree trail.old result
-        trail.new }
+    ensures walk { Walks (world_of ctx.now)
+        (call_in ctx.now scope.now F.Fun.IfError xs.now)
+        value_tree trail.old result trail.new }
     ensures sound { IfOk result (λ v. IsTrue (is_sound_value (value_tree v))) }
 {
     match xs {
@@ -132,12 +123,9 @@ fn call_sheet<K: Known>(
     xs: &[Formula],
     trail: &mut Trail,
 ) -> Result<Value, Halt>
-    ensures walk { Walks
-        (world (sheet ctx.now.cells.now) ctx.now.w.now (K.outcomes ctx.now.known.now))
-        (E.call (version_tree ctx.now.version) (frame_tree ctx.now.env.now) F.Fun.Sheet
-        (E.arguments (version_tree ctx.now.version) (frame_tree ctx.now.env.now)
-        (bindings_of scope.now.bindings.items) (argument_trees xs.now))) value_tree trail.old result
-        trail.new }
+    ensures walk { Walks (world_of ctx.now)
+        (call_in ctx.now scope.now F.Fun.Sheet xs.now)
+        value_tree trail.old result trail.new }
     ensures sound { IfOk result (λ v. IsTrue (is_sound_value (value_tree v))) }
 {
     match xs {
@@ -155,12 +143,9 @@ fn call_update<K: Known>(
     xs: &[Formula],
     trail: &mut Trail,
 ) -> Result<Value, Halt>
-    ensures walk { Walks
-        (world (sheet ctx.now.cells.now) ctx.now.w.now (K.outcomes ctx.now.known.now))
-        (E.call (version_tree ctx.now.version) (frame_tree ctx.now.env.now) F.Fun.Update
-        (E.arguments (version_tree ctx.now.version) (frame_tree ctx.now.env.now)
-        (bindings_of scope.now.bindings.items) (argument_trees xs.now))) value_tree trail.old result
-        trail.new }
+    ensures walk { Walks (world_of ctx.now)
+        (call_in ctx.now scope.now F.Fun.Update xs.now)
+        value_tree trail.old result trail.new }
     ensures sound { IfOk result (λ v. IsTrue (is_sound_value (value_tree v))) }
 {
     match xs {
@@ -184,12 +169,9 @@ fn call_view<K: Known>(
     xs: &[Formula],
     trail: &mut Trail,
 ) -> Result<Value, Halt>
-    ensures walk { Walks
-        (world (sheet ctx.now.cells.now) ctx.now.w.now (K.outcomes ctx.now.known.now))
-        (E.call (version_tree ctx.now.version) (frame_tree ctx.now.env.now) F.Fun.View
-        (E.arguments (version_tree ctx.now.version) (frame_tree ctx.now.env.now)
-        (bindings_of scope.now.bindings.items) (argument_trees xs.now))) value_tree trail.old result
-        trail.new }
+    ensures walk { Walks (world_of ctx.now)
+        (call_in ctx.now scope.now F.Fun.View xs.now)
+        value_tree trail.old result trail.new }
     ensures sound { IfOk result (λ v. IsTrue (is_sound_value (value_tree v))) }
 {
     match xs {
@@ -210,12 +192,9 @@ fn call_group<K: Known>(
     xs: &[Formula],
     trail: &mut Trail,
 ) -> Result<Value, Halt>
-    ensures walk { Walks
-        (world (sheet ctx.now.cells.now) ctx.now.w.now (K.outcomes ctx.now.known.now))
-        (E.call (version_tree ctx.now.version) (frame_tree ctx.now.env.now) F.Fun.G
-        (E.arguments (version_tree ctx.now.version) (frame_tree ctx.now.env.now)
-        (bindings_of scope.now.bindings.items) (argument_trees xs.now))) value_tree trail.old result
-        trail.new }
+    ensures walk { Walks (world_of ctx.now)
+        (call_in ctx.now scope.now F.Fun.G xs.now)
+        value_tree trail.old result trail.new }
     ensures sound { IfOk result (λ v. IsTrue (is_sound_value (value_tree v))) }
 {
     match xs {
@@ -250,12 +229,9 @@ fn call_this<K: Known>(
     xs: &[Formula],
     trail: &mut Trail,
 ) -> Result<Value, Halt>
-    ensures walk { Walks
-        (world (sheet ctx.now.cells.now) ctx.now.w.now (K.outcomes ctx.now.known.now))
-        (E.call (version_tree ctx.now.version) (frame_tree ctx.now.env.now) F.Fun.This
-        (E.arguments (version_tree ctx.now.version) (frame_tree ctx.now.env.now)
-        (bindings_of scope.now.bindings.items) (argument_trees xs.now))) value_tree trail.old result
-        trail.new }
+    ensures walk { Walks (world_of ctx.now)
+        (call_in ctx.now scope.now F.Fun.This xs.now)
+        value_tree trail.old result trail.new }
     ensures sound { IfOk result (λ v. IsTrue (is_sound_value (value_tree v))) }
 {
     match xs {
@@ -274,8 +250,7 @@ fn applied<K: Known>(
     xs: &[Formula],
     trail: &mut Trail,
 ) -> Result<Value, Halt>
-    ensures walk { Walks
-        (world (sheet ctx.now.cells.now) ctx.now.w.now (K.outcomes ctx.now.known.now))
+    ensures walk { Walks (world_of ctx.now)
         (plain_call (fun_tree fun)
         (E.arguments (version_tree ctx.now.version) (frame_tree ctx.now.env.now)
         (bindings_of scope.now.bindings.items) (argument_trees xs.now))) value_tree trail.old result

@@ -9,7 +9,8 @@ ghost use Rattle.gl_calculus.specs.Sound.{is_sound_value};
 ghost use Rattle.gl_cells.specs.Sheet.{sheet};
 ghost use Rattle.gl_value.specs.View.{value_tree, frame_tree};
 ghost use Rattle.gl_demand.specs.View.{key_tree, outcome_tree};
-ghost use Rattle.gl_demand.specs.Walk.{World, world};
+ghost use Rattle.gl_demand.specs.Walk.{World};
+ghost use Rattle.gl_demand.specs.Worlds.{world_of};
 ghost use Rattle.gl_demand.specs.Held.{held_tree, IsSoundHeld};
 ghost use Rattle.gl_demand.specs.Walks.{Walks};
 
@@ -28,8 +29,7 @@ pub fn demand<'a, K: Known>(
     trail: &mut Trail,
 ) -> Result<&'a Outcome, Halt>
     requires { IsTrue (is_sound_key (key_tree key)) }
-    ensures walk { Walks
-        (world (sheet ctx.now.cells.now) ctx.now.w.now (K.outcomes ctx.now.known.now))
+    ensures walk { Walks (world_of ctx.now)
         (Demand (key_tree key) give) (λ o. outcome_tree o.now) trail.old result trail.new }
     ensures sound { IfOk result (λ o. IsTrue (is_sound_outcome (outcome_tree o.now))) }
 {
@@ -74,8 +74,7 @@ fn demanded<K: Known>(
     trail: &mut Trail,
 ) -> Result<Option<Value>, Halt>
     requires frame { IsTrue (is_sound_frame (frame_tree env.now)) }
-    ensures walk { Walks
-        (world (sheet ctx.now.cells.now) ctx.now.w.now (K.outcomes ctx.now.known.now))
+    ensures walk { Walks (world_of ctx.now)
         (Demand (Cell (frame_tree env.now) a) own_value) (option_map value_tree) trail.old result
         trail.new }
     ensures sound { IfOk result (λ v. IfSome v (λ x. IsTrue (is_sound_value (value_tree x)))) }
@@ -112,8 +111,7 @@ pub fn own<K: Known>(
     trail: &mut Trail,
 ) -> Result<Option<Value>, Halt>
     requires frame { IsTrue (is_sound_frame (frame_tree env.now)) }
-    ensures walk { Walks
-        (world (sheet ctx.now.cells.now) ctx.now.w.now (K.outcomes ctx.now.known.now))
+    ensures walk { Walks (world_of ctx.now)
         (own (frame_tree env.now) (fact (sheet ctx.now.cells.now) ctx.now.w.now a))
         (option_map value_tree) trail.old result trail.new }
     ensures sound { IfOk result (λ v. IfSome v (λ x. IsTrue (is_sound_value (value_tree x)))) }
@@ -135,8 +133,7 @@ fn value_of<K: Known>(
 ) -> Result<Option<Value>, Halt>
     requires frame { IsTrue (is_sound_frame (frame_tree env.now)) }
     requires held { IsSoundHeld (held_tree held.now) }
-    ensures walk { Walks
-        (world (sheet ctx.now.cells.now) ctx.now.w.now (K.outcomes ctx.now.known.now))
+    ensures walk { Walks (world_of ctx.now)
         (value_of (frame_tree env.now) a (Some (held_tree held.now))) (option_map value_tree)
         trail.old result trail.new }
     ensures sound { IfOk result (λ v. IfSome v (λ x. IsTrue (is_sound_value (value_tree x)))) }

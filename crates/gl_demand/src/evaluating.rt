@@ -14,6 +14,7 @@ ghost use Rattle.gl_ahead.specs.Reading.{Own};
 ghost use Rattle.gl_demand.specs.View.{key_tree, outcome_tree, found_tree};
 ghost use Rattle.gl_demand.specs.Reading.{ahead_tree};
 ghost use Rattle.gl_demand.specs.Walk.{world, walk};
+ghost use Rattle.gl_demand.specs.Worlds.{world_of};
 ghost use Rattle.gl_demand.specs.Walks.{Walks, trail_tree, IsAheadOf};
 ghost use Rattle.gl_demand.specs.Cells.{looked_cell};
 ghost use Rattle.gl_demand.specs.Stopped.{IsReady, IsStopped};
@@ -39,8 +40,7 @@ use std::rc::Rc;
 #[tactic(auto, using(gl_value::specs::Forms::trees), unfolding(gl_calculus::specs::Evaluation::cell_value))]
 fn content_value<K: Known>(ctx: &Context<K>, held: &Held, trail: &mut Trail) -> Result<Value, Halt>
     requires held { IsSoundHeld (held_tree held.now) }
-    ensures walk { Walks
-        (world (sheet ctx.now.cells.now) ctx.now.w.now (K.outcomes ctx.now.known.now))
+    ensures walk { Walks (world_of ctx.now)
         (E.cell_value (version_tree ctx.now.version) (frame_tree ctx.now.env.now)
         (Some (held_tree held.now))) value_tree trail.old result trail.new }
     ensures sound { IfOk result (λ v. IsTrue (is_sound_value (value_tree v))) }
@@ -63,8 +63,7 @@ fn content_value<K: Known>(ctx: &Context<K>, held: &Held, trail: &mut Trail) -> 
 /// The value of a cell, which looks at its own address first.
 #[tactic(auto, using(gl_value::specs::Forms::trees), unfolding(gl_calculus::specs::Evaluation::cell_value))]
 fn cell_at<K: Known>(ctx: &Context<K>, a: Addr, trail: &mut Trail) -> Result<Value, Halt>
-    ensures walk { Walks
-        (world (sheet ctx.now.cells.now) ctx.now.w.now (K.outcomes ctx.now.known.now))
+    ensures walk { Walks (world_of ctx.now)
         (looked_cell (version_tree ctx.now.version) (frame_tree ctx.now.env.now)
         (own_content (content (sheet ctx.now.cells.now) a) (frame_tree ctx.now.env.now) a) a)
         value_tree trail.old result trail.new }
@@ -190,12 +189,12 @@ fn with_own<K: Known>(ctx: &Context<K>, a: Addr, ended: Ended) -> Result<Ended, 
 /// How the evaluation of a cell ends.
 fn evaluate_cell<K: Known>(ctx: &Context<K>, a: Addr, trail: &mut Trail) -> Result<Ended, NoMemory>
     ensures walk { IfOk result (λ x.
-        walk (world (sheet ctx.now.cells.now) ctx.now.w.now (K.outcomes ctx.now.known.now))
+        walk (world_of ctx.now)
         (E.evaluation (version_tree ctx.now.version) (Cell (frame_tree ctx.now.env.now) a))
         (trail_tree trail.old)
         ≡ (found_tree x.found, trail_tree trail.new)) }
     ensures ahead { IfOk result (λ x.
-        IsAheadOf (world (sheet ctx.now.cells.now) ctx.now.w.now (K.outcomes ctx.now.known.now))
+        IsAheadOf (world_of ctx.now)
         (E.evaluation (version_tree ctx.now.version) (Cell (frame_tree ctx.now.env.now) a))
         x.ahead) }
     ensures sound { IfOk result (λ x.
@@ -225,12 +224,12 @@ fn evaluate_copy<K: Known>(
 ) -> Result<Ended, NoMemory>
     requires { IsTrue (is_sound_sheet (sheet_tree s.now.value)) }
     ensures walk { IfOk result (λ x.
-        walk (world (sheet ctx.now.cells.now) ctx.now.w.now (K.outcomes ctx.now.known.now))
+        walk (world_of ctx.now)
         (E.evaluation (version_tree ctx.now.version) (Settle (sheet_tree s.now.value)))
         (trail_tree trail.old)
         ≡ (found_tree x.found, trail_tree trail.new)) }
     ensures ahead { IfOk result (λ x.
-        IsAheadOf (world (sheet ctx.now.cells.now) ctx.now.w.now (K.outcomes ctx.now.known.now))
+        IsAheadOf (world_of ctx.now)
         (E.evaluation (version_tree ctx.now.version) (Settle (sheet_tree s.now.value))) x.ahead) }
     ensures sound { IfOk result (λ x.
         IsSoundFound (Settle (sheet_tree s.now.value)) (found_tree x.found)) }

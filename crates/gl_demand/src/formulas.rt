@@ -3,10 +3,9 @@ ghost use Rattle.std.specs.Prelude.{◌≡◌, IsTrue, IfOk, IfErr};
 ghost use Rattle.gl_ast.specs.View.{version_tree, formula_tree};
 ghost use Rattle.gl_calculus.specs.Evaluation as E;
 ghost use Rattle.gl_calculus.specs.Sound.{is_sound_value};
-ghost use Rattle.gl_cells.specs.Sheet.{sheet};
 ghost use Rattle.gl_value.specs.View.{value_tree, frame_tree};
 ghost use Rattle.gl_demand.specs.Scope.{bindings_of};
-ghost use Rattle.gl_demand.specs.Walk.{world};
+ghost use Rattle.gl_demand.specs.Worlds.{world_of};
 ghost use Rattle.gl_demand.specs.Walks.{Walks};
 
 use crate::Known;
@@ -31,8 +30,7 @@ pub fn eval<K: Known>(
     f: &Formula,
     trail: &mut Trail,
 ) -> Result<Value, Halt>
-    ensures walk { Walks
-        (world (sheet ctx.now.cells.now) ctx.now.w.now (K.outcomes ctx.now.known.now))
+    ensures walk { Walks (world_of ctx.now)
         (E.eval (version_tree ctx.now.version) (frame_tree ctx.now.env.now)
         (bindings_of scope.now.bindings.items) (formula_tree f.now)) value_tree trail.old result
         trail.new }

@@ -8,7 +8,7 @@ ghost use Rattle.gl_calculus.specs.Value as V;
 ghost use Rattle.gl_calculus.specs.Sound.{is_sound_frame, are_sound, is_size, is_sound_value};
 ghost use Rattle.gl_cells.specs.Sheet.{sheet};
 ghost use Rattle.gl_value.specs.View.{scalar_tree, value_tree, frame_tree, item_trees};
-ghost use Rattle.gl_demand.specs.Walk.{world};
+ghost use Rattle.gl_demand.specs.Worlds.{world_of};
 ghost use Rattle.gl_demand.specs.Walks.{EndsWalk, Walks};
 ghost use Rattle.gl_demand.specs.Stopped.{IsHaltIn};
 ghost use Rattle.gl_ahead.specs.Reading.{Area};
@@ -32,8 +32,7 @@ fn read_range<K: Known>(
     trail: &mut Trail,
 ) -> Result<Vec<Scalar>, Halt>
     requires frame { IsTrue (is_sound_frame (frame_tree env.now)) }
-    ensures walk { EndsWalk
-        (world (sheet ctx.now.cells.now) ctx.now.w.now (K.outcomes ctx.now.known.now))
+    ensures walk { EndsWalk (world_of ctx.now)
         (R.deref_all (frame_tree env.now) [] (facts (sheet ctx.now.cells.now) ctx.now.w.now r.now))
         (λ v. map scalar_tree v.items) trail.old result trail.new }
     ensures sound { IfOk result (λ v. IsTrue (are_sound (item_trees v.items))) }
@@ -103,8 +102,7 @@ pub fn at_range<K: Known>(
     trail: &mut Trail,
 ) -> Result<Value, Halt>
     requires frame { IsTrue (is_sound_frame (frame_tree env.now)) }
-    ensures walk { Walks
-        (world (sheet ctx.now.cells.now) ctx.now.w.now (K.outcomes ctx.now.known.now))
+    ensures walk { Walks (world_of ctx.now)
         (R.at_range (frame_tree env.now) r.now) value_tree trail.old result trail.new }
     ensures sound { IfOk result (λ v. IsTrue (is_sound_value (value_tree v))) }
 {

@@ -8,7 +8,8 @@ ghost use Rattle.gl_calculus.specs.Reference as R;
 ghost use Rattle.gl_calculus.specs.Sound.{is_sound_frame, is_sound_scalar, is_sound_value};
 ghost use Rattle.gl_cells.specs.Sheet.{sheet};
 ghost use Rattle.gl_value.specs.View.{scalar_tree, value_tree, frame_tree};
-ghost use Rattle.gl_demand.specs.Walk.{World, world, looking};
+ghost use Rattle.gl_demand.specs.Walk.{World, looking};
+ghost use Rattle.gl_demand.specs.Worlds.{world_of};
 ghost use Rattle.gl_demand.specs.Walks.{Walks, trail_tree};
 ghost use Rattle.gl_demand.specs.Seen.{AreSeen, ReadsOne, ReadsAlone, deref_in};
 ghost use Rattle.gl_demand.specs.declared.trail.Halt.{Halt};
@@ -63,9 +64,9 @@ fn covered_by<K: Known>(
 ) -> Result<Scalar, Halt>
     requires frame { IsTrue (is_sound_frame (frame_tree env.now)) }
     ensures read { (s : List Fact)
-        → AreSeen (world (sheet ctx.now.cells.now) ctx.now.w.now (K.outcomes ctx.now.known.now))
+        → AreSeen (world_of ctx.now)
         seen.old.keys s
-        → ReadsOne (world (sheet ctx.now.cells.now) ctx.now.w.now (K.outcomes ctx.now.known.now))
+        → ReadsOne (world_of ctx.now)
         (R.covered (frame_tree env.now) s
         (Some (record { root = cover.0; rows = cover.1; cols = cover.2 }))) trail.old result
         seen.new.keys trail.new }
@@ -90,9 +91,9 @@ fn covered<K: Known>(
 ) -> Result<Scalar, Halt>
     requires frame { IsTrue (is_sound_frame (frame_tree env.now)) }
     ensures read { (s : List Fact)
-        → AreSeen (world (sheet ctx.now.cells.now) ctx.now.w.now (K.outcomes ctx.now.known.now))
+        → AreSeen (world_of ctx.now)
         seen.old.keys s
-        → ReadsOne (world (sheet ctx.now.cells.now) ctx.now.w.now (K.outcomes ctx.now.known.now))
+        → ReadsOne (world_of ctx.now)
         (R.covered (frame_tree env.now) s
         (R.cover_in (fact (sheet ctx.now.cells.now) ctx.now.w.now a) (frame_tree env.now)))
         trail.old result seen.new.keys trail.new }
@@ -116,9 +117,9 @@ fn shown_by<K: Known>(
     requires frame { IsTrue (is_sound_frame (frame_tree env.now)) }
     requires own { IfSome own.now (λ x. IsTrue (is_sound_value (value_tree x))) }
     ensures read { (s : List Fact)
-        → AreSeen (world (sheet ctx.now.cells.now) ctx.now.w.now (K.outcomes ctx.now.known.now))
+        → AreSeen (world_of ctx.now)
         seen.old.keys s
-        → ReadsOne (world (sheet ctx.now.cells.now) ctx.now.w.now (K.outcomes ctx.now.known.now))
+        → ReadsOne (world_of ctx.now)
         (R.shown_by (frame_tree env.now) s (fact (sheet ctx.now.cells.now) ctx.now.w.now a)
         (option_map value_tree own.now)) trail.old result seen.new.keys trail.new }
     ensures sound { IfOk result (λ x. IsTrue (is_sound_scalar (scalar_tree x))) }
@@ -139,9 +140,9 @@ fn deref_home<K: Known>(
 ) -> Result<Scalar, Halt>
     requires frame { IsTrue (is_sound_frame (frame_tree env.now)) }
     ensures read { (s : List Fact)
-        → AreSeen (world (sheet ctx.now.cells.now) ctx.now.w.now (K.outcomes ctx.now.known.now))
+        → AreSeen (world_of ctx.now)
         seen.old.keys s
-        → ReadsOne (world (sheet ctx.now.cells.now) ctx.now.w.now (K.outcomes ctx.now.known.now))
+        → ReadsOne (world_of ctx.now)
         (deref_in (frame_tree env.now) s (fact (sheet ctx.now.cells.now) ctx.now.w.now a)) trail.old
         result seen.new.keys trail.new }
     ensures sound { IfOk result (λ x. IsTrue (is_sound_scalar (scalar_tree x))) }
@@ -162,9 +163,9 @@ pub fn deref<K: Known>(
 ) -> Result<Scalar, Halt>
     requires frame { IsTrue (is_sound_frame (frame_tree env.now)) }
     ensures read { (s : List Fact)
-        → AreSeen (world (sheet ctx.now.cells.now) ctx.now.w.now (K.outcomes ctx.now.known.now))
+        → AreSeen (world_of ctx.now)
         seen.old.keys s
-        → ReadsOne (world (sheet ctx.now.cells.now) ctx.now.w.now (K.outcomes ctx.now.known.now))
+        → ReadsOne (world_of ctx.now)
         (R.deref (frame_tree env.now) s (fact (sheet ctx.now.cells.now) ctx.now.w.now a)) trail.old
         result seen.new.keys trail.new }
     ensures sound { IfOk result (λ x. IsTrue (is_sound_scalar (scalar_tree x))) }
@@ -189,8 +190,7 @@ fn deref_alone<K: Known>(
     trail: &mut Trail,
 ) -> Result<Scalar, Halt>
     requires frame { IsTrue (is_sound_frame (frame_tree env.now)) }
-    ensures read { ReadsAlone
-        (world (sheet ctx.now.cells.now) ctx.now.w.now (K.outcomes ctx.now.known.now))
+    ensures read { ReadsAlone (world_of ctx.now)
         (R.deref (frame_tree env.now) [] (fact (sheet ctx.now.cells.now) ctx.now.w.now a)) trail.old
         result trail.new }
     ensures sound { IfOk result (λ x. IsTrue (is_sound_scalar (scalar_tree x))) }
@@ -208,8 +208,7 @@ pub fn at_address<K: Known>(
     trail: &mut Trail,
 ) -> Result<Value, Halt>
     requires frame { IsTrue (is_sound_frame (frame_tree env.now)) }
-    ensures walk { Walks
-        (world (sheet ctx.now.cells.now) ctx.now.w.now (K.outcomes ctx.now.known.now))
+    ensures walk { Walks (world_of ctx.now)
         (R.at_address (frame_tree env.now) a) value_tree trail.old result trail.new }
     ensures sound { IfOk result (λ v. IsTrue (is_sound_value (value_tree v))) }
 {

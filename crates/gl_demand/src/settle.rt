@@ -14,7 +14,7 @@ ghost use Rattle.gl_cells.specs.Sheet.{sheet};
 ghost use Rattle.gl_value.specs.View.{value_tree, sheet_tree, frame_tree};
 ghost use Rattle.gl_demand.specs.Held.{held_tree};
 ghost use Rattle.gl_demand.specs.Places.{filled_places};
-ghost use Rattle.gl_demand.specs.Walk.{world};
+ghost use Rattle.gl_demand.specs.Worlds.{world_of};
 ghost use Rattle.gl_demand.specs.Walks.{EndsWalk, Walks};
 ghost use Rattle.gl_demand.specs.Stopped.{IsHaltIn};
 ghost use Rattle.gl_ahead.specs.Reading as Reading;
@@ -44,7 +44,7 @@ pub fn settle<K: Known>(
     trail: &mut Trail,
 ) -> Result<Oracle, Halt>
     requires { IsTrue (is_sound_sheet (sheet_tree s.now.value)) }
-    ensures { Walks (world (sheet ctx.now.cells.now) ctx.now.w.now (K.outcomes ctx.now.known.now))
+    ensures { Walks (world_of ctx.now)
         (LookAt (region (sheet_tree s.now.value)) (λ xs.
         rounds (sheet_tree s.now.value) xs (copy_budget (sheet_tree s.now.value) xs) [])) (λ o. o)
         trail.old result trail.new }
@@ -62,8 +62,8 @@ fn settle_region<K: Known>(
     trail: &mut Trail,
 ) -> Result<Oracle, Halt>
     requires { IsTrue (is_sound_sheet (sheet_tree s.now.value)) }
-    ensures { Walks (world (sheet ctx.now.cells.now) ctx.now.w.now (K.outcomes ctx.now.known.now))
-        (all_rounds (world (sheet ctx.now.cells.now) ctx.now.w.now (K.outcomes ctx.now.known.now))
+    ensures { Walks (world_of ctx.now)
+        (all_rounds (world_of ctx.now)
         (sheet_tree s.now.value)) (λ o. o) trail.old result trail.new }
 {
     match places(ctx.alloc, ctx.cells, s) {
@@ -82,8 +82,8 @@ fn settle_places<K: Known>(
     requires sound { IsTrue (is_sound_sheet (sheet_tree s.now.value)) }
     requires all { places.now ≡ filled_places (sheet ctx.now.cells.now) (sheet_tree s.now.value) }
     requires few { length places.now ≤ grid_rows * grid_cols }
-    ensures { Walks (world (sheet ctx.now.cells.now) ctx.now.w.now (K.outcomes ctx.now.known.now))
-        (all_rounds (world (sheet ctx.now.cells.now) ctx.now.w.now (K.outcomes ctx.now.known.now))
+    ensures { Walks (world_of ctx.now)
+        (all_rounds (world_of ctx.now)
         (sheet_tree s.now.value)) (λ o. o) trail.old result trail.new }
 {
     let budget = copy_budget(ctx.cells, s, places);
@@ -160,7 +160,7 @@ impl<K: Known> Round for CopyRound<'_, '_, K> {
     ghost use Rattle.std.specs.Prelude.{◌≡◌};
     ghost use Rattle.gl_cells.specs.Sheet.{sheet};
     ghost use Rattle.gl_value.specs.View.{sheet_tree};
-    ghost use Rattle.gl_demand.specs.Walk.{world};
+    ghost use Rattle.gl_demand.specs.Worlds.{world_of};
     ghost use Rattle.gl_demand.specs.Walks.{Walks};
     ghost use Rattle.gl_demand.specs.Settling.{Gives, Fails, round_arrays};
 
@@ -169,18 +169,18 @@ impl<K: Known> Round for CopyRound<'_, '_, K> {
     type Count = Trail;
 
     ghost gives = { λ s.
-        Gives (world (sheet s.ctx.now.cells.now) s.ctx.now.w.now (K.outcomes s.ctx.now.known.now))
+        Gives (world_of s.ctx.now)
         (sheet_tree s.copy.now.value) };
 
     ghost fails = { λ s.
-        Fails (world (sheet s.ctx.now.cells.now) s.ctx.now.w.now (K.outcomes s.ctx.now.known.now))
+        Fails (world_of s.ctx.now)
         (sheet_tree s.copy.now.value) };
 
     ghost calls = { λ s c w r t d.
         (t ≡ s)
-        × Walks (world (sheet s.ctx.now.cells.now) s.ctx.now.w.now (K.outcomes s.ctx.now.known.now))
+        × Walks (world_of s.ctx.now)
         (round_arrays
-        (world (sheet s.ctx.now.cells.now) s.ctx.now.w.now (K.outcomes s.ctx.now.known.now))
+        (world_of s.ctx.now)
         (sheet_tree s.copy.now.value) w) (λ zs. zs) c r d };
 
     fn sizes(&mut self, w: &Oracle, trail: &mut Trail) -> Result<Sizes, Halt> {
@@ -226,8 +226,7 @@ fn arrays_at<K: Known>(
 ) -> Result<Sizes, Halt>
     requires frame { IsTrue (is_sound_frame (frame_tree env.now)) }
     requires ordered { AreInOrder places.now }
-    ensures { EndsWalk
-        (world (sheet ctx.now.cells.now) ctx.now.w.now (K.outcomes ctx.now.known.now))
+    ensures { EndsWalk (world_of ctx.now)
         (arrays (frame_tree env.now)
         (map (fact (sheet ctx.now.cells.now) ctx.now.w.now) places.now)) (λ zs. zs) trail.old result
         trail.new }
@@ -252,8 +251,7 @@ fn visit<K: Known>(
 ) -> Result<(), Halt>
     requires frame { IsTrue (is_sound_frame (frame_tree env.now)) }
     requires last { (z : PlainSize) → AreSizes (sizes.old ++ (a, z) ∷ []) }
-    ensures walk { Visits
-        (world (sheet ctx.now.cells.now) ctx.now.w.now (K.outcomes ctx.now.known.now))
+    ensures walk { Visits (world_of ctx.now)
         (frame_tree env.now) (fact (sheet ctx.now.cells.now) ctx.now.w.now a) sizes.old trail.old
         result sizes.new trail.new }
     ensures ordered { (rest : List PlainAddr)

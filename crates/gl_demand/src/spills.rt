@@ -8,7 +8,7 @@ ghost use Rattle.gl_calculus.specs.Value.{Permitted};
 ghost use Rattle.gl_cells.specs.Sheet.{sheet};
 ghost use Rattle.gl_plane.specs.Permit.{permit_tree};
 ghost use Rattle.gl_value.specs.View.{value_tree, frame_tree};
-ghost use Rattle.gl_demand.specs.Walk.{world};
+ghost use Rattle.gl_demand.specs.Worlds.{world_of};
 ghost use Rattle.gl_demand.specs.Walks.{Walks};
 
 use crate::Known;
@@ -30,7 +30,7 @@ fn permitted<K: Known>(
 ) -> Result<Value, Halt>
     requires frame { IsTrue (is_sound_frame (frame_tree env.now)) }
     ensures walk { (h : R.Held)
-        → Walks (world (sheet ctx.now.cells.now) ctx.now.w.now (K.outcomes ctx.now.known.now))
+        → Walks (world_of ctx.now)
         (R.whole (frame_tree env.now) (fact (sheet ctx.now.cells.now) ctx.now.w.now a) (Some h)
         (Some Permitted)) value_tree trail.old result trail.new }
     ensures sound { IfOk result (λ v. IsTrue (is_sound_value (value_tree v))) }
@@ -52,7 +52,7 @@ fn by_permit<K: Known>(
 ) -> Result<Value, Halt>
     requires frame { IsTrue (is_sound_frame (frame_tree env.now)) }
     ensures walk { (h : R.Held)
-        → Walks (world (sheet ctx.now.cells.now) ctx.now.w.now (K.outcomes ctx.now.known.now))
+        → Walks (world_of ctx.now)
         (R.whole (frame_tree env.now) (fact (sheet ctx.now.cells.now) ctx.now.w.now a) (Some h)
         (Some (permit_tree permit))) value_tree trail.old result trail.new }
     ensures sound { IfOk result (λ v. IsTrue (is_sound_value (value_tree v))) }
@@ -74,7 +74,7 @@ fn whole_by<K: Known>(
 ) -> Result<Value, Halt>
     requires frame { IsTrue (is_sound_frame (frame_tree env.now)) }
     ensures walk { (h : R.Held)
-        → Walks (world (sheet ctx.now.cells.now) ctx.now.w.now (K.outcomes ctx.now.known.now))
+        → Walks (world_of ctx.now)
         (R.whole (frame_tree env.now) (fact (sheet ctx.now.cells.now) ctx.now.w.now a) (Some h)
         (option_map permit_tree permit)) value_tree trail.old result trail.new }
     ensures sound { IfOk result (λ v. IsTrue (is_sound_value (value_tree v))) }
@@ -89,8 +89,7 @@ fn whole_by<K: Known>(
 #[tactic(auto, using(gl_value::specs::Forms::trees))]
 fn whole<K: Known>(ctx: &Context<K>, env: &Env, a: Addr, trail: &mut Trail) -> Result<Value, Halt>
     requires frame { IsTrue (is_sound_frame (frame_tree env.now)) }
-    ensures walk { Walks
-        (world (sheet ctx.now.cells.now) ctx.now.w.now (K.outcomes ctx.now.known.now))
+    ensures walk { Walks (world_of ctx.now)
         (R.whole (frame_tree env.now) (fact (sheet ctx.now.cells.now) ctx.now.w.now a)
         (R.own_content (content (sheet ctx.now.cells.now) a) (frame_tree env.now) a)
         (R.status_in (fact (sheet ctx.now.cells.now) ctx.now.w.now a) (frame_tree env.now)))
@@ -112,8 +111,7 @@ pub fn spill_of<K: Known>(
     trail: &mut Trail,
 ) -> Result<Value, Halt>
     requires frame { IsTrue (is_sound_frame (frame_tree env.now)) }
-    ensures walk { Walks
-        (world (sheet ctx.now.cells.now) ctx.now.w.now (K.outcomes ctx.now.known.now))
+    ensures walk { Walks (world_of ctx.now)
         (R.spill_of (frame_tree env.now) a) value_tree trail.old result trail.new }
     ensures sound { IfOk result (λ v. IsTrue (is_sound_value (value_tree v))) }
 {

@@ -7,11 +7,11 @@ ghost use Rattle.gl_calculus.specs.Sound.{is_sound_frame, is_sound_scalar, is_so
 ghost use Rattle.gl_calculus.specs.Sound.{is_sound_value};
 ghost use Rattle.gl_calculus.specs.Value as V;
 ghost use Rattle.gl_calculus.specs.Value.{In};
-ghost use Rattle.gl_cells.specs.Sheet.{sheet};
 ghost use Rattle.gl_value.specs.View.{scalar_tree, value_tree, frame_tree, sheet_tree};
 ghost use Rattle.gl_demand.specs.View.{key_tree, outcome_tree};
 ghost use Rattle.gl_demand.specs.Viewing.{settling, read_in};
-ghost use Rattle.gl_demand.specs.Walk.{World, world};
+ghost use Rattle.gl_demand.specs.Walk.{World};
+ghost use Rattle.gl_demand.specs.Worlds.{world_of};
 ghost use Rattle.gl_demand.specs.Walks.{Walks};
 ghost use Rattle.gl_demand.specs.declared.trail.Halt.{Halt};
 
@@ -37,8 +37,7 @@ pub fn at_written<K: Known>(
     trail: &mut Trail,
 ) -> Result<Value, Halt>
     requires frame { IsTrue (is_sound_frame (frame_tree env.now)) }
-    ensures walk { Walks
-        (world (sheet ctx.now.cells.now) ctx.now.w.now (K.outcomes ctx.now.known.now))
+    ensures walk { Walks (world_of ctx.now)
         (E.at_written (frame_tree env.now) (formula_tree f.now)) value_tree trail.old result
         trail.new }
     ensures sound { IfOk result (λ v. IsTrue (is_sound_value (value_tree v))) }
@@ -95,7 +94,7 @@ fn settled<K: Known>(
     trail: &mut Trail,
 ) -> Result<Rc<Oracle>, Halt>
     requires { IsTrue (is_sound_sheet (sheet_tree s.now.value)) }
-    ensures { Walks (world (sheet ctx.now.cells.now) ctx.now.w.now (K.outcomes ctx.now.known.now))
+    ensures { Walks (world_of ctx.now)
         (settling (sheet_tree s.now.value)) (λ o. o.value) trail.old result trail.new }
 {
     match settle_key(s) {
@@ -128,8 +127,7 @@ fn read_under<K: Known>(
     trail: &mut Trail,
 ) -> Result<Value, Halt>
     requires { IsTrue (is_sound_sheet (sheet_tree s.now.value)) }
-    ensures walk { Walks
-        (world (sheet ctx.now.cells.now) ctx.now.w.now (K.outcomes ctx.now.known.now))
+    ensures walk { Walks (world_of ctx.now)
         (E.at_written (In (sheet_tree s.now.value) oracle.value) (formula_tree f.now)) value_tree
         trail.old result trail.new }
     ensures sound { IfOk result (λ v. IsTrue (is_sound_value (value_tree v))) }
@@ -148,8 +146,7 @@ fn read_in<K: Known>(
     trail: &mut Trail,
 ) -> Result<Value, Halt>
     requires { IsTrue (is_sound_sheet (sheet_tree s.now.value)) }
-    ensures walk { Walks
-        (world (sheet ctx.now.cells.now) ctx.now.w.now (K.outcomes ctx.now.known.now))
+    ensures walk { Walks (world_of ctx.now)
         (read_in (formula_tree f.now) (sheet_tree s.now.value)) value_tree trail.old result
         trail.new }
     ensures sound { IfOk result (λ v. IsTrue (is_sound_value (value_tree v))) }
@@ -169,8 +166,7 @@ fn viewed_one<K: Known>(
     trail: &mut Trail,
 ) -> Result<Value, Halt>
     requires { IsTrue (is_sound_scalar (scalar_tree x.now)) }
-    ensures walk { Walks
-        (world (sheet ctx.now.cells.now) ctx.now.w.now (K.outcomes ctx.now.known.now))
+    ensures walk { Walks (world_of ctx.now)
         (E.on_sheet (read_in (formula_tree f.now)) (V.Value.One (scalar_tree x.now))) value_tree
         trail.old result trail.new }
     ensures sound { IfOk result (λ v. IsTrue (is_sound_value (value_tree v))) }
@@ -195,8 +191,7 @@ pub fn viewed<K: Known>(
     trail: &mut Trail,
 ) -> Result<Value, Halt>
     requires sound { IsTrue (is_sound_value (value_tree u.now)) }
-    ensures walk { Walks
-        (world (sheet ctx.now.cells.now) ctx.now.w.now (K.outcomes ctx.now.known.now))
+    ensures walk { Walks (world_of ctx.now)
         (E.on_sheet (read_in (formula_tree f.now)) (value_tree u.now)) value_tree trail.old result
         trail.new }
     ensures sound { IfOk result (λ v. IsTrue (is_sound_value (value_tree v))) }
