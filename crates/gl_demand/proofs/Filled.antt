@@ -1,5 +1,5 @@
 -- The first address with content in a frame, by the contents of the sheet and the overrides of each frame outward.
-use Rattle.std.proofs.Common.{◌≡◌, ◌⊎◌, inl, inr, ℕ, suc, ◌≤◌, Bool, true, false, ◌&&◌, ◌||◌, not, cond, is_some, List, [], ◌∷◌, ◌++◌, map, filter, length, Option, Some, None, refl, ap, sym, subst, ◌∙◌, arith, append_assoc}
+use Rattle.std.proofs.Common.{◌≡◌, ◌⊎◌, inl, inr, ℕ, suc, ◌≤◌, Bool, true, false, ◌&&◌, ◌||◌, not, cond, is_some, List, [], ◌∷◌, ◌++◌, map, filter, length, slice_get, Option, Some, None, refl, ap, sym, subst, ◌∙◌, arith, append_assoc, zero, ◌+◌, ◌<◌}
 use Rattle.std.specs.List.{find}
 use Rattle.gl_query.specs.Lists.{Member}
 use Rattle.gl_calculus.specs.Grid.{Addr, Range, same_addr, is_before, AreInOrder, addresses, covers}
@@ -7,6 +7,8 @@ use Rattle.gl_calculus.specs.Value.{Overrides, SheetValue, sheet_value, region, 
 use Rattle.gl_calculus.specs.Value as V
 use Rattle.gl_calculus.specs.Sheet.{override_at}
 use Rattle.gl_calculus.specs.Formula.{Content, Const, Form, Cells, IsSheet, content}
+use Rattle.gl_calculus.specs.Facts.{fact}
+use Rattle.gl_ahead.specs.Demands.{own_keys, held_keys}
 use Rattle.gl_calculus.specs.Reference.{Held, override_or, held_top, content_in, own_content}
 use Rattle.gl_calculus.proofs.Tests.{both, and_true, addr_exact, addr_same}
 use Rattle.gl_calculus.proofs.Grants.{Before, before_of, of_before, before_trans, not_same, clash}
@@ -15,7 +17,7 @@ use Rattle.gl_value.specs.View.{override_trees}
 use Rattle.gl_value.specs.declared.Value.{Value}
 use Rattle.gl_demand.specs.Blocks.{has_content_in}
 use Rattle.gl_demand.specs.Held.{or_else, override_in}
-use Rattle.gl_demand.specs.Filling.{IsFirst, comes_before, next_override, is_overridden, is_overridden_by, IsFirstWith, is_filled, HasAll}
+use Rattle.gl_demand.specs.Filling.{IsFirst, comes_before, next_override, is_overridden, is_overridden_by, IsFirstWith, is_content, is_filled, is_held, HasNone}
 use Rattle.gl_demand.proofs.Ordered.{tail, behind, addresses_order}
 use Rattle.gl_demand.proofs.Firsts as F
 use Rattle.gl_demand.proofs.Overridden.{places, listed, unlisted}
@@ -123,9 +125,6 @@ one_outward p q os e k w oracle r after o h =
 
 -- ---- with the contents of the sheet
 
-abbrev pub is_content : Cells → Range → Option Addr → Addr → Bool
-is_content S r after b = is_in_play r after b && is_some (content S b)
-
 pub content_first : (S : Cells) (r : Range) (after o : Option Addr) → IsSheet S → o ≡ find (is_in_play r after) (map (λ c. c.0) S) → IsFirst (is_content S r after) o
 content_first S r after o d e =
     of_first (is_content S r after) o
@@ -168,6 +167,55 @@ filled_first S s r after o inside h =
     (λ b. by_play (is_in_play r after b) (is_some (content S b)) (is_some (override_in (In s []) b)) (own_content (content S b) (In s []) b)
     (λ t. own_in (covers (region s) b) (content_in (content S b) (In s []) b) (inside b (both (covers r b) (comes_after after b) t).0) ∙ content_some (content S b) (In s []) b))
     o h
+
+-- ---- which addresses have none
+
+pub before_it : (b : Bool) → not b ≡ false → b ≡ true
+before_it true h = refl
+before_it false h = absurd (cc h)
+
+-- an address without content demands nothing
+pub no_keys : (S : Cells) (w : V.Oracle) (e : Frame) (a : Addr) → own_content (content S a) e a ≡ None → own_keys e (fact S w a) ≡ []
+no_keys S w e a h = ap (held_keys e a) h
+
+-- an address at this place of the range, or behind it, that comes before the next one has no content
+abbrev pub NoneFrom : Cells → Frame → Range → Option Addr → ℕ → Type 0
+NoneFrom S e r next i = (k : ℕ) (b : Addr) → i ≤ k → slice_get (addresses r) k ≡ Some b → HasNone S e next b
+
+none_by : (o : Option Held) → (is_some o ≡ true → ⊥) → o ≡ None
+none_by None h = refl
+none_by (Some x) h = absurd (h refl)
+
+none_before : (S : Cells) (e : Frame) (r : Range) (after next : Option Addr) (b : Addr) → IsFirst (is_held S e r after) next → is_in_play r after b ≡ true → HasNone S e next b
+none_before S e r after None b f p h = none_by (own_content (content S b) e b) (λ t. f b (and_true (is_in_play r after b) (is_some (own_content (content S b) e b)) p t))
+none_before S e r after (Some c) b f p h = none_by (own_content (content S b) e b) (λ t. f.1 b (and_true (is_in_play r after b) (is_some (own_content (content S b) e b)) p t) h)
+
+member_get : (xs : List Addr) (k : ℕ) (b : Addr) → slice_get xs k ≡ Some b → Member b xs
+member_get [] k b h = absurd (cc h)
+member_get (x ∷ xs) zero b h = inl (cc h)
+member_get (x ∷ xs) (suc k) b h = inr (member_get xs k b h)
+
+later_get : (xs : List Addr) (i k : ℕ) (a b : Addr) → AreInOrder xs → slice_get xs i ≡ Some a → slice_get xs k ≡ Some b → i < k → Before a b
+later_get [] i k a b o g h l = absurd (cc g)
+later_get (x ∷ xs) i zero a b o g h l = absurd (omega (arith, l))
+later_get (x ∷ xs) zero (suc k) a b o g h l =
+    let e : x ≡ a = cc g in
+    subst (λ y. Before y b) e (behind x xs o b (member_get xs k b h))
+later_get (x ∷ xs) (suc i) (suc k) a b o g h l = later_get xs i k a b (tail x xs o) g h (omega (arith, l))
+
+-- from the first address with content
+pub none_at_start : (S : Cells) (e : Frame) (r : Range) (next : Option Addr) (i : ℕ) → IsFirst (is_held S e r None) next → NoneFrom S e r next i
+none_at_start S e r next i f k b l g = none_before S e r None next b f (and_true (covers r b) true (F.member_covered r b (member_get (addresses r) k b g)) refl)
+
+-- from the first one behind this place
+pub none_behind : (S : Cells) (e : Frame) (r : Range) (next : Option Addr) (i : ℕ) (a : Addr) → Some a ≡ slice_get (addresses r) i → IsFirst (is_held S e r (Some a)) next → NoneFrom S e r next (i + 1)
+none_behind S e r next i a is f k b l g =
+    let late = later_get (addresses r) i k a b (addresses_order r) (sym is) g (omega (arith, l)) in
+    none_before S e r (Some a) next b f (and_true (covers r b) (is_before a b) (F.member_covered r b (member_get (addresses r) k b g)) (of_before a b late))
+
+-- with the same next one
+pub none_onward : (S : Cells) (e : Frame) (r : Range) (next : Option Addr) (i : ℕ) → NoneFrom S e r next i → NoneFrom S e r next (i + 1)
+none_onward S e r next i f k b l g = f k b (omega (arith, l)) g
 
 -- ---- all of them, one after the other
 
@@ -227,12 +275,35 @@ with_true : (x y : Bool) → y ≡ true → (x && y) ≡ x
 with_true true y e = e
 with_true false y e = refl
 
--- an area and a region that share no address, or a part
-pub nothing_shared : (S : Cells) (s : SheetValue) (area : Range) → ((b : Addr) → (covers area b && covers (region s) b) ≡ false) → (b : Addr) → has_content_in S s b ≡ true → covers area b ≡ false
-nothing_shared S s area h b e = sym (with_true (covers area b) (covers (region s) b) (filled_inside S s b e)) ∙ h b
+and_false : (x : Bool) → (x && false) ≡ false
+and_false true = refl
+and_false false = refl
 
-pub shares_part : (S : Cells) (s : SheetValue) (area part : Range) → ((b : Addr) → covers part b ≡ (covers area b && covers (region s) b)) → HasAll (has_content_in S s) area part
-shares_part S s area part h b e = h b ∙ with_true (covers area b) (covers (region s) b) (filled_inside S s b e)
+alike_by : (x y z h : Bool) → (h ≡ true → x ≡ y) → ((x && z) && h) ≡ ((y && z) && h)
+alike_by x y z true f = ap (λ v. (v && z) && true) (f refl)
+alike_by x y z false f = and_false (x && z) ∙ sym (and_false (y && z))
+
+-- in the part of a range that lies in the region, and in the range
+pub in_part_first : (S : Cells) (s : SheetValue) (r part : Range) (after o : Option Addr) → ((b : Addr) → covers part b ≡ (covers r b && covers (region s) b)) → IsFirst (is_filled S s part after) o → IsFirst (is_filled S s r after) o
+in_part_first S s r part after o h f =
+    first_alike (is_filled S s part after) (is_filled S s r after)
+    (λ b. alike_by (covers part b) (covers r b) (comes_after after b) (has_content_in S s b) (λ e. h b ∙ with_true (covers r b) (covers (region s) b) (filled_inside S s b e))) o f
+
+-- where the range and the region share no address
+pub none_shared : (S : Cells) (s : SheetValue) (r : Range) (after : Option Addr) → ((b : Addr) → (covers r b && covers (region s) b) ≡ false) → IsFirst (is_filled S s r after) None
+none_shared S s r after h b e =
+    let (p, t) = both (is_in_play r after b) (has_content_in S s b) e in
+    clash (and_true (covers r b) (covers (region s) b) (both (covers r b) (comes_after after b) p).0 (filled_inside S s b t)) (h b)
+
+-- the same in frames
+pub held_at_top : (S : Cells) (r : Range) (after o : Option Addr) → IsFirst (is_content S r after) o → IsFirst (is_held S Top r after) o
+held_at_top S r after o f = first_alike (is_content S r after) (is_held S Top r after) (λ b. ap (λ c. is_in_play r after b && c) (sym (held_some (content S b)))) o f
+
+own_same : (c : Option Content) (s : SheetValue) (w : V.Oracle) (b : Addr) → own_content c (In s []) b ≡ own_content c (In s w) b
+own_same c (sheet_value q os e k n) w b = refl
+
+pub held_in_copy : (S : Cells) (s : SheetValue) (w : V.Oracle) (r : Range) (after o : Option Addr) → IsFirst (is_filled S s r after) o → IsFirst (is_held S (In s w) r after) o
+held_in_copy S s w r after o f = first_alike (is_filled S s r after) (is_held S (In s w) r after) (λ b. ap (λ h. is_in_play r after b && is_some h) (own_same (content S b) s w b)) o f
 
 module _ (S : Cells) (s : SheetValue) where
   abbrev pub left : Option Addr → Addr → Bool
@@ -332,45 +403,38 @@ module _ (has : Addr → Bool) (r : Range) (root : Addr) where
       (λ b o. (F.covered_member r b o.inside, and_true (has b) (not (same_addr b root)) o.held (not_of (same_addr b root) o.apart)))
       (F.find_first is_other (addresses r) (addresses_order r))
 
-  abbrev pub in_part : Range → Option Addr → Addr → Bool
-  in_part part after b = is_in_play part after b && has b
+  playing : (b : Addr) → Other b → (is_in_play r None b && has b) ≡ true
+  playing b o = and_true (is_in_play r None b) (has b) (and_true (covers r b) true o.inside refl) o.held
 
-  pub none_at_all : ((b : Addr) → has b ≡ true → covers r b ≡ false) → None ≡ find is_other (addresses r)
-  none_at_all h = F.one_first Other None (find is_other (addresses r)) (λ b o. clash o.inside (h b o.held)) others_first
+  other : (after : Option Addr) (b : Addr) → (is_in_play r after b && has b) ≡ true → same_addr b root ≡ false → Other b
+  other after b h n =
+      let (p, t) = both (is_in_play r after b) (has b) h in
+      record { inside = (both (covers r b) (comes_after after b) p).0; held = t; apart = n }
 
-  module _ (part : Range) (whole : HasAll has r part) where
-    playing : (b : Addr) → Other b → in_part part None b ≡ true
-    playing b o = and_true (is_in_play part None b) (has b) (and_true (covers part b) true (whole b o.held ∙ o.inside) refl) o.held
+  pub none_other : IsFirst (λ b. is_in_play r None b && has b) None → None ≡ find is_other (addresses r)
+  none_other f = F.one_first Other None (find is_other (addresses r)) (λ b o. f b (playing b o)) others_first
 
-    other : (after : Option Addr) (b : Addr) → in_part part after b ≡ true → same_addr b root ≡ false → Other b
-    other after b h n =
-        let (p, t) = both (is_in_play part after b) (has b) h in
-        record { inside = sym (whole b t) ∙ (both (covers part b) (comes_after after b) p).0; held = t; apart = n }
+  pub first_other : (a : Addr) → IsFirst (λ b. is_in_play r None b && has b) (Some a) → same_addr a root ≡ false → Some a ≡ find is_other (addresses r)
+  first_other a h n =
+      let f = to_first (λ b. is_in_play r None b && has b) (Some a) h in
+      F.one_first Other (Some a) (find is_other (addresses r)) (other None a f.0 n, λ b o l. f.1 b (playing b o) l) others_first
 
-    pub none_other : IsFirst (in_part part None) None → None ≡ find is_other (addresses r)
-    none_other f = F.one_first Other None (find is_other (addresses r)) (λ b o. f b (playing b o)) others_first
+  apart_by : (c : Bool) (b : Addr) → same_addr b root ≡ c → Before root b → c ≡ false
+  apart_by true b e l = absurd (not_same root b l (sym (addr_exact b root e)))
+  apart_by false b e l = refl
 
-    pub first_other : (a : Addr) → IsFirst (in_part part None) (Some a) → same_addr a root ≡ false → Some a ≡ find is_other (addresses r)
-    first_other a h n =
-        let f = to_first (in_part part None) (Some a) h in
-        F.one_first Other (Some a) (find is_other (addresses r)) (other None a f.0 n, λ b o l. f.1 b (playing b o) l) others_first
+  later_by : (b : Addr) → (root ≡ b) ⊎ (Before root b ⊎ Before b root) → same_addr b root ≡ false → (Before b root → ⊥) → is_before root b ≡ true
+  later_by b (inl e) n h = absurd (clash (subst (λ x. same_addr x root ≡ true) e (addr_same root)) n)
+  later_by b (inr (inl l)) n h = of_before root b l
+  later_by b (inr (inr l)) n h = absurd (h l)
 
-    apart_by : (c : Bool) (b : Addr) → same_addr b root ≡ c → Before root b → c ≡ false
-    apart_by true b e l = absurd (not_same root b l (sym (addr_exact b root e)))
-    apart_by false b e l = refl
-
-    later_by : (b : Addr) → (root ≡ b) ⊎ (Before root b ⊎ Before b root) → same_addr b root ≡ false → (Before b root → ⊥) → is_before root b ≡ true
-    later_by b (inl e) n h = absurd (clash (subst (λ x. same_addr x root ≡ true) e (addr_same root)) n)
-    later_by b (inr (inl l)) n h = of_before root b l
-    later_by b (inr (inr l)) n h = absurd (h l)
-
-    -- behind a root that is the first content
-    pub second_other : (o : Option Addr) → IsFirst (in_part part None) (Some root) → IsFirst (in_part part (Some root)) o → o ≡ find is_other (addresses r)
-    second_other o h k =
-        let f = to_first (in_part part None) (Some root) h in
-        F.one_first Other o (find is_other (addresses r))
-        (F.first_iff (λ b. in_part part (Some root) b ≡ true) Other o
-        (λ b g. let (p, t) = both (is_in_play part (Some root) b) (has b) g in let (c, l) = both (covers part b) (is_before root b) p in other (Some root) b g (apart_by (same_addr b root) b refl (before_of root b l)))
-        (λ b q. and_true (is_in_play part (Some root) b) (has b) (and_true (covers part b) (is_before root b) (whole b q.held ∙ q.inside) (later_by b (F.order root b) q.apart (λ l. f.1 b (playing b q) l))) q.held)
-        (to_first (in_part part (Some root)) o k))
-        others_first
+  -- behind a root that is the first content
+  pub second_other : (o : Option Addr) → IsFirst (λ b. is_in_play r None b && has b) (Some root) → IsFirst (λ b. is_in_play r (Some root) b && has b) o → o ≡ find is_other (addresses r)
+  second_other o h k =
+      let f = to_first (λ b. is_in_play r None b && has b) (Some root) h in
+      F.one_first Other o (find is_other (addresses r))
+      (F.first_iff (λ b. (is_in_play r (Some root) b && has b) ≡ true) Other o
+      (λ b g. let (p, t) = both (is_in_play r (Some root) b) (has b) g in let (c, l) = both (covers r b) (is_before root b) p in other (Some root) b g (apart_by (same_addr b root) b refl (before_of root b l)))
+      (λ b q. and_true (is_in_play r (Some root) b) (has b) (and_true (covers r b) (is_before root b) q.inside (later_by b (F.order root b) q.apart (λ l. f.1 b (playing b q) l))) q.held)
+      (to_first (λ b. is_in_play r (Some root) b && has b) o k))
+      others_first

@@ -4,10 +4,11 @@ use Rattle.std.specs.List.{find}
 use Rattle.gl_calculus.specs.Grid.{Addr, Range, is_before, covers}
 use Rattle.gl_calculus.specs.Value.{Overrides, SheetValue, Frame}
 use Rattle.gl_calculus.specs.Sheet.{override_at}
-use Rattle.gl_calculus.specs.Formula.{Cells}
+use Rattle.gl_calculus.specs.Formula.{Cells, content}
+use Rattle.gl_calculus.specs.Reference.{own_content}
 use Rattle.gl_cells.specs.Search.{is_in_play}
 use Rattle.gl_value.specs.declared.Value.{Value}
-use Rattle.gl_demand.specs.Blocks.{has_content_in}
+use Rattle.gl_demand.specs.Blocks.{has_content, has_content_in}
 use Rattle.gl_demand.specs.Held.{override_in}
 
 -- the address passes the test, and none before it does; or no address does
@@ -36,10 +37,18 @@ is_overridden e r after b = is_in_play r after b && is_some (override_in e b)
 abbrev pub IsFirstWith : Frame → Range → Option Addr → (Addr → Bool) → Option Addr → Type 0
 IsFirstWith e r after p = IsFirst (λ b. p b || is_overridden e r after b)
 
+-- an address of the range with content in the sheet, after another, if one is given
+abbrev pub is_content : Cells → Range → Option Addr → Addr → Bool
+is_content S r after b = is_in_play r after b && has_content S b
+
+-- an address of the range with content in a frame, after another, if one is given
+abbrev pub is_held : Cells → Frame → Range → Option Addr → Addr → Bool
+is_held S e r after b = is_in_play r after b && is_some (own_content (content S b) e b)
+
 -- an address of the range with content in a frame of the sheet value, after another, if one is given
 abbrev pub is_filled : Cells → SheetValue → Range → Option Addr → Addr → Bool
 is_filled S s r after b = is_in_play r after b && has_content_in S s b
 
--- of the addresses that pass the test, the part has those that the area has
-abbrev pub HasAll : (Addr → Bool) → (area part : Range) → Type 0
-HasAll has area part = (b : Addr) → has b ≡ true → covers part b ≡ covers area b
+-- an address that comes before the next one, if there is a next one, has no content in the frame
+abbrev pub HasNone : Cells → Frame → Option Addr → Addr → Type 0
+HasNone S e next b = comes_before next b ≡ true → own_content (content S b) e b ≡ None

@@ -11,14 +11,14 @@ ghost use Rattle.gl_cells.specs.Sheet.{sheet};
 ghost use Rattle.gl_value.specs.View.{frame_tree, sheet_tree, override_trees};
 ghost use Rattle.gl_value.specs.declared.Value.{Value as Given};
 ghost use Rattle.gl_demand.specs.Filling.{IsFirst, IsFirstWith, comes_before, next_override};
-ghost use Rattle.gl_demand.specs.Filling.{is_overridden_by, is_filled};
+ghost use Rattle.gl_demand.specs.Filling.{is_overridden_by, is_content, is_filled, is_held};
 
 use gl_cells::Cells;
 use gl_plane::{Addr, Range};
 use gl_value::{Env, SheetVal, Value};
 
 /// The addresses that both ranges have.
-pub fn overlap(a: &Range, b: &Range) -> Option<Range>
+fn overlap(a: &Range, b: &Range) -> Option<Range>
     ensures some { IfSome result (λ c.
         (q : Plain) → covers c q ≡ (covers a.now q && covers b.now q)) }
     ensures none { IfNone result ((q : Plain) → (covers a.now q && covers b.now q) ≡ false) }
@@ -58,7 +58,7 @@ fn passed(s: &SheetVal, after: &Option<Addr>) -> usize
 }
 
 /// The address doesn't come before another, if one is given.
-fn is_past(a: Addr, before: &Option<Addr>) -> bool
+pub fn is_past(a: Addr, before: &Option<Addr>) -> bool
     ensures { result ≡ not (comes_before before.now a) }
 {
     match before {
@@ -133,16 +133,46 @@ fn outward(env: &Env, r: &Range, after: &Option<Addr>, best: &Option<Addr>) -> O
     }
 }
 
-/// The first address of the range with content in a frame of the sheet value, after the one that
-/// is given, in row-major order. The range lies in the region.
-pub fn next_filled(cells: &Cells, s: &SheetVal, r: &Range, after: &Option<Addr>) -> Option<Addr>
+/// The first address of the range with content in the sheet, after the one that is given.
+fn next_content(cells: &Cells, r: &Range, after: &Option<Addr>) -> Option<Addr>
+    ensures { IsFirst (is_content (sheet cells.now) r.now after.now) result }
+{
+    let _contents = cells.contents();
+    cells.next_in(r, *after)
+}
+
+/// The same in a frame of the sheet value, where the range lies in its region.
+fn filled_in_part(cells: &Cells, s: &SheetVal, r: &Range, after: &Option<Addr>) -> Option<Addr>
     requires sound { IsTrue (is_sound_sheet (sheet_tree s.now)) }
     requires inside { (q : Plain)
         → covers r.now q ≡ true
         → covers (region (sheet_tree s.now)) q ≡ true }
     ensures { IsFirst (is_filled (sheet cells.now) (sheet_tree s.now) r.now after.now) result }
 {
-    let _contents = cells.contents();
-    let content = cells.next_in(r, *after);
+    let content = next_content(cells, r, after);
     soonest(s, r, after, &content)
+}
+
+/// The first address of the range with content in a frame of the sheet value, after the one that
+/// is given, in row-major order.
+pub fn next_filled(cells: &Cells, s: &SheetVal, r: &Range, after: &Option<Addr>) -> Option<Addr>
+    requires { IsTrue (is_sound_sheet (sheet_tree s.now)) }
+    ensures { IsFirst (is_filled (sheet cells.now) (sheet_tree s.now) r.now after.now) result }
+{
+    match overlap(r, &s.region) {
+        Some(part) => filled_in_part(cells, s, &part, after),
+        None => None,
+    }
+}
+
+/// The same in a frame.
+#[tactic(auto, using(gl_value::specs::Forms::trees))]
+pub fn next_held(cells: &Cells, env: &Env, r: &Range, after: &Option<Addr>) -> Option<Addr>
+    requires { IsTrue (is_sound_frame (frame_tree env.now)) }
+    ensures { IsFirst (is_held (sheet cells.now) (frame_tree env.now) r.now after.now) result }
+{
+    match env {
+        Env::Top => next_content(cells, r, after),
+        Env::In(s, _) => next_filled(cells, s, r, after),
+    }
 }

@@ -13,9 +13,11 @@ ghost use Rattle.gl_ahead.specs.Reading.{Area, Round, keys_from};
 ghost use Rattle.gl_demand.specs.View.{key_tree, outcome_tree};
 ghost use Rattle.gl_demand.specs.Held.{held_tree};
 ghost use Rattle.gl_demand.specs.Reading.{ahead_tree, one_key};
+ghost use Rattle.gl_demand.specs.Filling.{HasNone};
 ghost use Rattle.gl_demand.specs.Lacking.{IsPassing, IsNext};
 
 use crate::ahead::{Ahead, Reference};
+use crate::filling::{is_past, next_held};
 use crate::held::{Held, cover_in, held_at};
 use crate::own_reads::lacked_in_own;
 use crate::reading::sound_home;
@@ -214,7 +216,31 @@ fn lacked_in_area<K: Known>(
     Ok(None)
 }
 
-/// The first key without outcome that a round demands, from a place in its region on.
+/// What an address of a round says of those behind it, where the next address with content is given:
+/// nothing, if it comes before that one.
+fn pass_held<K: Known>(
+    cells: &Cells,
+    env: &Env,
+    a: Addr,
+    next: &Option<Addr>,
+    known: &K,
+) -> Result<Passing, NoMemory>
+    requires frame { IsTrue (is_sound_frame (frame_tree env.now)) }
+    requires next { HasNone (sheet cells.now) (frame_tree env.now) next.now a }
+    ensures { (w : Plain)
+        → IfOk result
+        (IsPassing (K.outcomes known.now)
+        (own_keys (frame_tree env.now) (fact (sheet cells.now) w a))) }
+{
+    if is_past(a, next) {
+        pass_own(cells, env, a, known)
+    } else {
+        Ok(Passing::On)
+    }
+}
+
+/// The first key without outcome that a round demands, from a place in its region on. Addresses
+/// without content are passed over by a comparison.
 fn lacked_in_round<K: Known>(
     cells: &Cells,
     x: &Reference,
@@ -226,14 +252,19 @@ fn lacked_in_round<K: Known>(
         (IsNext (K.outcomes known.now)
         (keys_from (sheet cells.now) w (Round (frame_tree x.now.env) x.now.range)) from) }
 {
+    let mut next = next_held(cells, &x.env, &x.range, &None);
     for i in from..x.range.cells() {
-        match pass_own(cells, &x.env, x.range.place(i), known) {
+        let a = x.range.place(i);
+        match pass_held(cells, &x.env, a, &next, known) {
             Ok(passing) => match passing {
                 Passing::On => {}
                 Passing::Lacks(key) => return Ok(Some(Lacked { place: i, key })),
                 Passing::Ends => return Ok(None),
             },
             Err(NoMemory) => return Err(NoMemory),
+        }
+        if is_past(a, &next) {
+            next = next_held(cells, &x.env, &x.range, &Some(a));
         }
     }
     Ok(None)

@@ -1,13 +1,20 @@
+use Rattle.std.proofs.Common.{◌≡◌, ◌&&◌, false}
+use Rattle.gl_calculus.specs.Grid.{Addr, covers}
+use Rattle.gl_calculus.specs.Value.{region}
 use Rattle.gl_cells.specs.Sheet.{sheet}
-use Rattle.std.proofs.Common.{[]}
+use Rattle.gl_value.specs.Forms.{sheet_tree_is}
 use Rattle.gl_value.specs.View.{sheet_tree}
-use Rattle.gl_demand.proofs.Filled.{content_first, is_content, filled_first}
+use Rattle.gl_demand.proofs.Filled.{in_part_first, none_shared}
 use Rattle.gl_demand.proofs.filling.next_filled.Goals as goal
 
-pub returns : goal.returns
-returns c =
-    let S = sheet c.args.cells.now in
-    let r = c.args.r.now in
-    let after = c.args.after.now in
-    let content = content_first S r after c.next_in-content.result c.contents-contents.ensures.ordered c.next_in-content.ensures in
-    filled_first S (sheet_tree c.args.s.now) r after c.soonest.result c.requires.inside (c.soonest.ensures [] (is_content S r after) content)
+pub returns-in-Some : goal.returns-in-Some
+returns-in-Some c =
+    let s = sheet_tree c.args.s.now in
+    let part : (b : Addr) → covers c.in-Some.part b ≡ (covers c.args.r.now b && covers (region s) b) = rw (sheet_tree_is c.args.s.now) c.in-Some.ensures.some in
+    in_part_first (sheet c.args.cells.now) s c.args.r.now c.in-Some.part c.args.after.now c.filled_in_part.result part c.filled_in_part.ensures
+
+pub returns-in-None : goal.returns-in-None
+returns-in-None c =
+    let s = sheet_tree c.args.s.now in
+    let apart : (b : Addr) → (covers c.args.r.now b && covers (region s) b) ≡ false = rw (sheet_tree_is c.args.s.now) c.in-None.ensures.none in
+    none_shared (sheet c.args.cells.now) s c.args.r.now c.args.after.now apart

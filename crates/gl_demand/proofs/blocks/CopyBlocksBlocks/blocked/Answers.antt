@@ -1,23 +1,23 @@
-use Rattle.std.proofs.Common.{◌≡◌, ◌&&◌, false}
-use Rattle.gl_calculus.specs.Grid.{Addr, covers}
-use Rattle.gl_calculus.specs.Value.{region}
+use Rattle.std.proofs.Common.{Some, None, sym, subst, ◌∙◌}
+use Rattle.gl_calculus.proofs.Tests.{addr_exact}
 use Rattle.gl_cells.specs.Sheet.{sheet}
-use Rattle.gl_value.specs.Forms.{sheet_tree_is}
 use Rattle.gl_value.specs.View.{sheet_tree}
 use Rattle.gl_demand.specs.Blocks.{has_content_in}
-use Rattle.gl_demand.proofs.Filled.{none_at_all, nothing_shared, shares_part}
+use Rattle.gl_demand.specs.Filling.{IsFirst, is_filled}
+use Rattle.gl_demand.proofs.Filled.{none_other, first_other, second_other}
 use Rattle.gl_demand.proofs.blocks.CopyBlocksBlocks.blocked.Goals as goal
 
 pub returns-in-None : goal.returns-in-None
 returns-in-None c =
-    let S = sheet c.args.self.now.cells.now in
-    let s = sheet_tree c.args.self.now.sheet.now in
-    let apart : (b : Addr) → (covers c.args.area.now b && covers (region s) b) ≡ false = rw (sheet_tree_is c.args.self.now.sheet.now) c.in-None.ensures.none in
-    none_at_all (has_content_in S s) c.args.area.now c.args.root (nothing_shared S s c.args.area.now apart)
+    none_other (has_content_in (sheet c.args.self.now.cells.now) (sheet_tree c.args.self.now.sheet.now)) c.args.area.now c.args.root c.in-None.ensures
 
-pub returns-in-Some : goal.returns-in-Some
-returns-in-Some c =
+pub returns-then-eq : goal.returns-then-eq
+returns-then-eq c =
     let S = sheet c.args.self.now.cells.now in
     let s = sheet_tree c.args.self.now.sheet.now in
-    let part : (b : Addr) → covers c.in-Some.part b ≡ (covers c.args.area.now b && covers (region s) b) = rw (sheet_tree_is c.args.self.now.sheet.now) c.in-Some.ensures.some in
-    c.other_content.ensures c.args.area.now (shares_part S s c.args.area.now c.in-Some.part part)
+    let root : IsFirst (is_filled S s c.args.area.now None) (Some c.args.root) = subst (λ a. IsFirst (is_filled S s c.args.area.now None) (Some a)) (addr_exact c.in-Some.a c.args.root (sym c.eq.ensures ∙ c.if-eq.true)) c.in-Some.ensures in
+    second_other (has_content_in S s) c.args.area.now c.args.root c.next_filled-then-eq.result root c.next_filled-then-eq.ensures
+
+pub returns-else-eq : goal.returns-else-eq
+returns-else-eq c =
+    first_other (has_content_in (sheet c.args.self.now.cells.now) (sheet_tree c.args.self.now.sheet.now)) c.args.area.now c.args.root c.in-Some.a c.in-Some.ensures (sym c.eq.ensures ∙ c.if-eq.false)
