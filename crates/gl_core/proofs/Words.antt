@@ -4,21 +4,11 @@ use Rattle.std.proofs.lemmas.Bool.{eqb-true, eq-eqb}
 use Rattle.std.specs.Map.{lookup}
 use Rattle.indexmap.specs.IndexMap.{insert_entry}
 use Rattle.gl_query.specs.Lists.{Member}
-use Rattle.gl_calculus.specs.Value as V
-use Rattle.gl_calculus.specs.Grid.{Addr}
 use Rattle.gl_calculus.specs.Key as K
-use Rattle.gl_value.specs.View.{override_trees}
-use Rattle.gl_value.specs.declared.Value.{Value}
-use Rattle.gl_core.specs.Overrides.{plain_override}
 use Rattle.gl_intern.specs.Numbered.{Numbered, seconds}
 use Rattle.gl_core.specs.Shorts.{IsShort}
 use Rattle.gl_core.specs.declared.short.Short.{Short}
-use Rattle.gl_core.specs.Words.{listed, key_word, HasWord, HasWords}
-
--- the overrides of the code, as the list that they are
-pub listed_trees : (os : List (Addr × Value)) → listed (override_trees os) ≡ map plain_override os
-listed_trees [] = refl
-listed_trees (o ∷ os) = ap (λ ps. plain_override o ∷ ps) (listed_trees os)
+use Rattle.gl_core.specs.Words.{key_word, HasWord, HasWords}
 
 -- ---- one more word
 

@@ -27,3 +27,4 @@ pub mod PassingOn
 pub mod FirstReads
 pub mod Overridden
 pub mod Filled
+pub mod Outlines

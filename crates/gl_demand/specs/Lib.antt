@@ -24,3 +24,4 @@ pub mod Passing
 pub mod Filling
 pub mod Worlds
 pub mod Calls
+pub mod Outline

@@ -3,12 +3,14 @@ ghost use Rattle.std.specs.Prelude.{◌≡◌, IfOk};
 ghost use Rattle.gl_calculus.specs.Sound.{is_sound_key};
 ghost use Rattle.gl_demand.specs.View.{key_tree};
 
+use crate::outline::key_outline;
 use gl_plane::{Addr, NoMemory, Share};
 use gl_value::{Env, SheetVal};
+use std::hash::{Hash, Hasher};
 use std::rc::Rc;
 
 /// One evaluation: of a formula cell in a frame, or the settling of a sheet value.
-#[derive(PartialEq, Eq, Hash)]
+#[derive(PartialEq, Eq)]
 pub enum Key {
     Cell(Env, Addr),
     Settle(Rc<SheetVal>),
@@ -21,6 +23,23 @@ impl Drop for Key {
             Key::Cell(_, _) => {}
             Key::Settle(_) => {}
         }
+    }
+}
+
+impl Hash for Key {
+    ghost use Rattle.gl_demand.specs.View.{key_tree};
+    ghost use Rattle.gl_demand.specs.Equal.{key_equal};
+    ghost use Rattle.gl_demand.specs.Outline.{key_outline};
+    ghost use Rattle.std.specs.Hash as fed;
+    ghost use Rattle.std.proofs.Common.{ap};
+
+    ghost hash_input = { λ k. fed.u64 (key_outline (key_tree k)) };
+
+    ghost respects_eq = { λ x y h.
+        ap (λ k. fed.u64 (key_outline k)) ((key_equal x y).0 h) };
+
+    fn hash<H: Hasher>(&self, state: &mut H) {
+        key_outline(self).hash(state);
     }
 }
 

@@ -2,9 +2,9 @@ use Rattle.std.proofs.Common.{map, sym, ap, ◌∙◌}
 use Rattle.gl_plane.specs.Digest.{mixed}
 use Rattle.gl_value.specs.View.{frame_tree}
 use Rattle.gl_value.specs.Forms.{sheet_tree_is}
-use Rattle.gl_core.specs.Overrides.{plain_override}
-use Rattle.gl_core.specs.Words.{frame_word, sheet_word, level_word}
-use Rattle.gl_core.proofs.Words.{listed_trees}
+use Rattle.gl_demand.specs.Outline.{plain_override, level_word}
+use Rattle.gl_demand.proofs.Outlines.{listed_trees}
+use Rattle.gl_core.specs.Words.{frame_word, sheet_word}
 use Rattle.gl_core.proofs.guesses.+words.Goals as goal
 
 pub sheet_word-returns : goal.sheet_word-returns
