@@ -2,8 +2,7 @@
 ghost use Rattle.std.specs.Prelude.{◌≡◌, ◌≤◌, IfOk, Ok};
 ghost use Rattle.gl_calculus.specs.Functions as F;
 ghost use Rattle.gl_value.specs.View.{value_tree};
-ghost use Rattle.gl_arrays.specs.Answers.{continued};
-ghost use Rattle.gl_arrays.specs.Parts.{within};
+ghost use Rattle.gl_arrays.specs.{Answers.continued, Parts.within};
 
 use gl_value::{ErrKind, Scalar, Value};
 

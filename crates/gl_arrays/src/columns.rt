@@ -1,9 +1,7 @@
 //! Values of one column.
 ghost use Rattle.std.specs.Prelude.{◌≡◌, IsTrue};
+ghost use Rattle.gl_calculus.specs.{Lift.item, Lift.shape, Operators.agrees, Sound.is_sound_value};
 ghost use Rattle.gl_calculus.specs.Functions as F;
-ghost use Rattle.gl_calculus.specs.Lift.{item, shape};
-ghost use Rattle.gl_calculus.specs.Operators.{agrees};
-ghost use Rattle.gl_calculus.specs.Sound.{is_sound_value};
 ghost use Rattle.gl_value.specs.View.{scalar_tree, value_tree};
 
 use gl_lift::{element, extents};

@@ -1,8 +1,7 @@
 //! How many rows and columns a value has.
 ghost use Rattle.std.specs.Prelude.{◌≡◌, IsTrue};
+ghost use Rattle.gl_calculus.specs.{Functions.extent, Sound.is_sound_scalar, Sound.is_sound_value};
 ghost use Rattle.gl_calculus.specs.Value as V;
-ghost use Rattle.gl_calculus.specs.Functions.{extent};
-ghost use Rattle.gl_calculus.specs.Sound.{is_sound_scalar, is_sound_value};
 ghost use Rattle.gl_value.specs.View.{scalar_tree, value_tree};
 
 use gl_lift::extents;

@@ -1,13 +1,13 @@
 //! Parts of an array: some of its rows and columns.
 ghost use Rattle.std.specs.Prelude.{◌≡◌, ◌≤◌, ◌+◌, IsTrue, IfOk, min, List};
+ghost use Rattle.gl_calculus.specs.Sound.{is_sound_scalar, is_sound_value};
 ghost use Rattle.gl_calculus.specs.ErrKind as E;
 ghost use Rattle.gl_calculus.specs.Value as V;
 ghost use Rattle.gl_calculus.specs.Lift as L;
 ghost use Rattle.gl_calculus.specs.Functions as F;
-ghost use Rattle.gl_calculus.specs.Sound.{is_sound_scalar, is_sound_value};
 ghost use Rattle.gl_value.specs.View.{scalar_tree, value_tree};
-ghost use Rattle.gl_arrays.specs.Answers.{continued};
 ghost use Rattle.gl_arrays.specs.Parts.{kept_start, kept_count, left_start, left_count, window};
+ghost use Rattle.gl_arrays.specs.Answers.{continued};
 
 use crate::arguments::{no_error, number};
 use crate::elements::item;

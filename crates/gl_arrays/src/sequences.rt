@@ -1,14 +1,11 @@
 //! Numbered arrays, and arrays with rows and columns exchanged.
 ghost use Rattle.std.specs.Prelude.{◌≡◌, ◌≤◌, ◌<◌, ◌+◌, ◌*◌, pos, IsTrue, IfOk, IfSome, IfNone, Ok};
-ghost use Rattle.gl_calculus.specs.Limits.{max_cells};
-ghost use Rattle.gl_calculus.specs.Grid.{size};
+ghost use Rattle.gl_calculus.specs.{Limits.max_cells, Grid.size, Sound.is_sound_value};
 ghost use Rattle.gl_calculus.specs.Value as V;
 ghost use Rattle.gl_calculus.specs.Lift as L;
 ghost use Rattle.gl_calculus.specs.Functions as F;
-ghost use Rattle.gl_calculus.specs.Sound.{is_sound_value};
 ghost use Rattle.gl_value.specs.View.{scalar_tree, value_tree};
-ghost use Rattle.gl_arrays.specs.Answers.{continued};
-ghost use Rattle.gl_arrays.specs.Parts.{numbered};
+ghost use Rattle.gl_arrays.specs.{Answers.continued, Parts.numbered};
 
 use crate::arguments::{number, positive};
 use crate::elements::item;

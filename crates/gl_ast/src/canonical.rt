@@ -1,8 +1,7 @@
 //! The canonical text of formulas.
 
 ghost use Rattle.std.specs.Prelude.{◌≡◌, ◌++◌, ◌∷◌, [], ◌≤◌, OnOk, IfOk, Bool, if◌then◌else◌};
-ghost use Rattle.std.specs.List.{join_with_byte};
-ghost use Rattle.std.specs.String.{string_bytes};
+ghost use Rattle.std.specs.{List.join_with_byte, String.string_bytes};
 ghost use Rattle.gl_calculus.specs.Notation as notation;
 ghost use Rattle.gl_language.specs.Text as text;
 ghost use Rattle.gl_ast.specs.View.{formula_tree, argument_trees, operand_trees, level_tree};

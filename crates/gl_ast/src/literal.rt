@@ -1,8 +1,7 @@
 //! Texts as literals. What a text holds after `NoMemory` is not told.
 
 ghost use Rattle.std.specs.Prelude.{◌≡◌, ◌≢◌, ◌++◌, ◌∷◌, [], ◌/◌, ◌%◌, ◌<◌, OnOk, flat_map};
-ghost use Rattle.std.specs.Char.{encode_utf8};
-ghost use Rattle.std.specs.String.{string_bytes};
+ghost use Rattle.std.specs.{Char.encode_utf8, String.string_bytes};
 ghost use Rattle.gl_language.specs.Text as text;
 
 use gl_plane::NoMemory;

@@ -1,8 +1,7 @@
 //! Numbers, truth values, addresses and ranges, as they are written. What a text holds after `NoMemory` is not told.
 
 ghost use Rattle.std.specs.Prelude.{◌≡◌, ◌++◌, ◌≤◌, OnOk};
-ghost use Rattle.std.specs.Fmt.{decimal, signed_decimal};
-ghost use Rattle.std.specs.String.{string_bytes};
+ghost use Rattle.std.specs.{Fmt.decimal, Fmt.signed_decimal, String.string_bytes};
 ghost use Rattle.gl_calculus.specs.Notation as notation;
 ghost use Rattle.gl_language.specs.Text as text;
 

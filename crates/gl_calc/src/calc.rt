@@ -2,19 +2,16 @@
 ghost use Rattle.std.specs.Prelude.{◌≡◌, ◌≤◌, ◌+◌, ◌++◌, ◌∷◌, [], None, length, map, option_map};
 ghost use Rattle.std.specs.Prelude.{IfOk, OnOk, OnErr};
 ghost use Rattle.std.specs.Option.{option_copied};
-ghost use Rattle.gl_calculus.specs.Calculation.{why};
-ghost use Rattle.gl_calculus.specs.Formula.{One};
-ghost use Rattle.gl_calculus.specs.Memory.{tables_for, AreTables};
+ghost use Rattle.gl_calculus.specs.{Calculation.why, Formula.One, Memory.tables_for};
+ghost use Rattle.gl_calculus.specs.{Memory.AreTables};
 ghost use Rattle.gl_language.specs.Content.{IsProperContent};
 ghost use Rattle.gl_protocol.specs.Commands.{with_content, with_contents, without, places_in};
 ghost use Rattle.gl_ast.specs.View.{version_tree};
-ghost use Rattle.gl_cells.specs.Content.{content_tree};
+ghost use Rattle.gl_cells.specs.{Content.content_tree, Sheet.sheet, Sheet.AreProper};
 ghost use Rattle.gl_cells.specs.Sheet as cells;
-ghost use Rattle.gl_cells.specs.Sheet.{sheet, AreProper};
 ghost use Rattle.gl_order.specs.Rule.{PicksBelow, rule_of};
-ghost use Rattle.gl_calc.specs.View.{sheet_of, memory_of};
-ghost use Rattle.gl_calc.specs.Why.{why_tree};
 ghost use Rattle.gl_calc.specs.Answers.{Answers, Takes, IsShownBy};
+ghost use Rattle.gl_calc.specs.{View.sheet_of, View.memory_of, Why.why_tree};
 
 use crate::calculating::calculate;
 use crate::ending::Answered;
@@ -52,25 +49,24 @@ pub struct Calc {
 impl Drop for Calc {
     fn drop(self) {
         let Calc {
-            cells: _,
-            held: _,
-            tables: _,
-            version: _,
-            touched: _,
-            ended: _,
+            cells,
+            held,
+            tables,
+            version,
+            touched,
+            ended,
         } = self;
     }
 }
 
 impl Model for Calc {
     ghost use Rattle.std.specs.Coded.{codes};
-    ghost use Rattle.gl_ast.specs.contracts.Formula as formula;
     ghost use Rattle.gl_ast.specs.View.{version_tree};
+    ghost use Rattle.gl_ast.specs.contracts.Formula as formula;
     ghost use Rattle.gl_value.specs.contracts.Scalar as scalar;
     ghost use Rattle.gl_calculus.specs.Codes.{coded_table};
     ghost use Rattle.gl_cells.specs.Sheet.{sheet};
-    ghost use Rattle.gl_calc.specs.View.{View};
-    ghost use Rattle.gl_calc.specs.Held.{answer_of, IsCalc};
+    ghost use Rattle.gl_calc.specs.{View.View, Held.answer_of, Held.IsCalc};
 
     ghost Value = { View };
 

@@ -4,8 +4,7 @@ ghost use Rattle.gl_calculus.specs.Formula.{IsSheet};
 ghost use Rattle.gl_ast.specs.View.{version_tree};
 ghost use Rattle.gl_cells.specs.Sheet.{sheet};
 ghost use Rattle.gl_order.specs.Rule.{PicksBelow, rule_of};
-ghost use Rattle.gl_calc.specs.Kept.{AreEarlier};
-ghost use Rattle.gl_calc.specs.Ending.{EndsWith};
+ghost use Rattle.gl_calc.specs.{Kept.AreEarlier, Ending.EndsWith};
 
 use crate::ending::{Ended, RoundFault, spent_by};
 use crate::round::TopRound;

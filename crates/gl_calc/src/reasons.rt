@@ -1,8 +1,7 @@
 //! Why roots have their permits.
 ghost use Rattle.std.specs.Prelude.{◌≡◌};
-ghost use Rattle.gl_calculus.specs.Calculation.{has_content, why};
-ghost use Rattle.gl_calculus.specs.Grid.{grid};
-ghost use Rattle.gl_calculus.specs.Oracle.{ArePermits};
+ghost use Rattle.gl_calculus.specs.{Calculation.has_content, Calculation.why, Grid.grid};
+ghost use Rattle.gl_calculus.specs.{Oracle.ArePermits};
 ghost use Rattle.gl_cells.specs.Sheet.{sheet};
 ghost use Rattle.gl_calc.specs.Why.{why_tree};
 

@@ -1,14 +1,11 @@
 //! One round over the whole sheet.
 ghost use Rattle.std.specs.Prelude.{◌≡◌, [], IfOk, IfErr, Err, ◌⊎◌};
 ghost use Rattle.gl_query.specs.InOrder.{AreOrdered};
-ghost use Rattle.gl_calculus.specs.Value.{Oracle as Permits};
 ghost use Rattle.gl_calculus.specs.Formula.{Version as PlainVersion, Cells as Sheet, IsSheet};
 ghost use Rattle.gl_calculus.specs.Formula.{formula_addresses};
-ghost use Rattle.gl_calculus.specs.Grid.{AreInOrder};
+ghost use Rattle.gl_calculus.specs.{Value.Oracle as Permits, Grid.AreInOrder};
 ghost use Rattle.gl_core.specs.State.{notes_in, IsFor};
-ghost use Rattle.gl_calc.specs.Kept.{IsKeptBy};
-ghost use Rattle.gl_calc.specs.Starting.{IsEvaluated};
-ghost use Rattle.gl_calc.specs.Round.{Gives, Fails};
+ghost use Rattle.gl_calc.specs.{Kept.IsKeptBy, Starting.IsEvaluated, Round.Gives, Round.Fails};
 
 use crate::collecting::collected;
 use crate::ending::RoundFault;
@@ -94,12 +91,10 @@ impl<F: Fn(u8, u64, u64) -> u64, L: Watch> Round for TopRound<'_, F, L> {
     ghost use Rattle.std.specs.Prelude.{◌≡◌, ◌≤◌};
     ghost use Rattle.gl_ast.specs.View.{version_tree};
     ghost use Rattle.gl_cells.specs.Sheet.{sheet};
-    ghost use Rattle.gl_calculus.specs.Formula.{formula_addresses};
-    ghost use Rattle.gl_calculus.specs.Differences.{AreApart};
+    ghost use Rattle.gl_calculus.specs.{Formula.formula_addresses, Differences.AreApart};
     ghost use Rattle.gl_order.specs.Rule.{PicksBelow, rule_of};
-    ghost use Rattle.gl_calc.specs.Kept.{IsSet};
     ghost use Rattle.gl_calc.specs.Round.{Gives, Fails, Calls};
-    ghost use Rattle.gl_calc.specs.Single.{one_arrays};
+    ghost use Rattle.gl_calc.specs.{Kept.IsSet, Single.one_arrays};
 
     type Fault = RoundFault;
 

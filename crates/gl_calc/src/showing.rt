@@ -1,21 +1,17 @@
 //! What an address of the top sheet shows after a round.
 ghost use Rattle.std.specs.Prelude.{◌≡◌, Some, None, IsTrue, IfOk, option_map};
 ghost use Rattle.gl_language.specs.Content.{IsProperContent};
-ghost use Rattle.gl_calculus.specs.Calculation as C;
 ghost use Rattle.gl_calculus.specs.Calculation.{IsShown, IsUnspent, TopHas};
 ghost use Rattle.gl_calculus.specs.Formula.{Version, Formula, Form, Cells as Sheet, content};
+ghost use Rattle.gl_calculus.specs.{Oracle.Cover, Oracle.cover, Reference.shown, Reference.spilled};
+ghost use Rattle.gl_calculus.specs.{Sound.is_sound_outcome, Memory.IsTableOf};
+ghost use Rattle.gl_calculus.specs.Calculation as C;
 ghost use Rattle.gl_calculus.specs.Key as K;
-ghost use Rattle.gl_calculus.specs.Oracle.{Cover, cover};
-ghost use Rattle.gl_calculus.specs.Reference.{shown, spilled};
-ghost use Rattle.gl_calculus.specs.Sound.{is_sound_outcome};
 ghost use Rattle.gl_calculus.specs.Value as V;
-ghost use Rattle.gl_cells.specs.Content.{content_tree};
-ghost use Rattle.gl_cells.specs.Sheet.{sheet};
+ghost use Rattle.gl_cells.specs.{Content.content_tree, Sheet.sheet};
 ghost use Rattle.gl_plane.specs.Permit.{permit_tree};
-ghost use Rattle.gl_value.specs.Made.{shown_tree};
-ghost use Rattle.gl_value.specs.View.{scalar_tree};
+ghost use Rattle.gl_value.specs.{Made.shown_tree, View.scalar_tree};
 ghost use Rattle.gl_demand.specs.View.{outcome_tree};
-ghost use Rattle.gl_calculus.specs.Memory.{IsTableOf};
 ghost use Rattle.gl_calc.specs.Shown.{HasValue, TellsValue, TellsValues, is_sound_shown};
 
 use crate::table::Table;

@@ -1,23 +1,16 @@
 //! The evaluation of all that the formulas demand.
 ghost use Rattle.std.specs.Prelude.{◌≡◌, ◌≤◌, [], ℕ, List, IfOk, IfErr, length};
-ghost use Rattle.gl_query.specs.Remembered.{AreTrue};
-ghost use Rattle.gl_query.specs.InOrder.{AreOrdered};
-ghost use Rattle.gl_calculus.specs.Grid.{Addr as PlainAddr};
-ghost use Rattle.gl_calculus.specs.Key.{same_key};
-ghost use Rattle.gl_calculus.specs.Evaluation.{program};
-ghost use Rattle.gl_calculus.specs.Memory.{Table as Plain, Notes};
-ghost use Rattle.gl_calculus.specs.Costs.{Finishes};
-ghost use Rattle.gl_calculus.specs.Formula.{IsSheet, formula_addresses};
-ghost use Rattle.gl_calculus.specs.Limits.{max_formulas};
-ghost use Rattle.gl_calculus.specs.Calculation.{SpendsWork};
+ghost use Rattle.gl_query.specs.{Remembered.AreTrue, InOrder.AreOrdered};
+ghost use Rattle.gl_calculus.specs.{Grid.Addr as PlainAddr, Key.same_key, Evaluation.program};
+ghost use Rattle.gl_calculus.specs.{Memory.Table as Plain, Memory.Notes, Costs.Finishes};
+ghost use Rattle.gl_calculus.specs.{Formula.IsSheet, Formula.formula_addresses};
+ghost use Rattle.gl_calculus.specs.{Limits.max_formulas, Calculation.SpendsWork};
 ghost use Rattle.gl_ast.specs.View.{version_tree};
 ghost use Rattle.gl_cells.specs.Sheet.{sheet};
 ghost use Rattle.gl_order.specs.Rule.{PicksBelow, rule_of};
 ghost use Rattle.gl_core.specs.State.{state_of, notes_in, IsFor};
-ghost use Rattle.gl_calc.specs.Shown.{IsRound};
-ghost use Rattle.gl_calc.specs.Kept.{AreKept};
-ghost use Rattle.gl_calc.specs.Round.{Stops};
-ghost use Rattle.gl_calc.specs.Starting.{IsStarted, IsEvaluated};
+ghost use Rattle.gl_calc.specs.{Shown.IsRound, Kept.AreKept, Round.Stops, Starting.IsStarted};
+ghost use Rattle.gl_calc.specs.{Starting.IsEvaluated};
 
 use crate::ending::RoundFault;
 use gl_ast::Version;

@@ -15,10 +15,9 @@ pub struct Table {
 }
 
 impl Model for Table {
-    ghost use Rattle.std.specs.Coded.{codes};
-    ghost use Rattle.gl_calculus.specs.Codes.{coded_table};
-    ghost use Rattle.gl_calculus.specs.Memory.{Table as Plain};
     ghost use Rattle.std.specs.Prelude.{refl};
+    ghost use Rattle.std.specs.Coded.{codes};
+    ghost use Rattle.gl_calculus.specs.{Codes.coded_table, Memory.Table as Plain};
 
     ghost Value = { Plain };
 

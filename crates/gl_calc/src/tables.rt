@@ -1,8 +1,8 @@
 //! The tables of the rounds of a calculation: those from before, and those that it makes.
 ghost use Rattle.std.specs.Prelude.{◌≡◌, [], None, List, IfOk};
 ghost use Rattle.gl_calculus.specs.Grid.{Addr as PlainAddr};
-ghost use Rattle.gl_calc.specs.Kept.{IsTaken};
 ghost use Rattle.gl_calc.specs.Progress.{next_base, since, made_with, beyond_with};
+ghost use Rattle.gl_calc.specs.Kept.{IsTaken};
 
 use crate::KEPT_ROUNDS;
 use crate::table::Table;
@@ -30,11 +30,9 @@ pub struct Base {
 }
 
 impl Model for Tables {
-    ghost use Rattle.std.specs.Coded.{codes};
     ghost use Rattle.std.specs.Prelude.{◌≤◌, length, vec_capacity};
-    ghost use Rattle.std.specs.Vec.Iter.{into_iter_items};
-    ghost use Rattle.gl_calculus.specs.Codes.{coded_table};
-    ghost use Rattle.gl_calculus.specs.Limits.{kept_rounds};
+    ghost use Rattle.std.specs.{Coded.codes, Vec.Iter.into_iter_items};
+    ghost use Rattle.gl_calculus.specs.{Codes.coded_table, Limits.kept_rounds};
     ghost use Rattle.gl_calc.specs.Progress.{Progress};
 
     ghost Value = { Progress };

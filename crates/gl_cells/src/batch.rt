@@ -2,9 +2,9 @@
 ghost use Rattle.std.specs.Prelude.{◌≡◌, ◌≤◌, ◌+◌, OnOk, OnErr, vec_len, vec_capacity};
 ghost use Rattle.gl_language.specs.Content.{IsProperContent};
 ghost use Rattle.gl_protocol.specs.Commands.{with_content, with_contents};
-ghost use Rattle.gl_cells.specs.Content.{content_tree};
 ghost use Rattle.gl_cells.specs.Sheet.{sheet, put_each, undo_all, CanUndo, AreProper, IsTable};
 ghost use Rattle.gl_cells.specs.Sheet.{Answers};
+ghost use Rattle.gl_cells.specs.Content.{content_tree};
 
 use crate::table::{put_in, restore};
 use crate::{Content, MAX_CONTENTS, MAX_FORMULAS, PutFault};

@@ -5,9 +5,8 @@ ghost use Rattle.gl_calculus.specs.Formula.{IsSheet, content, formula_addresses}
 ghost use Rattle.gl_calculus.specs.Limits.{max_formulas, max_contents};
 ghost use Rattle.gl_language.specs.Content.{IsProperContent};
 ghost use Rattle.gl_protocol.specs.Commands.{with_content, with_contents, without};
-ghost use Rattle.gl_cells.specs.Content.{content_tree};
-ghost use Rattle.gl_cells.specs.Search.{is_in_play};
 ghost use Rattle.gl_cells.specs.Sheet.{sheet, AreProper, ArePlaced, Answers};
+ghost use Rattle.gl_cells.specs.{Content.content_tree, Search.is_in_play};
 
 use crate::batch::{put_list, put_one};
 use crate::clear::clear_in;
@@ -28,7 +27,7 @@ pub struct Cells {
 // One call wherever it is dropped, in place of one for each part.
 impl Drop for Cells {
     fn drop(self) {
-        let Cells { map: _, forms: _ } = self;
+        let Cells { map, forms } = self;
     }
 }
 

@@ -38,8 +38,7 @@ impl Content {
 
 impl Share for Content {
     ghost use Rattle.std.specs.Prelude.{◌≡◌};
-    ghost use Rattle.gl_cells.specs.Content.{content_tree};
-    ghost use Rattle.gl_cells.specs.Equal.{content_alike};
+    ghost use Rattle.gl_cells.specs.{Content.content_tree, Equal.content_alike};
 
     ghost shares = { λ x y. content_tree y ≡ content_tree x };
 

@@ -1,8 +1,7 @@
 //! The formulas of the sheet.
 ghost use Rattle.std.specs.Prelude.{◌≡◌, ◌++◌, ◌∷◌, [], IfOk, OnOk};
 ghost use Rattle.gl_calculus.specs.Formula.{formula_addresses};
-ghost use Rattle.gl_cells.specs.Content.{content_tree};
-ghost use Rattle.gl_cells.specs.Sheet.{sheet};
+ghost use Rattle.gl_cells.specs.{Content.content_tree, Sheet.sheet};
 
 use crate::Content;
 use gl_plane::{Addr, NoMemory};

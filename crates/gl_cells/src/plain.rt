@@ -1,11 +1,8 @@
 //! The scalar of a text that is neither a formula nor a literal.
 ghost use Rattle.std.specs.Prelude.{◌≡◌, pos, neg_ℤ, ◌+◌, ◌-◌, ◌*◌, ◌^◌, ◌<◌, ◌≤◌, length, IsTrue};
 ghost use Rattle.std.specs.Prelude.{IfOk, SomeIff};
-ghost use Rattle.gl_calculus.specs.Formula.{Const};
-ghost use Rattle.gl_calculus.specs.Limits.{max_text};
-ghost use Rattle.gl_calculus.specs.Operators.{exact};
-ghost use Rattle.gl_language.specs.Content.{IsProperContent};
-ghost use Rattle.gl_language.specs.Token.{is_digit};
+ghost use Rattle.gl_calculus.specs.{Formula.Const, Limits.max_text, Operators.exact};
+ghost use Rattle.gl_language.specs.{Content.IsProperContent, Token.is_digit};
 ghost use Rattle.gl_protocol.specs.Commands.{plain_scalar};
 ghost use Rattle.gl_value.specs.View.{scalar_tree};
 ghost use Rattle.gl_cells.specs.Plain.{int_of, number_of, digits_number};

@@ -3,8 +3,7 @@ ghost use Rattle.std.specs.Prelude.{◌≡◌, ◌≤◌, None, IfSome, IfNone, 
 ghost use Rattle.std.specs.BTreeMap as tree;
 ghost use Rattle.gl_calculus.specs.Grid.{Addr as Plain};
 ghost use Rattle.gl_plane.specs.Parts.{IsAddr};
-ghost use Rattle.gl_cells.specs.Sheet.{addr_cmp};
-ghost use Rattle.gl_cells.specs.Search.{AtOrAfter, InPlay};
+ghost use Rattle.gl_cells.specs.{Sheet.addr_cmp, Search.AtOrAfter, Search.InPlay};
 
 use crate::Content;
 use gl_plane::{Addr, Range};

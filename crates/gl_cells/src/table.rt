@@ -2,12 +2,12 @@
 ghost use Rattle.std.specs.Prelude.{◌≡◌, ◌≤◌, ◌<◌, None, IfSome, IfOk, IsSome, OnOk, OnErr};
 ghost use Rattle.std.specs.Prelude.{option_map, unwrap_or, is_some, ◌+◌, if◌then◌else◌};
 ghost use Rattle.std.specs.BTreeMap.{btree_map_len, insert_entry, is_at};
-ghost use Rattle.std.specs.BTreeMap as tree;
 ghost use Rattle.std.specs.Map.{lookup, remove_entry};
+ghost use Rattle.std.specs.BTreeMap as tree;
 ghost use Rattle.gl_calculus.specs.Grid.{Addr as Plain};
 ghost use Rattle.gl_language.specs.Content.{IsProperContent};
-ghost use Rattle.gl_cells.specs.Content.{content_tree, form_weight};
 ghost use Rattle.gl_cells.specs.Sheet.{addr_cmp, IsTable, HasPlace, restored};
+ghost use Rattle.gl_cells.specs.Content.{content_tree, form_weight};
 
 use crate::Content;
 use gl_plane::{Addr, NoMemory};

@@ -18,9 +18,9 @@ pub struct Cert {
 impl Drop for Cert {
     fn drop(self) {
         let Cert {
-            notes: _,
-            loops: _,
-            shown: _,
+            notes,
+            loops,
+            shown,
         } = self;
     }
 }

@@ -1,19 +1,15 @@
 //! The check of a certificate.
 ghost use Rattle.std.specs.Prelude.{◌≡◌, ◌≤◌, ◌+◌, [], None, length, map, option_map, IfOk};
-ghost use Rattle.gl_calculus.specs.Calculation.{IsShown};
-ghost use Rattle.gl_calculus.specs.Evaluation.{program};
-ghost use Rattle.gl_calculus.specs.Key.{same_key};
-ghost use Rattle.gl_calculus.specs.SameOutcome.{same_outcome};
-ghost use Rattle.gl_explanation.specs.Certificate as E;
+ghost use Rattle.gl_calculus.specs.{Calculation.IsShown, Evaluation.program, Key.same_key};
+ghost use Rattle.gl_calculus.specs.{SameOutcome.same_outcome};
 ghost use Rattle.gl_explanation.specs.Certificate.{verdict, judged, says_so, says, is_proper};
 ghost use Rattle.gl_explanation.specs.Walk.{first_free};
+ghost use Rattle.gl_explanation.specs.Certificate as E;
 ghost use Rattle.gl_value.specs.Made.{shown_tree};
 ghost use Rattle.gl_ast.specs.View.{version_tree};
 ghost use Rattle.gl_cells.specs.Sheet.{sheet};
-ghost use Rattle.gl_demand.specs.Sound.{AreSoundKeys};
-ghost use Rattle.gl_demand.specs.View.{key_tree};
-ghost use Rattle.gl_cert.specs.Notes.{claims};
-ghost use Rattle.gl_cert.specs.View.{cert_tree, verdict_tree};
+ghost use Rattle.gl_demand.specs.{Sound.AreSoundKeys, View.key_tree};
+ghost use Rattle.gl_cert.specs.{Notes.claims, View.cert_tree, View.verdict_tree};
 
 use crate::loops::{first_free, key_set};
 use crate::straying::first_stray;

@@ -1,17 +1,14 @@
 //! Which loops of a certificate wait for one of them.
 ghost use Rattle.std.specs.Prelude.{◌≡◌, ◌≤◌, ◌<◌, ◌+◌, ◌^◌, true, cond, length, map, IsTrue, IfOk};
 ghost use Rattle.gl_query.specs.Lists.{has_member};
-ghost use Rattle.gl_calculus.specs.Evaluation.{program};
+ghost use Rattle.gl_calculus.specs.{Evaluation.program, Key.same_key, SameOutcome.same_outcome};
+ghost use Rattle.gl_calculus.specs.{Sound.is_sound_key};
 ghost use Rattle.gl_calculus.specs.Key as K;
-ghost use Rattle.gl_calculus.specs.Key.{same_key};
-ghost use Rattle.gl_calculus.specs.SameOutcome.{same_outcome};
-ghost use Rattle.gl_calculus.specs.Sound.{is_sound_key};
-ghost use Rattle.gl_explanation.specs.Certificate.{is_proper};
 ghost use Rattle.gl_explanation.specs.Walk.{waits_among, waits, first_free};
+ghost use Rattle.gl_explanation.specs.Certificate.{is_proper};
 ghost use Rattle.gl_ast.specs.View.{version_tree};
 ghost use Rattle.gl_cells.specs.Sheet.{sheet};
-ghost use Rattle.gl_demand.specs.Sound.{AreSoundKeys};
-ghost use Rattle.gl_demand.specs.View.{key_tree, found_tree};
+ghost use Rattle.gl_demand.specs.{Sound.AreSoundKeys, View.key_tree, View.found_tree};
 ghost use Rattle.gl_cert.specs.Notes.{claims};
 
 use crate::Notes;

@@ -2,8 +2,7 @@
 ghost use Rattle.std.specs.Prelude.{◌≡◌, ◌<◌, ◌^◌, length, map};
 ghost use Rattle.gl_value.specs.Made.{shown_tree};
 ghost use Rattle.gl_demand.specs.View.{key_tree};
-ghost use Rattle.gl_cert.specs.Claims.{claim_trees};
-ghost use Rattle.gl_cert.specs.View.{cert_tree};
+ghost use Rattle.gl_cert.specs.{Claims.claim_trees, View.cert_tree};
 
 use crate::Cert;
 use gl_demand::{Key, Outcome};

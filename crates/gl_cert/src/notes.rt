@@ -18,7 +18,7 @@ pub struct Notes {
 // One call wherever it is dropped, in place of one for each part.
 impl Drop for Notes {
     fn drop(self) {
-        let Notes { outcomes: _ } = self;
+        let Notes { outcomes } = self;
     }
 }
 

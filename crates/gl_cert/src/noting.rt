@@ -3,13 +3,11 @@ ghost use Rattle.std.specs.Prelude.{◌≡◌, ◌<◌, ◌^◌, [], ◌∷◌, 
 ghost use Rattle.std.specs.Prelude.{IsTrue, OnOk, OnErr, IfOk, IfSome};
 ghost use Rattle.std.specs.Option.{option_copied};
 ghost use Rattle.gl_query.specs.Query.{Ready};
-ghost use Rattle.gl_calculus.specs.Key.{same_key};
-ghost use Rattle.gl_calculus.specs.Sound.{is_sound_key};
+ghost use Rattle.gl_calculus.specs.{Key.same_key, Sound.is_sound_key};
 ghost use Rattle.gl_explanation.specs.Walk.{noted};
-ghost use Rattle.gl_demand.specs.Sound.{AreSoundKeys, IsSoundFound};
-ghost use Rattle.gl_demand.specs.View.{key_tree, outcome_tree};
-ghost use Rattle.gl_cert.specs.Claims.{claim_trees};
-ghost use Rattle.gl_cert.specs.Notes.{claims};
+ghost use Rattle.gl_demand.specs.{Sound.AreSoundKeys, Sound.IsSoundFound, View.key_tree};
+ghost use Rattle.gl_demand.specs.{View.outcome_tree};
+ghost use Rattle.gl_cert.specs.{Claims.claim_trees, Notes.claims};
 
 use crate::Notes;
 use gl_demand::{Key, Known, Outcome};

@@ -1,16 +1,13 @@
 //! Keys that may be evaluated, and one level of evaluation over notes.
 ghost use Rattle.std.specs.Prelude.{◌≡◌, IsTrue, IfOk};
 ghost use Rattle.gl_query.specs.Query.{found};
-ghost use Rattle.gl_calculus.specs.Evaluation.{program};
-ghost use Rattle.gl_calculus.specs.Key.{same_key};
-ghost use Rattle.gl_calculus.specs.Sound.{is_sound_key, IsProperKey};
-ghost use Rattle.gl_explanation.specs.Certificate.{is_proper};
-ghost use Rattle.gl_explanation.specs.Walk.{noted};
+ghost use Rattle.gl_calculus.specs.{Evaluation.program, Key.same_key, Sound.is_sound_key};
+ghost use Rattle.gl_calculus.specs.{Sound.IsProperKey};
+ghost use Rattle.gl_explanation.specs.{Certificate.is_proper, Walk.noted};
 ghost use Rattle.gl_ast.specs.View.{version_tree};
 ghost use Rattle.gl_cells.specs.Sheet.{sheet};
-ghost use Rattle.gl_demand.specs.Sound.{IsSoundFound};
-ghost use Rattle.gl_demand.specs.Steps.{one_more};
-ghost use Rattle.gl_demand.specs.View.{key_tree, found_tree};
+ghost use Rattle.gl_demand.specs.{Sound.IsSoundFound, Steps.one_more, View.key_tree};
+ghost use Rattle.gl_demand.specs.{View.found_tree};
 ghost use Rattle.gl_cert.specs.Notes.{claims};
 
 use crate::Notes;

@@ -2,18 +2,15 @@
 ghost use Rattle.std.specs.Prelude.{◌≡◌, ◌≤◌, ◌<◌, ◌+◌, ◌^◌, [], ◌∷◌, ◌++◌, true, None, length};
 ghost use Rattle.std.specs.Prelude.{map, IsTrue, IfOk};
 ghost use Rattle.gl_query.specs.Query.{Ready};
-ghost use Rattle.gl_calculus.specs.Evaluation.{program};
-ghost use Rattle.gl_calculus.specs.Key.{same_key};
-ghost use Rattle.gl_calculus.specs.SameOutcome.{same_outcome};
-ghost use Rattle.gl_calculus.specs.Sound.{is_sound_key};
-ghost use Rattle.gl_explanation.specs.Certificate.{is_proper};
+ghost use Rattle.gl_calculus.specs.{Evaluation.program, Key.same_key, SameOutcome.same_outcome};
+ghost use Rattle.gl_calculus.specs.{Sound.is_sound_key};
 ghost use Rattle.gl_explanation.specs.Walk.{noted, comes_to, follows, first_stray};
+ghost use Rattle.gl_explanation.specs.Certificate.{is_proper};
 ghost use Rattle.gl_ast.specs.View.{version_tree};
 ghost use Rattle.gl_cells.specs.Sheet.{sheet};
-ghost use Rattle.gl_demand.specs.Sound.{IsSoundFound, AreSoundKeys};
 ghost use Rattle.gl_demand.specs.View.{key_tree, outcome_tree, found_tree};
-ghost use Rattle.gl_cert.specs.Notes.{claims};
-ghost use Rattle.gl_cert.specs.Claims.{claim_trees};
+ghost use Rattle.gl_demand.specs.Sound.{IsSoundFound, AreSoundKeys};
+ghost use Rattle.gl_cert.specs.{Notes.claims, Claims.claim_trees};
 
 use crate::Notes;
 use crate::stepping::{is_proper, level};

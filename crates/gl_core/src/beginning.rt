@@ -3,13 +3,10 @@ ghost use Rattle.std.specs.Prelude.{◌≡◌, ◌+◌, ◌^◌, ◌<◌, ◌≤
 ghost use Rattle.std.specs.Prelude.{vec_capacity, IfOk};
 ghost use Rattle.gl_query.specs.Lists.{AreDistinct};
 ghost use Rattle.gl_calculus.specs.Limits.{max_demanded};
-ghost use Rattle.gl_core.specs.Numbers.{Each, IsIndex};
-ghost use Rattle.gl_core.specs.Ledger.{IsLedger};
-ghost use Rattle.gl_core.specs.Tree.{HasPlace};
-ghost use Rattle.gl_demand.specs.Marks.{mark_trees};
-ghost use Rattle.gl_core.specs.Marks.{TellNothing};
-ghost use Rattle.gl_core.specs.Statuses.{AreCounted};
 ghost use Rattle.gl_core.specs.Table.{IsCore, AreBegun, status_by};
+ghost use Rattle.gl_core.specs.{Numbers.Each, Numbers.IsIndex, Ledger.IsLedger, Tree.HasPlace};
+ghost use Rattle.gl_core.specs.{Marks.TellNothing, Statuses.AreCounted};
+ghost use Rattle.gl_demand.specs.Marks.{mark_trees};
 
 use crate::entries::Entries;
 use crate::index::put;

@@ -34,22 +34,21 @@ pub struct Book {
 impl Drop for Book {
     fn drop(self) {
         let Book {
-            interner: _,
-            keys: _,
-            guesses: _,
-            frames: _,
+            interner,
+            keys,
+            guesses,
+            frames,
         } = self;
     }
 }
 
 impl Model for Book {
-    ghost use Rattle.std.specs.Coded.{codes};
     ghost use Rattle.std.specs.Prelude.{List};
+    ghost use Rattle.std.specs.Coded.{codes};
     ghost use Rattle.gl_calculus.specs.Codes.{coded_key};
     ghost use Rattle.gl_calculus.specs.Key as K;
     ghost use Rattle.gl_intern.specs.Numbered.{seconds};
-    ghost use Rattle.gl_core.specs.Shorts.{key_pairs, IsShort};
-    ghost use Rattle.gl_core.specs.Words.{HasWords};
+    ghost use Rattle.gl_core.specs.{Shorts.key_pairs, Shorts.IsShort, Words.HasWords};
 
     ghost Value = { List K.Key };
 

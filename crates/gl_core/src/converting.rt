@@ -2,12 +2,10 @@
 ghost use Rattle.std.specs.Prelude.{◌≡◌, ◌<◌, ◌++◌, ◌∷◌, [], false, Some, length, map, slice_get};
 ghost use Rattle.std.specs.Prelude.{OnOk, IfOk};
 ghost use Rattle.gl_calculus.specs.Grid.{Range};
-ghost use Rattle.gl_memo.specs.Notes.{notes_of};
-ghost use Rattle.gl_memo.specs.declared.memo.Noted.{Noted};
+ghost use Rattle.gl_memo.specs.{Notes.notes_of, declared.memo.Noted.Noted};
 ghost use Rattle.gl_support.specs.Rows.{note_of};
-ghost use Rattle.gl_demand.specs.View.{key_tree};
-ghost use Rattle.gl_demand.specs.declared.key.Key.{Key};
-ghost use Rattle.gl_demand.specs.declared.outcome.Outcome.{Outcome};
+ghost use Rattle.gl_demand.specs.{View.key_tree, declared.key.Key.Key};
+ghost use Rattle.gl_demand.specs.{declared.outcome.Outcome.Outcome};
 ghost use Rattle.gl_core.specs.State.{note_tree, note_trees, is_noted, IsSoundNote, AreSoundNotes};
 ghost use Rattle.gl_core.specs.Numbers.{Each, key_at, keys_at, named, IsBelow};
 ghost use Rattle.gl_core.specs.Ledger.{written, IsLedger};

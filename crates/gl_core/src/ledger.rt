@@ -1,17 +1,13 @@
 //! Notes by numbers.
 ghost use Rattle.std.specs.Prelude.{◌≡◌, ◌<◌, ◌-◌, ◌^◌, ◌++◌, ◌∷◌, [], Some, IsTrue, length, map};
 ghost use Rattle.std.specs.Prelude.{slice_get, OnOk, OnErr, IfOk};
-ghost use Rattle.gl_query.specs.Lists.{Member, AreDistinct};
-ghost use Rattle.gl_query.specs.InOrder.{kept_after};
-ghost use Rattle.gl_calculus.specs.Key.{same_key};
-ghost use Rattle.gl_calculus.specs.Sound.{is_sound_key};
+ghost use Rattle.gl_query.specs.{Lists.Member, Lists.AreDistinct, InOrder.kept_after};
+ghost use Rattle.gl_calculus.specs.{Key.same_key, Sound.is_sound_key};
 ghost use Rattle.gl_plane.specs.Changes.{reaches};
-ghost use Rattle.gl_demand.specs.View.{key_tree};
-ghost use Rattle.gl_demand.specs.Sound.{AreSoundKeys};
-ghost use Rattle.gl_core.specs.State.{IsSoundNote};
+ghost use Rattle.gl_demand.specs.{View.key_tree, Sound.AreSoundKeys};
 ghost use Rattle.gl_core.specs.Numbers.{Each, named, numbers_of, AreNumbers, Grows, IsIndex};
 ghost use Rattle.gl_core.specs.Numbers.{IsRowOf};
-ghost use Rattle.gl_core.specs.Ledger.{written, IsLedger};
+ghost use Rattle.gl_core.specs.{State.IsSoundNote, Ledger.written, Ledger.IsLedger};
 
 use crate::book::Book;
 use crate::index::{forget, give_place, place_in, put};
@@ -35,11 +31,7 @@ pub struct Ledger {
 // One call wherever it is dropped, in place of one for each part.
 impl Drop for Ledger {
     fn drop(self) {
-        let Ledger {
-            book: _,
-            rows: _,
-            row_of: _,
-        } = self;
+        let Ledger { book, rows, row_of } = self;
     }
 }
 

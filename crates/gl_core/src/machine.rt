@@ -2,32 +2,24 @@
 ghost use Rattle.std.specs.Prelude.{[], true, false, ◌≡◌, ◌≤◌, ◌<◌, ◌+◌, ◌-◌, ◌^◌, ℕ, length, map};
 ghost use Rattle.std.specs.Prelude.{slice_index, OnOk, OnErr, IfOk, IfErr, vec_len};
 ghost use Rattle.gl_query.specs.Lists.{Member, AreDistinct, MoreThan};
-ghost use Rattle.gl_query.specs.Laws.{IsQuiet};
-ghost use Rattle.gl_query.specs.Machine as Machine;
 ghost use Rattle.gl_query.specs.Machine.{Demanded, idle_keys, nth};
-ghost use Rattle.gl_query.specs.Costs.{answer_at, settled};
-ghost use Rattle.gl_query.specs.Remembered.{AreTrue};
-ghost use Rattle.gl_query.specs.InOrder.{AreOrdered};
-ghost use Rattle.gl_calculus.specs.Limits.{max_demanded};
+ghost use Rattle.gl_query.specs.{Laws.IsQuiet, Costs.answer_at, Costs.settled, Remembered.AreTrue};
+ghost use Rattle.gl_query.specs.{InOrder.AreOrdered, InOrder.note_keys};
+ghost use Rattle.gl_query.specs.Machine as Machine;
+ghost use Rattle.gl_calculus.specs.{Limits.max_demanded, Key.same_key, Evaluation.program};
+ghost use Rattle.gl_calculus.specs.{Sound.IsProperKey};
 ghost use Rattle.gl_calculus.specs.Value as V;
 ghost use Rattle.gl_calculus.specs.Key as K;
-ghost use Rattle.gl_calculus.specs.Key.{same_key};
-ghost use Rattle.gl_calculus.specs.Evaluation.{program};
-ghost use Rattle.gl_calculus.specs.Sound.{IsProperKey};
 ghost use Rattle.gl_ast.specs.View.{version_tree};
 ghost use Rattle.gl_cells.specs.Sheet.{sheet};
 ghost use Rattle.gl_order.specs.Rule.{PicksBelow, rule_of};
 ghost use Rattle.gl_memo.specs.Notes.{notes_of};
-ghost use Rattle.gl_demand.specs.View.{key_tree};
-ghost use Rattle.gl_demand.specs.Sound.{AreSoundKeys};
+ghost use Rattle.gl_demand.specs.{View.key_tree, Sound.AreSoundKeys, Marks.mark_trees};
+ghost use Rattle.gl_demand.specs.{Steps.AllowsDemanded};
 ghost use Rattle.gl_core.specs.State.{state_of, seeds_of, notes_in, note_trees, is_noted};
 ghost use Rattle.gl_core.specs.State.{noted_after, HaveSoundParts, IsFor};
-ghost use Rattle.gl_query.specs.InOrder.{note_keys};
-ghost use Rattle.gl_core.specs.Table.{IsTable, AreIdle};
-ghost use Rattle.gl_demand.specs.Marks.{mark_trees};
-ghost use Rattle.gl_core.specs.Marks.{TellNothing};
-ghost use Rattle.gl_demand.specs.Steps.{AllowsDemanded};
 ghost use Rattle.gl_core.specs.Answers.{picked_tree, counted, AtMostCounted, AllowsKnown};
+ghost use Rattle.gl_core.specs.{Table.IsTable, Table.AreIdle, Marks.TellNothing};
 
 use crate::answers::{CoreFault, Picked};
 use crate::converting::ledger_of;
@@ -62,9 +54,9 @@ pub struct Core {
 impl Drop for Core {
     fn drop(self) {
         let Core {
-            entries: _,
-            seeds: _,
-            ledger: _,
+            entries,
+            seeds,
+            ledger,
         } = self;
     }
 }
@@ -72,9 +64,7 @@ impl Drop for Core {
 impl Model for Core {
     ghost use Rattle.std.specs.Coded.{codes};
     ghost use Rattle.gl_calculus.specs.Codes.{coded_key, coded_outcome, coded_note};
-    ghost use Rattle.gl_core.specs.Held.{Held};
-    ghost use Rattle.gl_core.specs.Marks.{coded_mark};
-    ghost use Rattle.gl_core.specs.Table.{held, IsCore};
+    ghost use Rattle.gl_core.specs.{Held.Held, Marks.coded_mark, Table.held, Table.IsCore};
 
     ghost Value = { Held };
 

@@ -1,16 +1,14 @@
 //! The results of a round that are kept for the next one.
 ghost use Rattle.std.specs.Prelude.{◌≡◌, [], length, option_map, OnOk, OnErr, IfOk, IfSome};
 ghost use Rattle.std.specs.Option.{option_copied};
-ghost use Rattle.gl_query.specs.Lists.{AreDistinct};
-ghost use Rattle.gl_query.specs.Query.{Ready};
-ghost use Rattle.gl_query.specs.Remembered.{AreClosed, AreTheKept};
 ghost use Rattle.gl_query.specs.InOrder.{AreOrdered, note_keys, kept_after};
+ghost use Rattle.gl_query.specs.{Lists.AreDistinct, Query.Ready, Remembered.AreClosed};
+ghost use Rattle.gl_query.specs.{Remembered.AreTheKept};
 ghost use Rattle.gl_calculus.specs.Key.{same_key};
 ghost use Rattle.gl_plane.specs.Changes.{reaches};
-ghost use Rattle.gl_demand.specs.View.{key_tree, outcome_tree};
-ghost use Rattle.gl_demand.specs.Sound.{IsSoundFound};
-ghost use Rattle.gl_core.specs.Ledger.{written, IsLedger};
-ghost use Rattle.gl_core.specs.Results.{outcome_in, AreResults};
+ghost use Rattle.gl_demand.specs.{View.key_tree, View.outcome_tree, Sound.IsSoundFound};
+ghost use Rattle.gl_core.specs.{Ledger.written, Ledger.IsLedger, Results.outcome_in};
+ghost use Rattle.gl_core.specs.{Results.AreResults};
 
 use crate::converting::copy_ledger;
 use crate::ledger::Ledger;
@@ -32,16 +30,14 @@ pub struct Results {
 // One call wherever it is dropped, in place of one for each part.
 impl Drop for Results {
     fn drop(self) {
-        let Results { ledger: _ } = self;
+        let Results { ledger } = self;
     }
 }
 
 impl Model for Results {
     ghost use Rattle.std.specs.Coded.{codes};
-    ghost use Rattle.gl_calculus.specs.Codes.{coded_note};
-    ghost use Rattle.gl_calculus.specs.Memory.{Notes};
-    ghost use Rattle.gl_core.specs.Ledger.{written, IsLedger};
-    ghost use Rattle.gl_core.specs.Results.{AreResults};
+    ghost use Rattle.gl_calculus.specs.{Codes.coded_note, Memory.Notes};
+    ghost use Rattle.gl_core.specs.{Ledger.written, Ledger.IsLedger, Results.AreResults};
 
     ghost Value = { Notes };
 

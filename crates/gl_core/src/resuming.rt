@@ -2,22 +2,15 @@
 ghost use Rattle.std.specs.Prelude.{◌≡◌, ◌<◌, ◌≤◌, ◌++◌, ◌&&◌, ◌∷◌, [], ℕ, List, All, Some, not};
 ghost use Rattle.std.specs.Prelude.{if◌then◌else◌, length, map, filter, slice_get, IfOk, OnOk};
 ghost use Rattle.std.specs.Prelude.{IfErr, vec_len};
-ghost use Rattle.gl_query.specs.Lists.{AreDistinct};
-ghost use Rattle.gl_query.specs.InOrder.{AreOrdered};
-ghost use Rattle.gl_calculus.specs.Limits.{max_demanded};
-ghost use Rattle.gl_calculus.specs.Grid.{Range};
+ghost use Rattle.gl_query.specs.{Lists.AreDistinct, InOrder.AreOrdered};
+ghost use Rattle.gl_calculus.specs.{Limits.max_demanded, Grid.Range};
 ghost use Rattle.gl_calculus.specs.Key as K;
 ghost use Rattle.gl_calculus.specs.Value as V;
-ghost use Rattle.gl_support.specs.declared.row.Row.{Row};
-ghost use Rattle.gl_support.specs.Reach.{is_marked, has};
-ghost use Rattle.gl_support.specs.Rows.{notes_of};
-ghost use Rattle.gl_demand.specs.declared.outcome.Outcome.{Outcome};
+ghost use Rattle.gl_support.specs.{declared.row.Row.Row, Reach.is_marked, Reach.has, Rows.notes_of};
+ghost use Rattle.gl_demand.specs.{declared.outcome.Outcome.Outcome, Marks.mark_trees};
 ghost use Rattle.gl_core.specs.Numbers.{Each, numbers_of, AreNumbers, Grows};
-ghost use Rattle.gl_core.specs.Ledger.{written, IsLedger};
-ghost use Rattle.gl_demand.specs.Marks.{mark_trees};
-ghost use Rattle.gl_core.specs.Marks.{TellNothing};
-ghost use Rattle.gl_core.specs.Table.{IsCore, AreBegun};
-ghost use Rattle.gl_core.specs.Resuming.{IsClosure, IsResumed};
+ghost use Rattle.gl_core.specs.{Ledger.written, Ledger.IsLedger, Marks.TellNothing, Table.IsCore};
+ghost use Rattle.gl_core.specs.{Table.AreBegun, Resuming.IsClosure, Resuming.IsResumed};
 
 use crate::answers::CoreFault;
 use crate::beginning::begun;

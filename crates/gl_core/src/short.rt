@@ -3,8 +3,8 @@ ghost use Rattle.std.specs.Prelude.{◌≡◌, Some, option_map, IfOk};
 ghost use Rattle.gl_calculus.specs.Key as K;
 ghost use Rattle.gl_value.specs.View.{frame_tree};
 ghost use Rattle.gl_demand.specs.View.{key_tree};
-ghost use Rattle.gl_core.specs.Shorts.{short_in, IsGrown};
-ghost use Rattle.gl_core.specs.declared.short.Short.TheVariants.{In as InCopy};
+ghost use Rattle.gl_core.specs.{Shorts.short_in, Shorts.IsGrown};
+ghost use Rattle.gl_core.specs.{declared.short.Short.TheVariants.In as InCopy};
 
 use gl_demand::Key;
 use gl_intern::Interner;

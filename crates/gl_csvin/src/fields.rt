@@ -1,11 +1,10 @@
 //! The fields of records at their addresses.
 ghost use Rattle.std.specs.Prelude.{◌≡◌, ◌+◌, ◌<◌, ◌≤◌, ◌^◌, ◌∷◌, [], map, length, IsTrue, IfOk};
 ghost use Rattle.std.specs.Prelude.{OnOk, SomeIff};
-ghost use Rattle.std.specs.List.{list_all};
-ghost use Rattle.std.specs.Str.{is_utf8};
+ghost use Rattle.std.specs.{List.list_all, Str.is_utf8};
 ghost use Rattle.csv.specs.Records.{fields_of};
-ghost use Rattle.gl_calculus.specs.Formula.{IsSheet};
 ghost use Rattle.gl_calculus.specs.Grid.{addr, covers, grid};
+ghost use Rattle.gl_calculus.specs.Formula.{IsSheet};
 ghost use Rattle.gl_protocol.specs.Commands.{contents, fields, fields_of_record};
 ghost use Rattle.gl_cells.specs.Sheet.{sheet, AreProper};
 ghost use Rattle.gl_csvin.specs.Import.{Adds, Imports};

@@ -1,7 +1,6 @@
 //! The records of a payload.
 ghost use Rattle.std.specs.Prelude.{◌≡◌, IfOk, OnErr, IsErrOf, map};
-ghost use Rattle.std.specs.List.{list_all};
-ghost use Rattle.std.specs.Str.{is_utf8};
+ghost use Rattle.std.specs.{List.list_all, Str.is_utf8};
 ghost use Rattle.csv.specs.Records.{fields_of};
 ghost use Rattle.gl_protocol.specs.Commands.{without_mark};
 ghost use Rattle.gl_csvin.specs.Import.{csv_records};

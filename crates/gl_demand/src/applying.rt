@@ -1,15 +1,13 @@
 //! The functions of formulas whose arguments are all evaluated.
 ghost use Rattle.std.specs.Prelude.{◌≡◌, ◌≤◌, IsTrue, IfOk, IfErr, false, [], ◌∷◌, length, map};
 ghost use Rattle.gl_ast.specs.View.{fun_tree};
-ghost use Rattle.gl_calculus.specs.Limits.{max_arguments};
+ghost use Rattle.gl_calculus.specs.{Limits.max_arguments, Sound.is_sound_value};
 ghost use Rattle.gl_calculus.specs.ErrKind as E;
 ghost use Rattle.gl_calculus.specs.Functions as F;
-ghost use Rattle.gl_calculus.specs.Sound.{is_sound_value};
 ghost use Rattle.gl_calculus.specs.Value as V;
 ghost use Rattle.gl_funs.specs.Elements.{AreSound};
 ghost use Rattle.gl_value.specs.View.{value_tree};
-ghost use Rattle.gl_demand.specs.Arity.{takes_any};
-ghost use Rattle.gl_demand.specs.declared.trail.Halt.{Halt};
+ghost use Rattle.gl_demand.specs.{Arity.takes_any, declared.trail.Halt.Halt};
 
 use crate::trail::Halt;
 use gl_arrays::{

@@ -1,15 +1,12 @@
 //! The calls of functions.
 ghost use Rattle.std.specs.Prelude.{◌≡◌, IsTrue, IfOk};
 ghost use Rattle.gl_ast.specs.View.{version_tree, fun_tree, argument_trees};
+ghost use Rattle.gl_calculus.specs.Sound.{is_sound_value};
 ghost use Rattle.gl_calculus.specs.Evaluation as E;
 ghost use Rattle.gl_calculus.specs.Formula as F;
-ghost use Rattle.gl_calculus.specs.Sound.{is_sound_value};
 ghost use Rattle.gl_value.specs.View.{value_tree, frame_tree};
-ghost use Rattle.gl_demand.specs.Scope.{bindings_of};
-ghost use Rattle.gl_demand.specs.Calls.{call_in};
-ghost use Rattle.gl_demand.specs.Worlds.{world_of};
-ghost use Rattle.gl_demand.specs.Values.{plain_call};
-ghost use Rattle.gl_demand.specs.Walks.{Walks};
+ghost use Rattle.gl_demand.specs.{Scope.bindings_of, Calls.call_in, Worlds.world_of};
+ghost use Rattle.gl_demand.specs.{Values.plain_call, Walks.Walks};
 
 use crate::Known;
 use crate::applying::apply;

@@ -1,18 +1,14 @@
 //! Keys that an evaluation demands.
 ghost use Rattle.std.specs.Prelude.{◌≡◌, Some, IsTrue, IfOk, IfErr, IfSome, option_map};
 ghost use Rattle.gl_query.specs.Evaluation.{Demand};
-ghost use Rattle.gl_calculus.specs.Facts.{fact};
 ghost use Rattle.gl_calculus.specs.Key.{Cell, give, own_value};
-ghost use Rattle.gl_calculus.specs.Reference.{own, value_of};
 ghost use Rattle.gl_calculus.specs.Sound.{is_sound_frame, is_sound_key, is_sound_outcome};
 ghost use Rattle.gl_calculus.specs.Sound.{is_sound_value};
+ghost use Rattle.gl_calculus.specs.{Facts.fact, Reference.own, Reference.value_of};
 ghost use Rattle.gl_cells.specs.Sheet.{sheet};
 ghost use Rattle.gl_value.specs.View.{value_tree, frame_tree};
-ghost use Rattle.gl_demand.specs.View.{key_tree, outcome_tree};
-ghost use Rattle.gl_demand.specs.Walk.{World};
-ghost use Rattle.gl_demand.specs.Worlds.{world_of};
-ghost use Rattle.gl_demand.specs.Held.{held_tree, IsSoundHeld};
-ghost use Rattle.gl_demand.specs.Walks.{Walks};
+ghost use Rattle.gl_demand.specs.{View.key_tree, View.outcome_tree, Walk.World, Worlds.world_of};
+ghost use Rattle.gl_demand.specs.{Held.held_tree, Held.IsSoundHeld, Walks.Walks};
 
 use crate::context::Context;
 use crate::held::{Held, held_at};

@@ -1,23 +1,19 @@
 //! The evaluation of a key.
 ghost use Rattle.std.specs.Prelude.{◌≡◌, ◌⊎◌, Some, IsTrue, IfOk};
 ghost use Rattle.gl_ast.specs.View.{version_tree};
-ghost use Rattle.gl_calculus.specs.Formula.{content};
 ghost use Rattle.gl_calculus.specs.Key.{Cell, Settle, Settled};
-ghost use Rattle.gl_calculus.specs.Evaluation as E;
-ghost use Rattle.gl_calculus.specs.Reference.{own_content};
 ghost use Rattle.gl_calculus.specs.Sound.{is_sound_key, is_sound_sheet, is_sound_value};
+ghost use Rattle.gl_calculus.specs.{Formula.content, Reference.own_content};
+ghost use Rattle.gl_calculus.specs.Evaluation as E;
 ghost use Rattle.gl_cells.specs.Sheet.{sheet};
 ghost use Rattle.gl_value.specs.View.{value_tree, frame_tree, sheet_tree};
-ghost use Rattle.gl_demand.specs.Held.{held_tree, IsSoundHeld};
-ghost use Rattle.gl_demand.specs.Sound.{IsSoundTable, IsSoundFound};
-ghost use Rattle.gl_ahead.specs.Reading.{Own};
 ghost use Rattle.gl_demand.specs.View.{key_tree, outcome_tree, found_tree};
-ghost use Rattle.gl_demand.specs.Reading.{ahead_tree};
-ghost use Rattle.gl_demand.specs.Walk.{world, walk};
-ghost use Rattle.gl_demand.specs.Worlds.{world_of};
 ghost use Rattle.gl_demand.specs.Walks.{Walks, trail_tree, IsAheadOf};
-ghost use Rattle.gl_demand.specs.Cells.{looked_cell};
-ghost use Rattle.gl_demand.specs.Stopped.{IsReady, IsStopped};
+ghost use Rattle.gl_demand.specs.{Held.held_tree, Held.IsSoundHeld, Sound.IsSoundTable};
+ghost use Rattle.gl_demand.specs.{Sound.IsSoundFound, Reading.ahead_tree, Walk.world, Walk.walk};
+ghost use Rattle.gl_demand.specs.{Worlds.world_of, Cells.looked_cell, Stopped.IsReady};
+ghost use Rattle.gl_demand.specs.{Stopped.IsStopped};
+ghost use Rattle.gl_ahead.specs.Reading.{Own};
 
 use crate::context::Context;
 use crate::elements::{share_scalar, share_value};

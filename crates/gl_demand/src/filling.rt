@@ -1,13 +1,11 @@
 //! The addresses with content in a frame of a sheet value, one after the other.
-ghost use Rattle.std.specs.Prelude.{◌≡◌, ◌&&◌, ◌||◌, not, ◌≤◌, Bool, true, false, IsTrue};
-ghost use Rattle.std.specs.Prelude.{IfSome, length};
-ghost use Rattle.std.specs.List.{AllWithin};
-ghost use Rattle.std.specs.Option.{IfNone};
+ghost use Rattle.std.specs.Prelude.{◌≡◌, ◌&&◌, ◌||◌, not, ◌≤◌, Bool, true, false, IsTrue, IfSome};
+ghost use Rattle.std.specs.Prelude.{length};
+ghost use Rattle.std.specs.{List.AllWithin, Option.IfNone};
 ghost use Rattle.gl_calculus.specs.Grid.{Addr as Plain, covers, is_before};
-ghost use Rattle.gl_calculus.specs.Sound.{is_sound_sheet, is_sound_frame};
 ghost use Rattle.gl_calculus.specs.Value.{Oracle, In, region};
-ghost use Rattle.gl_cells.specs.Search.{comes_after};
-ghost use Rattle.gl_cells.specs.Sheet.{sheet};
+ghost use Rattle.gl_calculus.specs.Sound.{is_sound_sheet, is_sound_frame};
+ghost use Rattle.gl_cells.specs.{Search.comes_after, Sheet.sheet};
 ghost use Rattle.gl_value.specs.View.{frame_tree, sheet_tree, override_trees};
 ghost use Rattle.gl_value.specs.declared.Value.{Value as Given};
 ghost use Rattle.gl_demand.specs.Filling.{IsFirst, IsFirstWith, comes_before, next_override};

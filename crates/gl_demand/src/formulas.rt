@@ -1,12 +1,10 @@
 //! The values of formulas.
 ghost use Rattle.std.specs.Prelude.{◌≡◌, IsTrue, IfOk, IfErr};
 ghost use Rattle.gl_ast.specs.View.{version_tree, formula_tree};
-ghost use Rattle.gl_calculus.specs.Evaluation as E;
 ghost use Rattle.gl_calculus.specs.Sound.{is_sound_value};
+ghost use Rattle.gl_calculus.specs.Evaluation as E;
 ghost use Rattle.gl_value.specs.View.{value_tree, frame_tree};
-ghost use Rattle.gl_demand.specs.Scope.{bindings_of};
-ghost use Rattle.gl_demand.specs.Worlds.{world_of};
-ghost use Rattle.gl_demand.specs.Walks.{Walks};
+ghost use Rattle.gl_demand.specs.{Scope.bindings_of, Worlds.world_of, Walks.Walks};
 
 use crate::Known;
 use crate::calls::call;

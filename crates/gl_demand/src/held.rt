@@ -1,16 +1,13 @@
 //! What an address holds in a frame.
 ghost use Rattle.std.specs.Prelude.{◌≡◌, IsTrue, Some, IfSome, option_map};
-ghost use Rattle.gl_language.specs.Content.{IsProperContent};
 ghost use Rattle.std.specs.Option.{option_copied};
-ghost use Rattle.gl_calculus.specs.Formula.{content, Cells as Sheet};
-ghost use Rattle.gl_calculus.specs.Facts.{fact};
+ghost use Rattle.gl_language.specs.Content.{IsProperContent};
 ghost use Rattle.gl_calculus.specs.Reference.{own_content, content_in, held_top, home, in_region};
 ghost use Rattle.gl_calculus.specs.Reference.{status_in, cover_in};
-ghost use Rattle.gl_calculus.specs.Sound.{is_sound_frame, is_sound_value};
-ghost use Rattle.gl_cells.specs.Sheet.{sheet};
-ghost use Rattle.gl_cells.specs.Content.{content_tree};
-ghost use Rattle.gl_plane.specs.Entries.{offsets};
-ghost use Rattle.gl_plane.specs.Permit.{permit_tree};
+ghost use Rattle.gl_calculus.specs.{Formula.content, Formula.Cells as Sheet, Facts.fact};
+ghost use Rattle.gl_calculus.specs.{Sound.is_sound_frame, Sound.is_sound_value};
+ghost use Rattle.gl_cells.specs.{Sheet.sheet, Content.content_tree};
+ghost use Rattle.gl_plane.specs.{Entries.offsets, Permit.permit_tree};
 ghost use Rattle.gl_value.specs.View.{value_tree, frame_tree};
 ghost use Rattle.gl_demand.specs.Held.{held_tree, IsSoundHeld, override_in};
 

@@ -27,9 +27,7 @@ impl Drop for Key {
 }
 
 impl Hash for Key {
-    ghost use Rattle.gl_demand.specs.View.{key_tree};
-    ghost use Rattle.gl_demand.specs.Equal.{key_equal};
-    ghost use Rattle.gl_demand.specs.Outline.{key_outline};
+    ghost use Rattle.gl_demand.specs.{View.key_tree, Equal.key_equal, Outline.key_outline};
     ghost use Rattle.std.specs.Hash as fed;
     ghost use Rattle.std.proofs.Common.{ap};
 
@@ -56,8 +54,7 @@ impl Key {
 }
 
 impl Share for Key {
-    ghost use Rattle.gl_demand.specs.View.{key_tree};
-    ghost use Rattle.gl_demand.specs.Equal.{key_equal};
+    ghost use Rattle.gl_demand.specs.{View.key_tree, Equal.key_equal};
     ghost use Rattle.std.specs.Prelude.{◌≡◌};
     ghost use Rattle.std.proofs.Common.{sym};
 

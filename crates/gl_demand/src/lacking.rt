@@ -1,20 +1,16 @@
 //! Which key is needed next by what was being read.
 ghost use Rattle.std.specs.Prelude.{◌≡◌, Some, IsTrue, IfOk, IfSome, option_map};
-ghost use Rattle.gl_calculus.specs.Facts.{fact};
-ghost use Rattle.gl_calculus.specs.Formula.{content};
-ghost use Rattle.gl_calculus.specs.Value.{Oracle as Plain};
-ghost use Rattle.gl_calculus.specs.Reference.{own_content, cover_in};
-ghost use Rattle.gl_calculus.specs.Sound.{is_sound_frame, is_sound_key};
+ghost use Rattle.gl_calculus.specs.{Facts.fact, Formula.content, Value.Oracle as Plain};
+ghost use Rattle.gl_calculus.specs.{Reference.own_content, Reference.cover_in};
+ghost use Rattle.gl_calculus.specs.{Sound.is_sound_frame, Sound.is_sound_key};
 ghost use Rattle.gl_cells.specs.Sheet.{sheet};
 ghost use Rattle.gl_value.specs.View.{frame_tree};
 ghost use Rattle.gl_ahead.specs.Demands.{is_value, held_keys, own_keys, cover_keys, shown_keys};
 ghost use Rattle.gl_ahead.specs.Demands.{address_keys};
 ghost use Rattle.gl_ahead.specs.Reading.{Area, Round, keys_from};
-ghost use Rattle.gl_demand.specs.View.{key_tree, outcome_tree};
-ghost use Rattle.gl_demand.specs.Held.{held_tree};
-ghost use Rattle.gl_demand.specs.Reading.{ahead_tree, one_key};
-ghost use Rattle.gl_demand.specs.Filling.{HasNone};
-ghost use Rattle.gl_demand.specs.Lacking.{IsPassing, IsNext};
+ghost use Rattle.gl_demand.specs.{View.key_tree, View.outcome_tree, Held.held_tree};
+ghost use Rattle.gl_demand.specs.{Reading.ahead_tree, Reading.one_key, Filling.HasNone};
+ghost use Rattle.gl_demand.specs.{Lacking.IsPassing, Lacking.IsNext};
 
 use crate::ahead::{Ahead, Reference};
 use crate::filling::{is_past, next_held};

@@ -1,17 +1,14 @@
 //! Sheet values, as SHEET, UPDATE and THIS make and find them.
 ghost use Rattle.std.specs.Prelude.{◌≡◌, IsTrue, IfOk, IfErr};
 ghost use Rattle.gl_ast.specs.View.{formula_tree};
+ghost use Rattle.gl_calculus.specs.Sound.{is_sound_value};
 ghost use Rattle.gl_calculus.specs.Evaluation as E;
 ghost use Rattle.gl_calculus.specs.Sheet as S;
-ghost use Rattle.gl_calculus.specs.Sound.{is_sound_value};
 ghost use Rattle.gl_calculus.specs.Value as V;
-ghost use Rattle.gl_value.specs.Made.{made_tree};
-ghost use Rattle.gl_value.specs.Parts.{is_sound_made};
 ghost use Rattle.gl_value.specs.View.{scalar_tree, value_tree, frame_tree};
-ghost use Rattle.gl_demand.specs.Walk.{World};
-ghost use Rattle.gl_demand.specs.Walks.{Walks};
-ghost use Rattle.gl_demand.specs.declared.trail.Halt.{Halt};
-ghost use Rattle.gl_demand.specs.declared.trail.Trail.{Trail};
+ghost use Rattle.gl_value.specs.{Made.made_tree, Parts.is_sound_made};
+ghost use Rattle.gl_demand.specs.{Walk.World, Walks.Walks, declared.trail.Halt.Halt};
+ghost use Rattle.gl_demand.specs.{declared.trail.Trail.Trail};
 
 use crate::context::Context;
 use crate::trail::Halt;

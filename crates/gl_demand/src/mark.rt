@@ -1,8 +1,7 @@
 //! What a key that waits will need next.
 ghost use Rattle.std.specs.Prelude.{◌≡◌};
 ghost use Rattle.gl_ahead.specs.Reading.{Nothing};
-ghost use Rattle.gl_demand.specs.Reading.{ahead_tree};
-ghost use Rattle.gl_demand.specs.Marks.{mark_tree};
+ghost use Rattle.gl_demand.specs.{Reading.ahead_tree, Marks.mark_tree};
 
 use crate::ahead::Ahead;
 
@@ -16,7 +15,7 @@ pub struct Mark {
 // One call wherever it is dropped, in place of one for each part.
 impl Drop for Mark {
     fn drop(self) {
-        let Mark { ahead: _, place: _ } = self;
+        let Mark { ahead, place } = self;
     }
 }
 

@@ -1,12 +1,9 @@
 //! A trail grows.
 ghost use Rattle.std.specs.Prelude.{◌≡◌, OnOk, [], IsTrue, map};
 ghost use Rattle.indexmap.specs.IndexSet.{insert_key};
-ghost use Rattle.gl_calculus.specs.Key.{same_key};
-ghost use Rattle.gl_demand.specs.Sound.{AreSoundKeys};
-ghost use Rattle.gl_calculus.specs.Sound.{is_sound_key};
-ghost use Rattle.gl_demand.specs.View.{key_tree};
-ghost use Rattle.gl_demand.specs.Walk.{reading, looking};
-ghost use Rattle.gl_demand.specs.Walks.{trail_tree};
+ghost use Rattle.gl_calculus.specs.{Key.same_key, Sound.is_sound_key};
+ghost use Rattle.gl_demand.specs.{Sound.AreSoundKeys, View.key_tree, Walk.reading, Walk.looking};
+ghost use Rattle.gl_demand.specs.{Walks.trail_tree};
 
 use crate::Key;
 use crate::trail::Trail;

@@ -47,8 +47,7 @@ impl Outcome {
 }
 
 impl Share for Outcome {
-    ghost use Rattle.gl_demand.specs.View.{outcome_tree};
-    ghost use Rattle.gl_demand.specs.Equal.{outcome_equal};
+    ghost use Rattle.gl_demand.specs.{View.outcome_tree, Equal.outcome_equal};
     ghost use Rattle.std.specs.Prelude.{◌≡◌};
     ghost use Rattle.std.proofs.Common.{sym};
 

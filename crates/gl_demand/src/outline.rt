@@ -2,10 +2,10 @@
 //! word takes the same time however much a sheet value holds.
 ghost use Rattle.std.specs.Prelude.{◌≡◌, ◌-◌, Some, length, map, slice_get};
 ghost use Rattle.gl_value.specs.View.{scalar_tree, value_tree, array_tree, sheet_tree, frame_tree};
-ghost use Rattle.gl_demand.specs.View.{key_tree};
 ghost use Rattle.gl_demand.specs.Outline.{plain_override, scalar_word, value_word, override_word};
 ghost use Rattle.gl_demand.specs.Outline.{level_word, entry_word, oracle_word, range_word};
 ghost use Rattle.gl_demand.specs.Outline.{frame_level, sheet_outline, frame_outline, key_outline};
+ghost use Rattle.gl_demand.specs.View.{key_tree};
 
 use crate::Key;
 use gl_plane::{Addr, Entry, Oracle, Range, address_word, mixed};

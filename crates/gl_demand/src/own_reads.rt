@@ -1,17 +1,14 @@
 //! Which key is needed next by what a formula surely reads first, one reference after another.
 ghost use Rattle.std.specs.Prelude.{◌≡◌, ◌+◌, ◌≤◌, ◌<◌, ◌++◌, List, [], Ok, IsTrue, IfOk};
-ghost use Rattle.gl_calculus.specs.Grid.{Addr, addresses};
-ghost use Rattle.gl_calculus.specs.Sound.{is_sound_frame};
+ghost use Rattle.gl_calculus.specs.{Grid.Addr, Grid.addresses, Sound.is_sound_frame};
 ghost use Rattle.gl_cells.specs.Sheet.{sheet};
 ghost use Rattle.gl_ast.specs.View.{fun_tree, formula_tree, argument_trees, operand_trees};
 ghost use Rattle.gl_value.specs.View.{frame_tree};
 ghost use Rattle.gl_ahead.specs.Demands.{first_reads, call_reads, begun_reads, argument_reads};
 ghost use Rattle.gl_ahead.specs.Demands.{operand_reads};
 ghost use Rattle.gl_ahead.specs.Reading.{Own, keys_from};
-ghost use Rattle.gl_demand.specs.Lacking.{IsNext};
-ghost use Rattle.gl_demand.specs.Passing.{Passes, own_keys_from};
-ghost use Rattle.gl_demand.specs.Walk.{world};
-ghost use Rattle.gl_demand.specs.declared.own_reads.Way.{Way};
+ghost use Rattle.gl_demand.specs.{Lacking.IsNext, Passing.Passes, Passing.own_keys_from};
+ghost use Rattle.gl_demand.specs.{Walk.world, declared.own_reads.Way.Way};
 
 use crate::Known;
 use crate::ahead::Place;

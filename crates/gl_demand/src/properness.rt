@@ -1,10 +1,8 @@
 //! Whether keys are proper.
 ghost use Rattle.std.specs.Prelude.{◌≡◌, true, false, IsTrue, IsFalse, option_map};
-ghost use Rattle.gl_calculus.specs.Sound.{is_sound_key, IsProperKey};
+ghost use Rattle.gl_calculus.specs.{Sound.is_sound_key, Sound.IsProperKey, Reference.is_computed};
 ghost use Rattle.gl_cells.specs.Sheet.{sheet};
-ghost use Rattle.gl_calculus.specs.Reference.{is_computed};
-ghost use Rattle.gl_demand.specs.Held.{held_tree};
-ghost use Rattle.gl_demand.specs.View.{key_tree};
+ghost use Rattle.gl_demand.specs.{Held.held_tree, View.key_tree};
 
 use crate::Key;
 use crate::held::{Held, held_at};

@@ -1,18 +1,15 @@
 //! How ranges are read: their addresses in row-major order, in one reference.
 ghost use Rattle.std.specs.Prelude.{◌≡◌, ◌*◌, [], IsTrue, IfOk, IfErr, SomeIff, length, map};
 ghost use Rattle.std.specs.Prelude.{vec_len};
-ghost use Rattle.gl_calculus.specs.Grid.{addresses, extents};
-ghost use Rattle.gl_calculus.specs.Facts.{facts};
+ghost use Rattle.gl_calculus.specs.Sound.{is_sound_frame, are_sound, is_size, is_sound_value};
+ghost use Rattle.gl_calculus.specs.{Grid.addresses, Grid.extents, Facts.facts};
 ghost use Rattle.gl_calculus.specs.Reference as R;
 ghost use Rattle.gl_calculus.specs.Value as V;
-ghost use Rattle.gl_calculus.specs.Sound.{is_sound_frame, are_sound, is_size, is_sound_value};
 ghost use Rattle.gl_cells.specs.Sheet.{sheet};
 ghost use Rattle.gl_value.specs.View.{scalar_tree, value_tree, frame_tree, item_trees};
-ghost use Rattle.gl_demand.specs.Worlds.{world_of};
-ghost use Rattle.gl_demand.specs.Walks.{EndsWalk, Walks};
-ghost use Rattle.gl_demand.specs.Stopped.{IsHaltIn};
+ghost use Rattle.gl_demand.specs.{Worlds.world_of, Walks.EndsWalk, Walks.Walks, Stopped.IsHaltIn};
+ghost use Rattle.gl_demand.specs.{declared.trail.Halt.Halt};
 ghost use Rattle.gl_ahead.specs.Reading.{Area};
-ghost use Rattle.gl_demand.specs.declared.trail.Halt.{Halt};
 
 use crate::context::Context;
 use crate::reading::deref;

@@ -1,18 +1,15 @@
 //! How an address and a spilled array are read in a frame.
 ghost use Rattle.std.specs.Prelude.{◌≡◌, Some, List, [], ◌∷◌, IsTrue, IfOk, IfErr, IfSome, OnOk};
 ghost use Rattle.std.specs.Prelude.{option_map};
-ghost use Rattle.gl_calculus.specs.Grid.{single};
 ghost use Rattle.gl_calculus.specs.Facts.{Fact, fact, find_fact};
-ghost use Rattle.gl_calculus.specs.Oracle.{Cover};
-ghost use Rattle.gl_calculus.specs.Reference as R;
 ghost use Rattle.gl_calculus.specs.Sound.{is_sound_frame, is_sound_scalar, is_sound_value};
+ghost use Rattle.gl_calculus.specs.{Grid.single, Oracle.Cover};
+ghost use Rattle.gl_calculus.specs.Reference as R;
 ghost use Rattle.gl_cells.specs.Sheet.{sheet};
 ghost use Rattle.gl_value.specs.View.{scalar_tree, value_tree, frame_tree};
-ghost use Rattle.gl_demand.specs.Walk.{World, looking};
-ghost use Rattle.gl_demand.specs.Worlds.{world_of};
-ghost use Rattle.gl_demand.specs.Walks.{Walks, trail_tree};
 ghost use Rattle.gl_demand.specs.Seen.{AreSeen, ReadsOne, ReadsAlone, deref_in};
-ghost use Rattle.gl_demand.specs.declared.trail.Halt.{Halt};
+ghost use Rattle.gl_demand.specs.{Walk.World, Walk.looking, Worlds.world_of, Walks.Walks};
+ghost use Rattle.gl_demand.specs.{Walks.trail_tree, declared.trail.Halt.Halt};
 
 use crate::Known;
 use crate::context::Context;

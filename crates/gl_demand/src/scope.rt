@@ -14,6 +14,6 @@ pub struct Scope {
 // One call wherever it is dropped, in place of one for each part.
 impl Drop for Scope {
     fn drop(self) {
-        let Scope { bindings: _ } = self;
+        let Scope { bindings } = self;
     }
 }

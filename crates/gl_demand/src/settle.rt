@@ -2,24 +2,20 @@
 ghost use Rattle.std.specs.Prelude.{◌≡◌, ◌++◌, ◌∷◌, [], List, ◌<◌, ◌*◌, ◌≤◌, IsTrue, IfOk, IfErr};
 ghost use Rattle.std.specs.Prelude.{OnOk, map, length, option_map};
 ghost use Rattle.gl_query.specs.Evaluation.{LookAt};
-ghost use Rattle.gl_calculus.specs.Limits.{grid_rows, grid_cols};
 ghost use Rattle.gl_calculus.specs.Grid.{AreInOrder, Addr as PlainAddr, Size as PlainSize};
 ghost use Rattle.gl_calculus.specs.Value.{region, In, Oracle as Plain};
-ghost use Rattle.gl_calculus.specs.Oracle.{AreSizes};
-ghost use Rattle.gl_calculus.specs.Facts.{fact, facts};
 ghost use Rattle.gl_calculus.specs.Evaluation.{arrays, rounds, copy_budget, takes_a_round};
 ghost use Rattle.gl_calculus.specs.Evaluation.{array_at};
-ghost use Rattle.gl_calculus.specs.Sound.{is_sound_frame, is_sound_sheet};
+ghost use Rattle.gl_calculus.specs.{Limits.grid_rows, Limits.grid_cols, Oracle.AreSizes};
+ghost use Rattle.gl_calculus.specs.{Facts.fact, Facts.facts, Sound.is_sound_frame};
+ghost use Rattle.gl_calculus.specs.{Sound.is_sound_sheet};
 ghost use Rattle.gl_cells.specs.Sheet.{sheet};
 ghost use Rattle.gl_value.specs.View.{value_tree, sheet_tree, frame_tree};
-ghost use Rattle.gl_demand.specs.Held.{held_tree};
-ghost use Rattle.gl_demand.specs.Places.{filled_places};
-ghost use Rattle.gl_demand.specs.Worlds.{world_of};
-ghost use Rattle.gl_demand.specs.Walks.{EndsWalk, Walks};
-ghost use Rattle.gl_demand.specs.Stopped.{IsHaltIn};
-ghost use Rattle.gl_ahead.specs.Reading as Reading;
 ghost use Rattle.gl_demand.specs.Settling.{Visits, all_rounds, halt_of};
-ghost use Rattle.gl_demand.specs.declared.trail.Halt.{Halt};
+ghost use Rattle.gl_demand.specs.{Held.held_tree, Places.filled_places, Worlds.world_of};
+ghost use Rattle.gl_demand.specs.{Walks.EndsWalk, Walks.Walks, Stopped.IsHaltIn};
+ghost use Rattle.gl_demand.specs.{declared.trail.Halt.Halt};
+ghost use Rattle.gl_ahead.specs.Reading as Reading;
 
 use crate::blocks::CopyBlocks;
 use crate::context::Context;
@@ -160,9 +156,8 @@ impl<K: Known> Round for CopyRound<'_, '_, K> {
     ghost use Rattle.std.specs.Prelude.{◌≡◌};
     ghost use Rattle.gl_cells.specs.Sheet.{sheet};
     ghost use Rattle.gl_value.specs.View.{sheet_tree};
-    ghost use Rattle.gl_demand.specs.Worlds.{world_of};
-    ghost use Rattle.gl_demand.specs.Walks.{Walks};
     ghost use Rattle.gl_demand.specs.Settling.{Gives, Fails, round_arrays};
+    ghost use Rattle.gl_demand.specs.{Worlds.world_of, Walks.Walks};
 
     type Fault = Halt;
 

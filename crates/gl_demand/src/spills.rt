@@ -1,15 +1,12 @@
 //! How a spilled array is read.
 ghost use Rattle.std.specs.Prelude.{◌≡◌, Some, IsTrue, IfOk, option_map};
-ghost use Rattle.gl_calculus.specs.Facts.{fact};
-ghost use Rattle.gl_calculus.specs.Formula.{content};
+ghost use Rattle.gl_calculus.specs.{Facts.fact, Formula.content, Sound.is_sound_frame};
+ghost use Rattle.gl_calculus.specs.{Sound.is_sound_value, Value.Permitted};
 ghost use Rattle.gl_calculus.specs.Reference as R;
-ghost use Rattle.gl_calculus.specs.Sound.{is_sound_frame, is_sound_value};
-ghost use Rattle.gl_calculus.specs.Value.{Permitted};
 ghost use Rattle.gl_cells.specs.Sheet.{sheet};
 ghost use Rattle.gl_plane.specs.Permit.{permit_tree};
 ghost use Rattle.gl_value.specs.View.{value_tree, frame_tree};
-ghost use Rattle.gl_demand.specs.Worlds.{world_of};
-ghost use Rattle.gl_demand.specs.Walks.{Walks};
+ghost use Rattle.gl_demand.specs.{Worlds.world_of, Walks.Walks};
 
 use crate::Known;
 use crate::context::Context;

@@ -1,19 +1,15 @@
 //! One evaluation.
 ghost use Rattle.std.specs.Prelude.{◌≡◌, IsTrue, IfOk, map};
-ghost use Rattle.gl_query.specs.Lists.{distinct};
 ghost use Rattle.gl_query.specs.Query.{found, asked, looked};
-ghost use Rattle.gl_calculus.specs.Key.{same_key};
-ghost use Rattle.gl_calculus.specs.Evaluation.{program};
-ghost use Rattle.gl_calculus.specs.Sound.{is_sound_key, IsProperKey};
-ghost use Rattle.gl_ahead.specs.Ahead.{IsAhead};
-ghost use Rattle.gl_ahead.specs.Demands.{is_value};
-ghost use Rattle.gl_ahead.specs.Reading.{keys_from};
+ghost use Rattle.gl_query.specs.Lists.{distinct};
+ghost use Rattle.gl_calculus.specs.{Key.same_key, Evaluation.program, Sound.is_sound_key};
+ghost use Rattle.gl_calculus.specs.{Sound.IsProperKey};
+ghost use Rattle.gl_ahead.specs.{Ahead.IsAhead, Demands.is_value, Reading.keys_from};
 ghost use Rattle.gl_ast.specs.View.{version_tree};
 ghost use Rattle.gl_cells.specs.Sheet.{sheet};
-ghost use Rattle.gl_demand.specs.View.{key_tree, found_tree};
-ghost use Rattle.gl_demand.specs.Reading.{ahead_tree};
 ghost use Rattle.gl_demand.specs.Sound.{IsSoundTable, IsSoundFound, AreSoundKeys};
-ghost use Rattle.gl_demand.specs.Steps.{one_more};
+ghost use Rattle.gl_demand.specs.{View.key_tree, View.found_tree, Reading.ahead_tree};
+ghost use Rattle.gl_demand.specs.{Steps.one_more};
 
 use crate::evaluating::{Ended, evaluate};
 use crate::trail::Trail;

@@ -1,7 +1,6 @@
 //! What an evaluation has read and looked at, and why it stops.
 ghost use Rattle.std.specs.Prelude.{map};
-ghost use Rattle.gl_demand.specs.View.{key_tree};
-ghost use Rattle.gl_demand.specs.Sound.{AreSoundKeys};
+ghost use Rattle.gl_demand.specs.{View.key_tree, Sound.AreSoundKeys};
 
 use crate::{Ahead, Budget, Key};
 use gl_plane::{NoMemory, Range};

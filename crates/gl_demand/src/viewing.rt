@@ -1,19 +1,15 @@
 //! How a place is read in a sheet value.
 ghost use Rattle.std.specs.Prelude.{◌≡◌, IsTrue, IfOk, IfErr};
 ghost use Rattle.gl_ast.specs.View.{formula_tree};
-ghost use Rattle.gl_calculus.specs.Evaluation as E;
-ghost use Rattle.gl_calculus.specs.Key.{Settle, settled_oracle};
 ghost use Rattle.gl_calculus.specs.Sound.{is_sound_frame, is_sound_scalar, is_sound_sheet};
 ghost use Rattle.gl_calculus.specs.Sound.{is_sound_value};
+ghost use Rattle.gl_calculus.specs.{Key.Settle, Key.settled_oracle, Value.In};
+ghost use Rattle.gl_calculus.specs.Evaluation as E;
 ghost use Rattle.gl_calculus.specs.Value as V;
-ghost use Rattle.gl_calculus.specs.Value.{In};
 ghost use Rattle.gl_value.specs.View.{scalar_tree, value_tree, frame_tree, sheet_tree};
-ghost use Rattle.gl_demand.specs.View.{key_tree, outcome_tree};
-ghost use Rattle.gl_demand.specs.Viewing.{settling, read_in};
-ghost use Rattle.gl_demand.specs.Walk.{World};
-ghost use Rattle.gl_demand.specs.Worlds.{world_of};
-ghost use Rattle.gl_demand.specs.Walks.{Walks};
-ghost use Rattle.gl_demand.specs.declared.trail.Halt.{Halt};
+ghost use Rattle.gl_demand.specs.{View.key_tree, View.outcome_tree, Viewing.settling};
+ghost use Rattle.gl_demand.specs.{Viewing.read_in, Walk.World, Worlds.world_of, Walks.Walks};
+ghost use Rattle.gl_demand.specs.{declared.trail.Halt.Halt};
 
 use crate::context::Context;
 use crate::demand::demand;

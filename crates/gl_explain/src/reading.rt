@@ -1,18 +1,14 @@
 //! What the top of a stack comes to over the notes, by what it was reading or by an evaluation.
 ghost use Rattle.std.specs.Prelude.{◌≡◌, ◌≤◌, ◌+◌, IsTrue, IfOk};
 ghost use Rattle.gl_query.specs.Query.{Need, found};
-ghost use Rattle.gl_calculus.specs.Evaluation.{program};
-ghost use Rattle.gl_calculus.specs.Key.{same_key};
-ghost use Rattle.gl_calculus.specs.Sound.{is_sound_key, IsProperKey};
+ghost use Rattle.gl_calculus.specs.{Evaluation.program, Key.same_key, Sound.is_sound_key};
+ghost use Rattle.gl_calculus.specs.{Sound.IsProperKey};
 ghost use Rattle.gl_explanation.specs.Walk.{noted};
 ghost use Rattle.gl_ast.specs.View.{version_tree};
 ghost use Rattle.gl_cells.specs.Sheet.{sheet};
-ghost use Rattle.gl_demand.specs.Reading.{ahead_tree};
-ghost use Rattle.gl_demand.specs.Sound.{IsSoundFound};
-ghost use Rattle.gl_demand.specs.Steps.{one_more};
-ghost use Rattle.gl_demand.specs.View.{key_tree, found_tree};
+ghost use Rattle.gl_demand.specs.{Reading.ahead_tree, Sound.IsSoundFound, Steps.one_more};
+ghost use Rattle.gl_demand.specs.{View.key_tree, View.found_tree, Marks.mark_tree};
 ghost use Rattle.gl_cert.specs.Notes.{claims};
-ghost use Rattle.gl_demand.specs.Marks.{mark_tree};
 ghost use Rattle.gl_explain.specs.Marks.{reached_tree, IsMark, IsMarked};
 
 use gl_ast::Version;

@@ -2,20 +2,17 @@
 ghost use Rattle.std.specs.Prelude.{◌≡◌, ◌≤◌, ◌<◌, ◌++◌, ◌∷◌, ℕ, [], None, map, length, IsTrue};
 ghost use Rattle.std.specs.Prelude.{IfOk, IfSome, IfNone};
 ghost use Rattle.gl_query.specs.Query.{Ready};
+ghost use Rattle.gl_calculus.specs.{Key.same_key, Sound.is_sound_key};
 ghost use Rattle.gl_calculus.specs.Key as K;
-ghost use Rattle.gl_calculus.specs.Key.{same_key};
-ghost use Rattle.gl_calculus.specs.Sound.{is_sound_key};
 ghost use Rattle.gl_explanation.specs.Walk.{noted};
 ghost use Rattle.gl_ast.specs.View.{version_tree};
 ghost use Rattle.gl_cells.specs.Sheet.{sheet};
-ghost use Rattle.gl_demand.specs.Sound.{AreSoundKeys, IsSoundFound};
-ghost use Rattle.gl_demand.specs.View.{key_tree, outcome_tree};
+ghost use Rattle.gl_demand.specs.{Sound.AreSoundKeys, Sound.IsSoundFound, View.key_tree};
+ghost use Rattle.gl_demand.specs.{View.outcome_tree, Marks.mark_tree, Marks.mark_trees};
 ghost use Rattle.gl_cert.specs.Notes.{claims};
-ghost use Rattle.gl_demand.specs.Marks.{mark_tree, mark_trees};
-ghost use Rattle.gl_explain.specs.Marks.{AreMarks};
 ghost use Rattle.gl_explain.specs.Walking.{IsWalking, IsTurned, left};
-ghost use Rattle.gl_explain.specs.declared.turning.Turned.TheVariants.{On};
 ghost use Rattle.gl_explain.specs.Putting.{IsTop, IsTakenOff, IsPutOn};
+ghost use Rattle.gl_explain.specs.{Marks.AreMarks, declared.turning.Turned.TheVariants.On};
 
 use crate::reading::{Reached, read_on};
 use gl_ast::Version;

@@ -3,9 +3,9 @@ ghost use Rattle.std.specs.Prelude.{◌≡◌, ◌≤◌, ◌<◌, ◌+◌, ◌+
 ghost use Rattle.std.specs.Prelude.{slice_get};
 ghost use Rattle.gl_calculus.specs.Limits.{grid_rows, max_formulas};
 ghost use Rattle.gl_graph.specs.Search.{last_of, passes};
-ghost use Rattle.gl_flow.specs.Places.{are_in_order};
 ghost use Rattle.gl_flow.specs.Columns.{AreRooted, IsColumn, IsStack, IsDown, IsGreatest, AreAbove};
 ghost use Rattle.gl_flow.specs.Columns.{AreBelow, has_ended, new_over, is_in_row, one_more};
+ghost use Rattle.gl_flow.specs.Places.{are_in_order};
 
 use crate::boxes::Area;
 use gl_plane::{Addr, NoMemory};

@@ -1,7 +1,6 @@
 //! Shapes: the extents that a value has at most.
 ghost use Rattle.std.specs.Prelude.{◌≡◌, ◌+◌, max, Option};
-ghost use Rattle.gl_calculus.specs.Grid.{extents, size};
-ghost use Rattle.gl_calculus.specs.Lift.{hull};
+ghost use Rattle.gl_calculus.specs.{Grid.extents, Grid.size, Lift.hull};
 ghost use Rattle.gl_forecast.specs.Forecast.{any_size, cut, full, joined, flipped};
 
 use gl_plane::Range;

@@ -3,9 +3,8 @@ ghost use Rattle.std.specs.Prelude.{◌≡◌, ◌++◌, ◌∷◌, [], true, fa
 ghost use Rattle.gl_calculus.specs.Formula.{content, formula_addresses};
 ghost use Rattle.gl_cells.specs.Sheet.{sheet};
 ghost use Rattle.gl_forecast.specs.Forecast.{cell_shape};
-ghost use Rattle.gl_flow.specs.Places.{are_in_order};
-ghost use Rattle.gl_flow.specs.Shapes.{spilled_at, level_shapes};
-ghost use Rattle.gl_flow.specs.Contents.{formula_in, formula_shape};
+ghost use Rattle.gl_flow.specs.{Places.are_in_order, Shapes.spilled_at, Shapes.level_shapes};
+ghost use Rattle.gl_flow.specs.{Contents.formula_in, Contents.formula_shape};
 
 use crate::contents::formula_at;
 use crate::extents::Extents;

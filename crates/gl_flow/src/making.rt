@@ -1,11 +1,8 @@
 //! The network of a sheet.
 ghost use Rattle.std.specs.Prelude.{◌≡◌, ◌≤◌, IfOk, length};
-ghost use Rattle.gl_calculus.specs.Formula.{formula_addresses};
-ghost use Rattle.gl_calculus.specs.Limits.{max_formulas};
+ghost use Rattle.gl_calculus.specs.{Formula.formula_addresses, Limits.max_formulas};
 ghost use Rattle.gl_cells.specs.Sheet.{sheet};
-ghost use Rattle.gl_flow.specs.Pieces.{rows_read};
-ghost use Rattle.gl_flow.specs.Planning.{IsPlanOf};
-ghost use Rattle.gl_flow.specs.Plans.{plan};
+ghost use Rattle.gl_flow.specs.{Pieces.rows_read, Planning.IsPlanOf, Plans.plan};
 
 use crate::areas::areas_of;
 use crate::grid::grid_of;

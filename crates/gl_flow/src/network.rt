@@ -22,11 +22,11 @@ pub struct Network {
 impl Drop for Network {
     fn drop(self) {
         let Network {
-            places: _,
-            pieces: _,
-            areas: _,
-            columns: _,
-            bottoms: _,
+            places,
+            pieces,
+            areas,
+            columns,
+            bottoms,
         } = self;
     }
 }

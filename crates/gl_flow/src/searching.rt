@@ -3,8 +3,7 @@ ghost use Rattle.std.specs.Prelude.{◌≡◌, ◌<◌, true, length, IfOk, OnOk
 ghost use Rattle.gl_graph.specs.Search.{is_shut};
 ghost use Rattle.gl_graph.specs.declared.mark.Mark.TheVariants as known;
 ghost use Rattle.gl_flow.specs.Searching.{SearchesIn, IsLow, IsCircled, IsForecastOf};
-ghost use Rattle.gl_flow.specs.Plans.{plan};
-ghost use Rattle.gl_flow.specs.View.{forecast_tree};
+ghost use Rattle.gl_flow.specs.{Plans.plan, View.forecast_tree};
 
 use crate::forecast::Forecast;
 use crate::network::Network;

@@ -2,12 +2,12 @@
 ghost use Rattle.std.specs.Prelude.{◌≡◌, ◌≢◌, ◌++◌, ◌∷◌, [], ℕ, IsTrue, IfOk, OnOk, Option};
 ghost use Rattle.std.specs.Prelude.{option_map, bytes_eq, length, slice_get};
 ghost use Rattle.std.specs.Rc.{rc_str_bytes};
+ghost use Rattle.gl_flow.specs.Shapes.{bindings_of, spilled_at, shape_of, turned, stacked};
+ghost use Rattle.gl_flow.specs.Shapes.{first_shape, full_first};
 ghost use Rattle.gl_flow.specs.Places.{are_in_order};
 ghost use Rattle.gl_calculus.specs.Formula as F;
 ghost use Rattle.gl_ast.specs.View.{formula_tree, fun_tree, argument_trees, operand_trees};
 ghost use Rattle.gl_forecast.specs.Forecast as Fo;
-ghost use Rattle.gl_flow.specs.Shapes.{bindings_of, spilled_at, shape_of, turned, stacked};
-ghost use Rattle.gl_flow.specs.Shapes.{first_shape, full_first};
 
 use crate::extents::{Extents, MOST, any, below, extents_of, flipped, full, joined};
 use crate::places::number_of;

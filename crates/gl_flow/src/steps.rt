@@ -3,10 +3,9 @@
 ghost use Rattle.std.specs.Prelude.{◌≡◌, ◌*◌, ◌<◌, ◌≤◌, [], length, IfSome, IfNone};
 ghost use Rattle.gl_forecast.specs.Forecast as Fo;
 ghost use Rattle.gl_flow.specs.Pieces.{piece_tree, piece_last, rows_read, IsRead, IsReadPiece};
-ghost use Rattle.gl_flow.specs.Grid.{source, IsInRows};
 ghost use Rattle.gl_flow.specs.Network.{top_of, piece_steps, spill_steps, rival_steps};
 ghost use Rattle.gl_flow.specs.Network.{steps_of_value, steps_of_entry, Takes};
-ghost use Rattle.gl_flow.specs.Plans.{plan};
+ghost use Rattle.gl_flow.specs.{Grid.source, Grid.IsInRows, Plans.plan};
 
 use crate::boxes::Area;
 use crate::network::Network;
@@ -147,8 +146,7 @@ impl Network {
 
 impl Graph for Network {
     ghost use Rattle.std.specs.Prelude.{◌*◌, ◌%◌, length};
-    ghost use Rattle.gl_flow.specs.Network.{node_steps};
-    ghost use Rattle.gl_flow.specs.Plans.{plan};
+    ghost use Rattle.gl_flow.specs.{Network.node_steps, Plans.plan};
 
     ghost size = { λ net. 2 * length net.places.items };
 

@@ -1,8 +1,7 @@
 //! The elements of several values.
 ghost use Rattle.std.specs.Prelude.{◌≡◌, ◌*◌, IsTrue, length, option_map, slice_get};
 ghost use Rattle.std.specs.Option.{option_copied};
-ghost use Rattle.gl_calculus.specs.Value.{elements};
-ghost use Rattle.gl_calculus.specs.Sound.{is_sound_value};
+ghost use Rattle.gl_calculus.specs.{Value.elements, Sound.is_sound_value};
 ghost use Rattle.gl_value.specs.View.{array_tree, scalar_tree, value_tree};
 ghost use Rattle.gl_funs.specs.Elements.{AreSound, elements_of, elements_past};
 

@@ -1,13 +1,11 @@
 //! SUM, COUNT, MIN and MAX, and the functions on single numbers.
 ghost use Rattle.std.specs.Prelude.{◌≡◌, ◌≢◌, ◌≤◌, IsTrue, pos, length, [], ◌∷◌};
-ghost use Rattle.gl_calculus.specs.Limits.{max_arguments};
+ghost use Rattle.gl_calculus.specs.{Limits.max_arguments, Sound.is_sound_scalar};
 ghost use Rattle.gl_calculus.specs.Functions as F;
 ghost use Rattle.gl_calculus.specs.Operators as O;
-ghost use Rattle.gl_calculus.specs.Sound.{is_sound_scalar};
 ghost use Rattle.gl_calculus.specs.Value as V;
 ghost use Rattle.gl_value.specs.View.{scalar_tree};
-ghost use Rattle.gl_funs.specs.Elements.{AreSound, elements_of};
-ghost use Rattle.gl_funs.specs.Rules.{best_from};
+ghost use Rattle.gl_funs.specs.{Elements.AreSound, Elements.elements_of, Rules.best_from};
 
 use crate::elements::Elements;
 use gl_scalar::operands::{amount, fault};

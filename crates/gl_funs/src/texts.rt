@@ -1,12 +1,10 @@
 //! LEN, LEFT and RIGHT, by characters, which are Unicode scalar values.
 ghost use Rattle.std.specs.Prelude.{◌≡◌, ◌≤◌, ◌<◌, ◌^◌, IsTrue, IfOk, take, length, chars};
 ghost use Rattle.std.specs.Prelude.{encode_utf8_all, string_bytes};
-ghost use Rattle.std.specs.Fmt.{decimal, signed_decimal};
-ghost use Rattle.std.specs.Rc.{rc_str_bytes};
-ghost use Rattle.gl_calculus.specs.Limits.{max_text};
+ghost use Rattle.std.specs.{Fmt.decimal, Fmt.signed_decimal, Rc.rc_str_bytes};
+ghost use Rattle.gl_calculus.specs.{Limits.max_text, Sound.is_sound_scalar};
 ghost use Rattle.gl_calculus.specs.Functions as F;
 ghost use Rattle.gl_calculus.specs.Operators as O;
-ghost use Rattle.gl_calculus.specs.Sound.{is_sound_scalar};
 ghost use Rattle.gl_value.specs.View.{scalar_tree};
 ghost use Rattle.gl_funs.specs.Rules.{natural, part_text};
 

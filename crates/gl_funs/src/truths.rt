@@ -1,11 +1,9 @@
 //! AND, OR and NOT, and the tests of one scalar.
 ghost use Rattle.std.specs.Prelude.{◌≡◌, ◌≤◌, IsTrue, length};
-ghost use Rattle.gl_calculus.specs.Limits.{max_arguments};
+ghost use Rattle.gl_calculus.specs.{Limits.max_arguments, Sound.is_sound_scalar};
 ghost use Rattle.gl_calculus.specs.Functions as F;
-ghost use Rattle.gl_calculus.specs.Sound.{is_sound_scalar};
 ghost use Rattle.gl_value.specs.View.{scalar_tree};
-ghost use Rattle.gl_funs.specs.Elements.{AreSound, elements_of};
-ghost use Rattle.gl_funs.specs.Rules.{known_truth};
+ghost use Rattle.gl_funs.specs.{Elements.AreSound, Elements.elements_of, Rules.known_truth};
 
 use crate::elements::Elements;
 use gl_value::{ErrKind, Scalar, Value};

@@ -3,8 +3,8 @@ ghost use Rattle.std.specs.Prelude.{◌≡◌, ◌++◌, ◌∷◌, [], Bool, Is
 ghost use Rattle.std.specs.Prelude.{option_map, if◌then◌else◌};
 ghost use Rattle.std.specs.List.{list_all, list_any};
 ghost use Rattle.gl_calculus.specs.Grid.{area, grid, lies_in, meets};
-ghost use Rattle.gl_calculus.specs.Value.{Permitted, Refused};
 ghost use Rattle.gl_calculus.specs.Oracle.{IsInOrder, ArePermits, is_free, grant};
+ghost use Rattle.gl_calculus.specs.Value.{Permitted, Refused};
 ghost use Rattle.gl_plane.specs.Permit.{permit_tree};
 ghost use Rattle.gl_grant.specs.Granted.{taken_by, entry_behind, fits_grid};
 

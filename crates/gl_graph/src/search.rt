@@ -28,10 +28,10 @@ pub struct Search {
 impl Drop for Search {
     fn drop(self) {
         let Search {
-            marks: _,
-            open: _,
-            starts: _,
-            frames: _,
+            marks,
+            open,
+            starts,
+            frames,
         } = self;
     }
 }

@@ -3,10 +3,10 @@ ghost use Rattle.std.specs.Prelude.{◌≡◌};
 ghost use Rattle.gl_calculus.specs.Value as V;
 ghost use Rattle.gl_value.specs.View.{scalar_tree, value_tree, array_tree, item_trees, sheet_tree};
 ghost use Rattle.gl_value.specs.View.{frame_tree, override_trees};
-ghost use Rattle.gl_intern.specs.Tables.{tables};
 ghost use Rattle.gl_intern.specs.Places.{plain_in, scalar_in, whole_in, item_behind, items_in};
 ghost use Rattle.gl_intern.specs.Places.{value_in, override_link, override_behind, overrides_in};
 ghost use Rattle.gl_intern.specs.Places.{sheet_in, sheet_place, place_of_frame, frame_in};
+ghost use Rattle.gl_intern.specs.Tables.{tables};
 
 use crate::items::holds_sheets;
 use crate::parts::Parts;

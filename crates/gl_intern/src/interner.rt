@@ -29,9 +29,9 @@ pub struct Interner {
 impl Drop for Interner {
     fn drop(self) {
         let Interner {
-            parts: _,
-            sheets: _,
-            frames: _,
+            parts,
+            sheets,
+            frames,
         } = self;
     }
 }
@@ -39,9 +39,9 @@ impl Drop for Interner {
 impl Model for Interner {
     ghost use Rattle.std.specs.Coded.{codes};
     ghost use Rattle.gl_calculus.specs.Codes.{coded_sheet, coded_frame};
-    ghost use Rattle.gl_intern.specs.Tables.{tables};
     ghost use Rattle.gl_intern.specs.Numbered.{Numbered, seconds, sheet_pairs, frame_pairs};
     ghost use Rattle.gl_intern.specs.Numbered.{IsInterned};
+    ghost use Rattle.gl_intern.specs.Tables.{tables};
 
     ghost Value = { Numbered };
 

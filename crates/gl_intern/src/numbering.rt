@@ -1,7 +1,7 @@
 //! Numbers in the order in which places first came.
 ghost use Rattle.std.specs.Prelude.{◌≡◌, None, nat_eq, position, IfOk, IfSome, OnOk, OnErr};
-ghost use Rattle.gl_query.specs.Lists.{Member};
 ghost use Rattle.std.specs.Option.{option_eq};
+ghost use Rattle.gl_query.specs.Lists.{Member};
 ghost use Rattle.gl_value.specs.View.{sheet_tree, frame_tree};
 ghost use Rattle.gl_intern.specs.Numbered.{firsts, sheet_pairs, frame_pairs, put_pair};
 

@@ -31,13 +31,13 @@ pub struct Parts {
 impl Drop for Parts {
     fn drop(self) {
         let Parts {
-            scalars: _,
-            arrays: _,
-            items: _,
-            oracles: _,
-            overrides: _,
-            sheets: _,
-            frames: _,
+            scalars,
+            arrays,
+            items,
+            oracles,
+            overrides,
+            sheets,
+            frames,
         } = self;
     }
 }

@@ -118,11 +118,10 @@ fn frame_word(f: &ShortFrame) -> u64
 }
 
 impl Hash for ShortItem {
-    ghost use Rattle.std.specs.Hash as fed;
     ghost use Rattle.std.specs.Prelude.{◌++◌};
+    ghost use Rattle.std.specs.Hash as fed;
     ghost use Rattle.std.proofs.Common.{ap};
-    ghost use Rattle.gl_intern.specs.Exact.{item_equality};
-    ghost use Rattle.gl_intern.specs.Words.{item_word, scalar_int};
+    ghost use Rattle.gl_intern.specs.{Exact.item_equality, Words.item_word, Words.scalar_int};
 
     ghost hash_input = { λ i. fed.u64 (item_word i) ++ fed.i64 (scalar_int i.item) };
 
@@ -136,11 +135,11 @@ impl Hash for ShortItem {
 }
 
 impl Hash for ShortOverride {
-    ghost use Rattle.std.specs.Hash as fed;
     ghost use Rattle.std.specs.Prelude.{◌++◌};
+    ghost use Rattle.std.specs.Hash as fed;
     ghost use Rattle.std.proofs.Common.{ap};
-    ghost use Rattle.gl_intern.specs.Exact.{override_equality};
-    ghost use Rattle.gl_intern.specs.Words.{override_word, value_int};
+    ghost use Rattle.gl_intern.specs.{Exact.override_equality, Words.override_word};
+    ghost use Rattle.gl_intern.specs.{Words.value_int};
 
     ghost hash_input = { λ o. fed.u64 (override_word o) ++ fed.i64 (value_int o.value) };
 
@@ -155,11 +154,10 @@ impl Hash for ShortOverride {
 }
 
 impl Hash for ShortSheet {
-    ghost use Rattle.std.specs.Hash as fed;
     ghost use Rattle.std.specs.Prelude.{◌++◌};
+    ghost use Rattle.std.specs.Hash as fed;
     ghost use Rattle.std.proofs.Common.{ap};
-    ghost use Rattle.gl_intern.specs.Exact.{sheet_equality};
-    ghost use Rattle.gl_intern.specs.Words.{sheet_word, last_int};
+    ghost use Rattle.gl_intern.specs.{Exact.sheet_equality, Words.sheet_word, Words.last_int};
 
     ghost hash_input = { λ s. fed.u64 (sheet_word s) ++ fed.i64 (last_int s.last) };
 
@@ -173,11 +171,10 @@ impl Hash for ShortSheet {
 }
 
 impl Hash for ShortFrame {
-    ghost use Rattle.std.specs.Hash as fed;
     ghost use Rattle.std.specs.Prelude.{◌++◌};
+    ghost use Rattle.std.specs.Hash as fed;
     ghost use Rattle.std.proofs.Common.{ap};
-    ghost use Rattle.gl_intern.specs.Exact.{frame_equality};
-    ghost use Rattle.gl_intern.specs.Words.{frame_word, last_int};
+    ghost use Rattle.gl_intern.specs.{Exact.frame_equality, Words.frame_word, Words.last_int};
 
     ghost hash_input = { λ f. fed.u64 (frame_word f) ++ fed.i64 (last_int f.sheet.last) };
 

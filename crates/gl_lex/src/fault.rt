@@ -2,8 +2,7 @@
 
 ghost use Rattle.std.specs.Prelude.{◌≡◌, List, ℕ, slice_index};
 ghost use Rattle.gl_language.specs.Token as T;
-ghost use Rattle.gl_lex.specs.Front.{NoToken, Refuses};
-ghost use Rattle.gl_lex.specs.View.{IsRefused};
+ghost use Rattle.gl_lex.specs.{Front.NoToken, Front.Refuses, View.IsRefused};
 
 use crate::scan::Bad;
 use std::alloc::{AllocError, AllocFailed};

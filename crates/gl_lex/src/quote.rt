@@ -1,8 +1,8 @@
 //! The text behind a quote.
 
 ghost use Rattle.std.specs.Prelude.{◌≡◌, ◌<◌, ◌≤◌, length, MatchOption, IfOk, IfSome};
-ghost use Rattle.gl_lex.specs.Quote as spec;
 ghost use Rattle.gl_lex.specs.Quote.{Scan};
+ghost use Rattle.gl_lex.specs.Quote as spec;
 
 use std::alloc::{AllocError, Global};
 

@@ -4,9 +4,9 @@ ghost use Rattle.std.specs.Prelude.{◌≡◌, ◌≤◌, ◌<◌, ◌∷◌, le
 ghost use Rattle.std.specs.Prelude.{nat_eq, MatchOption, pos, option_map};
 ghost use Rattle.std.specs.Str.{bytes_eq};
 ghost use Rattle.gl_language.specs.Token.{digits_value};
+ghost use Rattle.gl_lex.specs.Front.{Decides, DecidesText};
 ghost use Rattle.gl_lex.specs.View as view;
 ghost use Rattle.gl_lex.specs.Front as front;
-ghost use Rattle.gl_lex.specs.Front.{Decides, DecidesText};
 
 use crate::quote::decode;
 use crate::{Kind, Sign};

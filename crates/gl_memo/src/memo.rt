@@ -1,10 +1,9 @@
 //! The table of results.
 ghost use Rattle.std.specs.Prelude.{◌≡◌, [], not, length, filter, slice_get, option_map};
 ghost use Rattle.std.specs.Prelude.{option_copied, OnOk, OnErr};
-ghost use Rattle.std.specs.List.{IsDistinct};
 ghost use Rattle.std.specs.Map.{keys_of, lookup, remove_entry};
-ghost use Rattle.indexmap.specs.IndexMap.{insert_entry};
-ghost use Rattle.indexmap.specs.IndexSet.{contains};
+ghost use Rattle.std.specs.List.{IsDistinct};
+ghost use Rattle.indexmap.specs.{IndexMap.insert_entry, IndexSet.contains};
 ghost use Rattle.gl_memo.specs.Notes.{notes_of};
 
 use gl_plane::NoMemory;

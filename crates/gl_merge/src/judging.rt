@@ -2,8 +2,7 @@
 ghost use Rattle.std.specs.Prelude.{◌≡◌, ◌↔◌, IsTrue, Some};
 ghost use Rattle.std.specs.Option.{option_copied};
 ghost use Rattle.gl_cells.specs.Content.{content_tree};
-ghost use Rattle.gl_merge.specs.Edit.{edit_tree};
-ghost use Rattle.gl_merge.specs.Judging.{AreAlike, IsFor};
+ghost use Rattle.gl_merge.specs.{Edit.edit_tree, Judging.AreAlike, Judging.IsFor};
 
 use crate::Edit;
 use gl_cells::Content;

@@ -1,13 +1,11 @@
 //! Registers: edits in the order of their taking, with an index in the order of their addresses.
 ghost use Rattle.std.specs.Prelude.{◌≡◌, ◌+◌, ◌<◌, ◌≤◌, ◌∷◌, [], ◌++◌, slice_get, vec_len};
 ghost use Rattle.std.specs.Prelude.{vec_capacity};
-ghost use Rattle.std.specs.List.{insert};
-ghost use Rattle.std.specs.Option.{option_copied};
-ghost use Rattle.gl_edits.specs.Limits.{max_registers};
-ghost use Rattle.gl_edits.specs.Replicas.{missing};
-ghost use Rattle.gl_merge.specs.Edit.{told};
+ghost use Rattle.std.specs.{List.insert, Option.option_copied};
+ghost use Rattle.gl_edits.specs.{Limits.max_registers, Replicas.missing};
 ghost use Rattle.gl_merge.specs.Index.{IsIndex, listed, register_in, registers};
 ghost use Rattle.gl_merge.specs.Keeping.{CanKeep, HasRoom, Keeps, Replaces};
+ghost use Rattle.gl_merge.specs.Edit.{told};
 
 use crate::Edit;
 use crate::index::{Spot, spot_of};

@@ -2,13 +2,12 @@
 
 ghost use Rattle.std.specs.Prelude.{◌≡◌, ◌+◌, ◌∷◌, length, MatchOption, slice_range, ⊤};
 ghost use Rattle.gl_calculus.specs.Grid.{Addr};
-ghost use Rattle.gl_language.specs.Token as T;
-ghost use Rattle.gl_language.specs.Token.{Address, Signed};
 ghost use Rattle.gl_language.specs.Grammar.{Tokens, comparison, operator};
+ghost use Rattle.gl_language.specs.Token.{Address, Signed};
+ghost use Rattle.gl_language.specs.Token as T;
 ghost use Rattle.gl_lex.specs.View.{sign_of, tokens_in};
 ghost use Rattle.gl_ast.specs.View.{level_tree, op_tree};
-ghost use Rattle.gl_parse.specs.Raws.{letters};
-ghost use Rattle.gl_parse.specs.Reading.{after_sign, Front};
+ghost use Rattle.gl_parse.specs.{Raws.letters, Reading.after_sign, Reading.Front};
 
 use crate::raw::Span;
 use gl_ast::{Level, Op};

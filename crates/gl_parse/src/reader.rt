@@ -2,13 +2,10 @@
 
 ghost use Rattle.std.specs.Prelude.{◌≤◌, length};
 ghost use Rattle.gl_calculus.specs.Limits.{max_formula};
-ghost use Rattle.gl_language.specs.Text.{Bytes};
-ghost use Rattle.gl_language.specs.Token.{Lexes};
-ghost use Rattle.gl_lex.specs.View as lex;
+ghost use Rattle.gl_language.specs.{Text.Bytes, Token.Lexes};
 ghost use Rattle.gl_lex.specs.View.{tokens_in};
-ghost use Rattle.gl_parse.specs.Raws.{raw_tree};
-ghost use Rattle.gl_parse.specs.Faults.{Checked};
-ghost use Rattle.gl_parse.specs.Outcome.{Answers, IsRefused};
+ghost use Rattle.gl_lex.specs.View as lex;
+ghost use Rattle.gl_parse.specs.{Raws.raw_tree, Faults.Checked, Outcome.Answers, Outcome.IsRefused};
 
 use crate::ParseFault;
 use crate::build::build;

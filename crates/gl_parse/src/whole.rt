@@ -1,8 +1,7 @@
 //! All tokens as one expression.
 
 ghost use Rattle.gl_lex.specs.View.{tokens_in};
-ghost use Rattle.gl_parse.specs.Raws.{raw_tree};
-ghost use Rattle.gl_parse.specs.Reading.{IsReadAs};
+ghost use Rattle.gl_parse.specs.{Raws.raw_tree, Reading.IsReadAs};
 
 use crate::grammar::expr;
 use crate::raw::Raw;

@@ -3,8 +3,8 @@ ghost use Rattle.std.specs.Prelude.{◌≡◌, ◌++◌, ◌==◌, ◌||◌, ◌
 ghost use Rattle.std.specs.Prelude.{OnOk, OnErr, vec_len};
 ghost use Rattle.std.specs.List.{list_any};
 ghost use Rattle.gl_calculus.specs.Grid.{addresses, covers};
-ghost use Rattle.gl_plane.specs.Changes.{is_covered, reaches, hull_covers, Within};
-ghost use Rattle.gl_plane.specs.Changes.{AreHulls, AreWider, IsWithin};
+ghost use Rattle.gl_plane.specs.Changes.{is_covered, reaches, hull_covers, Within, AreHulls};
+ghost use Rattle.gl_plane.specs.Changes.{AreWider, IsWithin};
 
 use crate::{Addr, NoMemory, Range};
 use std::alloc::Global;

@@ -1,9 +1,9 @@
 //! The entries that meet a range, by how far down and right each block of entries reaches.
-ghost use Rattle.std.specs.Prelude.{◌≡◌, ◌≤◌, ◌<◌, ◌⊎◌, [], drop, length, slice_index};
-ghost use Rattle.std.specs.Prelude.{IsTrue, IfOk, OnOk, OnErr, vec_len};
+ghost use Rattle.std.specs.Prelude.{◌≡◌, ◌≤◌, ◌<◌, ◌⊎◌, [], drop, length, slice_index, IsTrue};
+ghost use Rattle.std.specs.Prelude.{IfOk, OnOk, OnErr, vec_len};
 ghost use Rattle.gl_calculus.specs.Oracle.{IsInOrder};
-ghost use Rattle.gl_plane.specs.Reach.{first_from, spills_into, lowest_row, last_column};
-ghost use Rattle.gl_plane.specs.Reach.{AreBounds, IsRaised, IsPassed};
+ghost use Rattle.gl_plane.specs.Reach.{first_from, spills_into, lowest_row, last_column, AreBounds};
+ghost use Rattle.gl_plane.specs.Reach.{IsRaised, IsPassed};
 
 use crate::{Entry, NoMemory, Permit, Range};
 use std::alloc::Global;

@@ -4,10 +4,9 @@
 ghost use Rattle.gl_protocol.specs.Laws.{OneAct, OneOutput, RefusalsLeave};
 ghost use Rattle.gl_replies.specs.Laws.{OneText, FirstRepliesFirst, ErrorsAreRefusals};
 ghost use Rattle.gl_replies.specs.Laws.{RefusalsAreErrors, ScriptsKeepSheets};
-ghost use Rattle.gl_replies.specs.Lists.{ListsReadBack};
-ghost use Rattle.gl_replies.specs.Rooms.{ActsKeepRooms};
 ghost use Rattle.gl_replies.specs.States.{ActsKeepStates, ScriptsKeepStates, UndoTakesBack};
 ghost use Rattle.gl_replies.specs.States.{ReplicasJoin, ReplicasAgree, SameSheetsReply};
+ghost use Rattle.gl_replies.specs.{Lists.ListsReadBack, Rooms.ActsKeepRooms};
 
 /// An item has one effect and one reply, and so a script has one output, which begins with that of
 /// its first items.

@@ -1,16 +1,13 @@
 //! The replies to the items of a script.
 ghost use Rattle.std.specs.Prelude.{◌≡◌, ◌≤◌, None, IfOk, codes};
 ghost use Rattle.gl_protocol.specs.Commands.{LineWord, TruncatedWord, error_line};
-ghost use Rattle.gl_protocol.specs.Framing.{Line};
-ghost use Rattle.gl_protocol.specs.Header.{payload_len};
-ghost use Rattle.gl_protocol.specs.Output.{is_line};
+ghost use Rattle.gl_protocol.specs.{Framing.Line, Header.payload_len, Output.is_line};
 ghost use Rattle.gl_ast.specs.View.{version_tree};
 ghost use Rattle.gl_order.specs.Rule.{PicksBelow, rule_of};
-ghost use Rattle.gl_run.specs.Kept.{IsKept};
 ghost use Rattle.gl_run.specs.Replies.{IsNoQuery, IsProperRequest, IsQueryOf};
-ghost use Rattle.gl_run.specs.Script.{script_of};
-ghost use Rattle.gl_run.specs.Answering.{StaysOnErr, ActsOn, SpendsOn, ActsOnLines};
-ghost use Rattle.gl_run.specs.Answering.{SpendsOnLines, SpendsNothing};
+ghost use Rattle.gl_run.specs.Answering.{StaysOnErr, ActsOn, SpendsOn, ActsOnLines, SpendsOnLines};
+ghost use Rattle.gl_run.specs.Answering.{SpendsNothing};
+ghost use Rattle.gl_run.specs.{Kept.IsKept, Script.script_of};
 
 use crate::edits::{clear, set};
 use crate::exports::export;

@@ -4,8 +4,7 @@ ghost use Rattle.std.specs.Option.{option_copied};
 ghost use Rattle.gl_language.specs.Content.{IsProperContent};
 ghost use Rattle.gl_calculus.specs.Grid.{AreInOrder};
 ghost use Rattle.gl_protocol.specs.Script.{settings, removals};
-ghost use Rattle.gl_cells.specs.Content.{content_tree};
-ghost use Rattle.gl_cells.specs.Sheet.{sheet, AreProper};
+ghost use Rattle.gl_cells.specs.{Content.content_tree, Sheet.sheet, Sheet.AreProper};
 ghost use Rattle.gl_undo.specs.View.{AreProperChanges, IsProperOption, IsShared, changes_tree};
 ghost use Rattle.gl_run.specs.Ready.{places};
 

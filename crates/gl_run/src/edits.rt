@@ -1,13 +1,12 @@
 //! Edits of the sheet.
 ghost use Rattle.std.specs.Prelude.{◌∷◌, [], Some, IfOk};
 ghost use Rattle.gl_language.specs.Content.{IsProperContent};
-ghost use Rattle.gl_protocol.specs.Commands as C;
 ghost use Rattle.gl_protocol.specs.Script.{removals};
+ghost use Rattle.gl_protocol.specs.Commands as C;
 ghost use Rattle.gl_cells.specs.Content.{content_tree};
 ghost use Rattle.gl_calc.specs.View.{sheet_of};
-ghost use Rattle.gl_run.specs.Ready.{IsReady};
-ghost use Rattle.gl_run.specs.Replies.{IsRefusal, put_word};
-ghost use Rattle.gl_run.specs.Answering.{DoesRequest};
+ghost use Rattle.gl_run.specs.{Ready.IsReady, Replies.IsRefusal, Replies.put_word};
+ghost use Rattle.gl_run.specs.{Answering.DoesRequest};
 
 use crate::changes::{removals, setting};
 use crate::lines::{error_line, text_line};

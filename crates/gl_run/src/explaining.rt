@@ -1,11 +1,10 @@
 //! Why an address shows what it shows.
 ghost use Rattle.std.specs.Prelude.{◌≡◌, ◌≤◌, ◌+◌, ℕ, Some, length, map, IfOk};
+ghost use Rattle.gl_calculus.specs.{Calculation.IsAnswer, Value.Oracle};
 ghost use Rattle.gl_calculus.specs.Calculation as A;
-ghost use Rattle.gl_calculus.specs.Calculation.{IsAnswer};
-ghost use Rattle.gl_calculus.specs.Value.{Oracle};
 ghost use Rattle.gl_explanation.specs.Certificate.{verdict};
-ghost use Rattle.gl_protocol.specs.Commands as C;
 ghost use Rattle.gl_protocol.specs.Explanations.{explanation_text};
+ghost use Rattle.gl_protocol.specs.Commands as C;
 ghost use Rattle.gl_ast.specs.View.{version_tree};
 ghost use Rattle.gl_calc.specs.View.{sheet_of};
 ghost use Rattle.gl_cells.specs.Sheet.{sheet};

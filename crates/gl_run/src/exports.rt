@@ -1,14 +1,10 @@
 //! The reply that tells the edits of a replica.
 ghost use Rattle.std.specs.Prelude.{◌≡◌, ◌++◌, Some, IfOk, OnOk, option_map};
-ghost use Rattle.std.specs.Option.{option_copied};
-ghost use Rattle.std.specs.String.{string_bytes};
+ghost use Rattle.std.specs.{Option.option_copied, String.string_bytes};
 ghost use Rattle.gl_protocol.specs.Tables.{line, edit_text, export_text, text_behind_place};
 ghost use Rattle.gl_cells.specs.Content.{content_tree};
-ghost use Rattle.gl_merge.specs.Edit.{edit_tree};
-ghost use Rattle.gl_merge.specs.Replica.{registers_of};
-ghost use Rattle.gl_run.specs.Merged.{IsExport};
-ghost use Rattle.gl_run.specs.Replies.{edit_lines};
-ghost use Rattle.gl_run.specs.Script.{script_of};
+ghost use Rattle.gl_merge.specs.{Edit.edit_tree, Replica.registers_of};
+ghost use Rattle.gl_run.specs.{Merged.IsExport, Replies.edit_lines, Script.script_of};
 
 use crate::lines::error_line;
 use crate::script::Script;

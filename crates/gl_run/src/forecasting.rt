@@ -1,8 +1,7 @@
 //! Whether the calculation surely settles.
 ghost use Rattle.std.specs.Prelude.{◌≡◌, ◌++◌, IfOk, codes};
 ghost use Rattle.std.specs.Fmt.{decimal};
-ghost use Rattle.gl_protocol.specs.Explanations.{forecast_line};
-ghost use Rattle.gl_protocol.specs.Tables.{line};
+ghost use Rattle.gl_protocol.specs.{Explanations.forecast_line, Tables.line};
 ghost use Rattle.gl_cells.specs.Sheet.{sheet};
 ghost use Rattle.gl_flow.specs.View.{forecast_tree};
 ghost use Rattle.gl_run.specs.Replies.{TellsForecast};

@@ -1,12 +1,10 @@
 // The generated script.
 ghost use Rattle.std.specs.Prelude.{◌≡◌, ◌≤◌, ◌++◌, IfOk, OnOk, codes, flat_map, length};
-ghost use Rattle.std.specs.Fmt.{decimal};
-ghost use Rattle.std.specs.List.{range_with_len};
-ghost use Rattle.std.specs.String.{string_bytes};
+ghost use Rattle.std.specs.{Fmt.decimal, List.range_with_len, String.string_bytes};
 ghost use Rattle.gl_calculus.specs.Limits.{max_generated};
-ghost use Rattle.gl_protocol.specs.Tables.{line};
 ghost use Rattle.gl_protocol.specs.Output.{row_number, generated_payload, recursion_line};
 ghost use Rattle.gl_protocol.specs.Output.{generated};
+ghost use Rattle.gl_protocol.specs.Tables.{line};
 
 use gl_ast::{put, put_number};
 use gl_plane::NoMemory;

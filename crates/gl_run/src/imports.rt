@@ -1,21 +1,14 @@
 //! Imports.
 ghost use Rattle.std.specs.Prelude.{ℕ, Some, IfOk, IsSome};
-ghost use Rattle.gl_calculus.specs.Formula.{Version as PlainVersion};
+ghost use Rattle.gl_calculus.specs.Formula.{Version as PlainVersion, IsSheet};
 ghost use Rattle.gl_language.specs.Text.{Bytes};
-ghost use Rattle.gl_calculus.specs.Formula.{IsSheet};
-ghost use Rattle.gl_protocol.specs.Acts.{Acts};
-ghost use Rattle.gl_protocol.specs.Script.{settings};
-ghost use Rattle.gl_protocol.specs.Framing.{Import};
-ghost use Rattle.gl_protocol.specs.Header.{payload_len};
+ghost use Rattle.gl_protocol.specs.{Acts.Acts, Script.settings, Framing.Import, Header.payload_len};
 ghost use Rattle.gl_cells.specs.Sheet.{sheet, AreProper};
 ghost use Rattle.gl_csvin.specs.Import.{csv_records};
 ghost use Rattle.gl_script.specs.Command.{Asks};
-ghost use Rattle.gl_run.specs.Kept.{IsKept};
-ghost use Rattle.gl_run.specs.Ready.{IsReady};
 ghost use Rattle.gl_run.specs.Replies.{HasPlace, IsRefusal, csv_word};
-ghost use Rattle.gl_run.specs.Script.{known_of, script_of};
-ghost use Rattle.gl_run.specs.Spends.{Spends};
-ghost use Rattle.gl_run.specs.Answering.{StaysOnErr, Imports};
+ghost use Rattle.gl_run.specs.{Kept.IsKept, Ready.IsReady, Script.known_of, Script.script_of};
+ghost use Rattle.gl_run.specs.{Spends.Spends, Answering.StaysOnErr, Answering.Imports};
 
 use crate::changes::settings;
 use crate::edits::put_refusal;

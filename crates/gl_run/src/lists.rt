@@ -6,8 +6,7 @@ ghost use Rattle.gl_language.specs.Text as text;
 ghost use Rattle.gl_protocol.specs.Commands.{get_text, list_text, version_lines};
 ghost use Rattle.gl_protocol.specs.Tables.{line, set_text};
 ghost use Rattle.gl_ast.specs.View.{version_tree};
-ghost use Rattle.gl_cells.specs.Content.{content_tree};
-ghost use Rattle.gl_cells.specs.Sheet.{sheet};
+ghost use Rattle.gl_cells.specs.{Content.content_tree, Sheet.sheet};
 ghost use Rattle.gl_run.specs.Replies.{set_line, set_lines};
 
 use crate::lines::text_line;

@@ -3,14 +3,12 @@ ghost use Rattle.std.specs.Prelude.{◌≡◌, map, option_map, Some, IfOk, IfSo
 ghost use Rattle.gl_calculus.specs.Grid.{AreInOrder};
 ghost use Rattle.gl_edits.specs.Replicas.{stamped, taking_all};
 ghost use Rattle.gl_protocol.specs.Commands.{word_text};
-ghost use Rattle.gl_merge.specs.Index.{trees};
-ghost use Rattle.gl_merge.specs.Replica.{AreOrdered, replica_tree};
+ghost use Rattle.gl_merge.specs.{Index.trees, Replica.AreOrdered, Replica.replica_tree};
 ghost use Rattle.gl_undo.specs.View.{AreProperChanges, changes_tree};
 ghost use Rattle.gl_undo.specs.View as undo;
-ghost use Rattle.gl_run.specs.Replies.{IsRefusal};
-ghost use Rattle.gl_run.specs.Script.{known_of, script_of};
 ghost use Rattle.gl_run.specs.Ready.{CanCommit, CanTakeThese, Commits, HasRoomFor, Prepares};
 ghost use Rattle.gl_run.specs.Ready.{Stamps, TakesAll, local_word, places};
+ghost use Rattle.gl_run.specs.{Replies.IsRefusal, Script.known_of, Script.script_of};
 
 use crate::changes::Change;
 use crate::lines::error_line;

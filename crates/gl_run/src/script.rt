@@ -1,7 +1,6 @@
 //! The state of a script.
 ghost use Rattle.std.specs.Prelude.{◌≡◌, IfOk};
-ghost use Rattle.gl_run.specs.Known.{new_known};
-ghost use Rattle.gl_run.specs.Script.{known_of};
+ghost use Rattle.gl_run.specs.{Known.new_known, Script.known_of};
 
 use gl_calc::Calc;
 use gl_merge::Replica;

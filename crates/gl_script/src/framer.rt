@@ -1,11 +1,9 @@
 // Items: lines, and headers with their payloads.
 ghost use Rattle.std.specs.Prelude.{◌≡◌, IfOk, None, false};
-ghost use Rattle.gl_script.specs.Feed.{idle};
-ghost use Rattle.gl_protocol.specs.Stream.{nothing, step, closing, close_by};
-ghost use Rattle.gl_protocol.specs.Framing.{kind_by};
-ghost use Rattle.gl_protocol.specs.Header.{payload_len};
-ghost use Rattle.gl_script.specs.FeedView.{begun_of, piece_of};
 ghost use Rattle.gl_script.specs.Framer.{stream_at, told, payload_at};
+ghost use Rattle.gl_script.specs.{Feed.idle, FeedView.begun_of, FeedView.piece_of};
+ghost use Rattle.gl_protocol.specs.Stream.{nothing, step, closing, close_by};
+ghost use Rattle.gl_protocol.specs.{Framing.kind_by, Header.payload_len};
 
 use crate::feed::{Event, Feed};
 use crate::header::payload_due;

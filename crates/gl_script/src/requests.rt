@@ -3,8 +3,7 @@ ghost use Rattle.std.specs.Prelude.{◌≡◌, IsFalse, option_copied};
 ghost use Rattle.gl_language.specs.Text.{Bytes};
 ghost use Rattle.gl_protocol.specs.Commands.{is_comment};
 ghost use Rattle.gl_protocol.specs.Commands as C;
-ghost use Rattle.gl_script.specs.Command.{Answers};
-ghost use Rattle.gl_script.specs.Parts.{HasWords, words_tree};
+ghost use Rattle.gl_script.specs.{Command.Answers, Parts.HasWords, Parts.words_tree};
 
 use crate::content::{read_content, read_text};
 use crate::header::count_of;

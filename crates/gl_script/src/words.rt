@@ -1,9 +1,9 @@
 //! The words of a line, cut at its spaces.
 ghost use Rattle.std.specs.Prelude.{◌≡◌, ◌∷◌, ◌&&◌, Some, None, option_copied};
-ghost use Rattle.gl_protocol.specs.Commands as C;
 ghost use Rattle.gl_protocol.specs.Pieces.{cut_at, pieces, is_number};
-ghost use Rattle.gl_script.specs.Numbers.{is_site};
+ghost use Rattle.gl_protocol.specs.Commands as C;
 ghost use Rattle.gl_script.specs.Parts.{edit_at, edit_behind, some_tree};
+ghost use Rattle.gl_script.specs.Numbers.{is_site};
 
 use crate::header::is_number;
 use crate::numbers::site_of;

@@ -3,9 +3,8 @@ ghost use Rattle.std.specs.Prelude.{◌≡◌, ◌<◌, ◌||◌, ◌&&◌, ℕ,
 ghost use Rattle.std.specs.Prelude.{OnOk, vec_len};
 ghost use Rattle.std.specs.List.{list_any};
 ghost use Rattle.indexmap.specs.IndexSet.{index_set_len};
-ghost use Rattle.gl_support.specs.Affected.{is_touched};
-ghost use Rattle.gl_support.specs.Nodes.{stands_at, reads_at};
 ghost use Rattle.gl_support.specs.Reach.{is_marked, has, row_of, IsGraph};
+ghost use Rattle.gl_support.specs.{Affected.is_touched, Nodes.stands_at, Nodes.reads_at};
 
 use crate::site::{Site, touch};
 use crate::triple::Triple;

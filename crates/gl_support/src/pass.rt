@@ -1,11 +1,11 @@
 //! One pass over rows in the order of noting.
 ghost use Rattle.std.specs.Prelude.{◌≡◌, ◌<◌, ℕ, true, [], All, IfOk, vec_len};
 ghost use Rattle.std.specs.List.{list_any};
-ghost use Rattle.gl_query.specs.Lists.{Member, AreDistinct};
-ghost use Rattle.gl_query.specs.InOrder.{AreOrdered, note_keys};
-ghost use Rattle.gl_support.specs.Reach.{is_marked};
+ghost use Rattle.gl_query.specs.{Lists.Member, Lists.AreDistinct, InOrder.AreOrdered};
+ghost use Rattle.gl_query.specs.{InOrder.note_keys};
 ghost use Rattle.gl_support.specs.Rows.{notes_of, AreMarked, AreBelow, gone_numbers, Goes};
 ghost use Rattle.gl_support.specs.Rows.{marked_or_read, AreFollowed, AreReached};
+ghost use Rattle.gl_support.specs.Reach.{is_marked};
 
 use crate::row::{Row, is_marked, mark_all};
 use crate::touched::{Touched, any_touched};

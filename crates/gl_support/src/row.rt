@@ -1,7 +1,6 @@
 //! Notes whose keys are numbers.
 ghost use Rattle.std.specs.Prelude.{◌≡◌, ◌<◌, ℕ, All, filter, not, vec_len};
-ghost use Rattle.gl_support.specs.Reach.{is_marked};
-ghost use Rattle.gl_support.specs.Rows.{marked_or};
+ghost use Rattle.gl_support.specs.{Reach.is_marked, Rows.marked_or};
 
 /// What a key gave, with the keys that it read and the places that it looked at. Keys are numbers.
 #[derive(Drop)]

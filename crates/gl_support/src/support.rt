@@ -1,8 +1,7 @@
 //! The keys with what they read and looked at.
 ghost use Rattle.std.specs.Prelude.{◌≡◌, ◌∷◌, ◌++◌, [], true, List, map, OnOk, OnErr, IfOk};
 ghost use Rattle.std.specs.List.{AllZip};
-ghost use Rattle.gl_support.specs.Affected.{AreAffected};
-ghost use Rattle.gl_support.specs.Triples.{plain_triple, triples_of};
+ghost use Rattle.gl_support.specs.{Affected.AreAffected, Triples.plain_triple, Triples.triples_of};
 
 use crate::edges::{add_triples, no_edges};
 use crate::nodes::{nodes_of, picked};

@@ -24,8 +24,7 @@ impl Model for Step {
     ghost use Rattle.std.specs.Coded.{codes};
     ghost use Rattle.gl_ast.specs.contracts.Formula as formula;
     ghost use Rattle.gl_value.specs.contracts.Scalar as scalar;
-    ghost use Rattle.gl_undo.specs.declared.changes.Change.{Change};
-    ghost use Rattle.gl_undo.specs.View.{IsStep};
+    ghost use Rattle.gl_undo.specs.{declared.changes.Change.Change, View.IsStep};
 
     ghost Value = { List Change };
 

@@ -125,7 +125,7 @@ impl Drop for Scalar {
 impl Drop for Array {
     #[cycle(dropping)]
     fn drop(self) {
-        let Array { size: _, items: _ } = self;
+        let Array { size, items } = self;
     }
 }
 
@@ -143,11 +143,11 @@ impl Drop for SheetVal {
     #[cycle(dropping)]
     fn drop(self) {
         let SheetVal {
-            rank: _,
-            weight: _,
-            region: _,
-            overrides: _,
-            env: _,
+            rank,
+            weight,
+            region,
+            overrides,
+            env,
         } = self;
     }
 }

@@ -3,14 +3,14 @@ ghost use Rattle.std.specs.Prelude.{◌≡◌, ◌≤◌, ◌<◌, ◌^◌, ◌+
 ghost use Rattle.std.specs.Prelude.{option_map};
 ghost use Rattle.std.specs.Option.{option_copied};
 ghost use Rattle.gl_calculus.specs.Limits.{max_rank, max_weight, max_cells};
-ghost use Rattle.gl_calculus.specs.Value as V;
 ghost use Rattle.gl_calculus.specs.Value.{overrides, rank, sheet_value};
-ghost use Rattle.gl_calculus.specs.Sheet as S;
 ghost use Rattle.gl_calculus.specs.Sheet.{override_at, frame_rank, rank_above, scalar_weight};
 ghost use Rattle.gl_calculus.specs.Sheet.{scalars_weight, value_weight, weight, frame_weight};
 ghost use Rattle.gl_calculus.specs.Sheet.{sheet, update};
 ghost use Rattle.gl_calculus.specs.Sound.{is_sound_scalar, are_sound, is_sound_value};
 ghost use Rattle.gl_calculus.specs.Sound.{is_sound_sheet, is_sound_frame};
+ghost use Rattle.gl_calculus.specs.Value as V;
+ghost use Rattle.gl_calculus.specs.Sheet as S;
 ghost use Rattle.gl_value.specs.View.{value_tree, array_tree, frame_tree, sheet_tree, scalar_tree};
 ghost use Rattle.gl_value.specs.View.{override_trees, item_trees};
 ghost use Rattle.gl_value.specs.Parts.{value_rank, weight_at, is_sound_made};

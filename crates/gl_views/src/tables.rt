@@ -1,12 +1,11 @@
 //! Tables of shown values.
 ghost use Rattle.std.specs.Prelude.{◌≡◌, ◌<◌, ◌++◌, ◌*◌, ◌∷◌, [], length, map, replicate, IfOk};
 ghost use Rattle.std.specs.Prelude.{OnOk, if◌then◌else◌};
-ghost use Rattle.std.specs.Str.{chars};
-ghost use Rattle.std.specs.String.{string_bytes};
+ghost use Rattle.std.specs.{Str.chars, String.string_bytes};
 ghost use Rattle.gl_value.specs.Made.{shown_tree};
 ghost use Rattle.gl_protocol.specs.Tables.{cell_text, right_aligned, wider, widths, table_text};
-ghost use Rattle.gl_views.specs.Rows.{in_rows};
 ghost use Rattle.gl_views.specs.Cells.{cell_of, texts_of, rows_of, line_of};
+ghost use Rattle.gl_views.specs.Rows.{in_rows};
 
 use crate::values::shown_text;
 use gl_ast::put;

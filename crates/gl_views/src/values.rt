@@ -3,8 +3,7 @@ ghost use Rattle.std.specs.Prelude.{◌≡◌, ◌++◌, IfOk, OnOk};
 ghost use Rattle.std.specs.String.{string_bytes};
 ghost use Rattle.gl_language.specs.Text as text;
 ghost use Rattle.gl_cells.specs.Content.{content_tree};
-ghost use Rattle.gl_value.specs.Made.{shown_tree};
-ghost use Rattle.gl_value.specs.View.{error_tree, scalar_tree};
+ghost use Rattle.gl_value.specs.{Made.shown_tree, View.error_tree, View.scalar_tree};
 
 use gl_ast::{print, put, put_int, put_literal, put_range, put_truth};
 use gl_cells::Content;

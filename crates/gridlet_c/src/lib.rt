@@ -5,8 +5,7 @@
 ghost use Rattle.std.specs.Prelude.{◌≡◌, ◌≢◌, ◌↔◌, ◌⊎◌, ◌≤◌, ℕ, [], take, drop, length, Some};
 ghost use Rattle.std.specs.Prelude.{IsTrue};
 ghost use Rattle.gl_language.specs.Text.{Bytes};
-ghost use Rattle.gl_run.specs.declared.top.Status.{Status as Ended};
-ghost use Rattle.gl_run.specs.Status.{number_of};
+ghost use Rattle.gl_run.specs.{declared.top.Status.Status as Ended, Status.number_of};
 ghost use Rattle.gridlet_c.specs.Statuses.{is_unusable, Leaves, IsWhole};
 
 mod answering;

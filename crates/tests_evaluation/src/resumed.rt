@@ -1,10 +1,7 @@
 //! Runs that begin with the results of an earlier one, over one sheet.
 ghost use Rattle.std.specs.Prelude.{◌≡◌, ◌≤◌, [], IfOk};
-ghost use Rattle.gl_query.specs.InOrder.{AreOrdered};
-ghost use Rattle.gl_query.specs.Laws.{IsQuiet};
-ghost use Rattle.gl_query.specs.Remembered.{AreTrue};
-ghost use Rattle.gl_calculus.specs.Key.{same_key};
-ghost use Rattle.gl_calculus.specs.Evaluation.{program};
+ghost use Rattle.gl_query.specs.{InOrder.AreOrdered, Laws.IsQuiet, Remembered.AreTrue};
+ghost use Rattle.gl_calculus.specs.{Key.same_key, Evaluation.program};
 ghost use Rattle.gl_ast.specs.View.{version_tree};
 ghost use Rattle.gl_cells.specs.Sheet.{sheet};
 ghost use Rattle.gl_core.specs.State.{state_of, seeds_of, notes_in, IsFor};

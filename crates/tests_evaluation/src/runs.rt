@@ -1,18 +1,13 @@
 //! Runs of a core over a sheet, by each pick rule.
 ghost use Rattle.std.specs.Prelude.{◌≡◌, ◌≤◌, [], IfOk, IsTrue, map};
-ghost use Rattle.gl_query.specs.Lists.{Member, AreDistinct};
-ghost use Rattle.gl_query.specs.InOrder.{AreOrdered};
-ghost use Rattle.gl_query.specs.Laws.{IsQuiet};
-ghost use Rattle.gl_query.specs.Remembered.{AreTrue};
+ghost use Rattle.gl_query.specs.{Lists.Member, Lists.AreDistinct, InOrder.AreOrdered, Laws.IsQuiet};
+ghost use Rattle.gl_query.specs.{Remembered.AreTrue};
+ghost use Rattle.gl_calculus.specs.{Key.same_key, Evaluation.program, Sound.IsProperKey};
 ghost use Rattle.gl_calculus.specs.Key as K;
-ghost use Rattle.gl_calculus.specs.Key.{same_key};
-ghost use Rattle.gl_calculus.specs.Evaluation.{program};
-ghost use Rattle.gl_calculus.specs.Sound.{IsProperKey};
 ghost use Rattle.gl_ast.specs.View.{version_tree};
 ghost use Rattle.gl_cells.specs.Sheet.{sheet};
 ghost use Rattle.gl_memo.specs.Notes.{notes_of};
-ghost use Rattle.gl_demand.specs.View.{key_tree};
-ghost use Rattle.gl_demand.specs.Sound.{AreSoundKeys};
+ghost use Rattle.gl_demand.specs.{View.key_tree, Sound.AreSoundKeys};
 ghost use Rattle.gl_core.specs.State.{state_of, seeds_of, notes_in, note_trees, HaveSoundParts};
 ghost use Rattle.gl_core.specs.State.{IsFor};
 

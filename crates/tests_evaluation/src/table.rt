@@ -2,8 +2,7 @@
 ghost use Rattle.std.specs.Prelude.{◌≡◌, find, option_map};
 ghost use Rattle.std.specs.Option.{option_copied};
 ghost use Rattle.gl_query.specs.Query.{Ready};
-ghost use Rattle.gl_demand.specs.Sound.{IsSoundFound};
-ghost use Rattle.gl_demand.specs.View.{key_tree, outcome_tree};
+ghost use Rattle.gl_demand.specs.{Sound.IsSoundFound, View.key_tree, View.outcome_tree};
 ghost use Rattle.gl_calculus.specs.Key.{same_key};
 
 use gl_demand::{Key, Known, Outcome};

@@ -1,7 +1,6 @@
 //! Evaluations of a key, once, and after all that it needs.
 ghost use Rattle.std.specs.Prelude.{IfOk};
-ghost use Rattle.gl_demand.specs.Sound.{IsSoundFound};
-ghost use Rattle.gl_demand.specs.View.{key_tree, found_tree};
+ghost use Rattle.gl_demand.specs.{Sound.IsSoundFound, View.key_tree, View.found_tree};
 
 use crate::table::Table;
 use gl_cells::Cells;

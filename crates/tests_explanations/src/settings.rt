@@ -1,7 +1,6 @@
 //! Certificates of addresses, and the verdicts on them.
 ghost use Rattle.std.specs.Prelude.{IsTrue, map};
-ghost use Rattle.gl_demand.specs.Sound.{AreSoundKeys};
-ghost use Rattle.gl_demand.specs.View.{key_tree};
+ghost use Rattle.gl_demand.specs.{Sound.AreSoundKeys, View.key_tree};
 ghost use Rattle.gl_cert.specs.Claims.{claim_trees};
 
 use gl_cert::{Cert, Verdict, check};

@@ -1,7 +1,7 @@
 //! What rests on a change, and what is wanted, of rows in the order of noting.
 ghost use Rattle.std.specs.Prelude.{◌<◌, ℕ, List, All, IsTrue};
-ghost use Rattle.gl_query.specs.Lists.{Member, AreDistinct};
-ghost use Rattle.gl_query.specs.InOrder.{AreOrdered, note_keys};
+ghost use Rattle.gl_query.specs.{Lists.Member, Lists.AreDistinct, InOrder.AreOrdered};
+ghost use Rattle.gl_query.specs.{InOrder.note_keys};
 ghost use Rattle.gl_support.specs.Rows.{notes_of, AreBelow};
 
 use crate::support::Name;

@@ -9,10 +9,9 @@ use tests_common::range;
 pub struct Name(pub u32);
 
 impl Share for Name {
-    ghost use Rattle.std.specs.Prelude.{◌≡◌};
+    ghost use Rattle.std.specs.Prelude.{◌≡◌, nat_eq, true};
     ghost use Rattle.std.specs.Cmp.{nat_eq_equiv};
     ghost use Rattle.std.proofs.Common.{subst};
-    ghost use Rattle.std.specs.Prelude.{nat_eq, true};
 
     ghost shares = { λ x y. x ≡ y };
 

@@ -1,20 +1,16 @@
 // The replies of a session, item by item.
-ghost use Rattle.std.specs.Prelude.{◌≡◌, ◌≢◌, ◌||◌, ◌≤◌, ℕ, false, None, IfOk, OnOk, IfSome};
-ghost use Rattle.std.specs.Prelude.{codes};
+ghost use Rattle.std.specs.Prelude.{◌≡◌, ◌≢◌, ◌||◌, ◌≤◌, ℕ, false, None, IfOk, OnOk, IfSome, codes};
 ghost use Rattle.std.specs.Option.{option_to_list};
 ghost use Rattle.gl_order.specs.Rule.{PicksBelow, rule_of};
 ghost use Rattle.gl_ast.specs.View.{version_tree};
-ghost use Rattle.gl_script.specs.Framer.{told};
-ghost use Rattle.gl_script.specs.Framer.{stream_at};
-ghost use Rattle.gl_protocol.specs.FramingLaw.{up_to_quit};
+ghost use Rattle.gl_script.specs.Framer.{told, stream_at};
 ghost use Rattle.gl_protocol.specs.Stream.{nothing, step, gained, after};
-ghost use Rattle.gl_protocol.specs.Framing.{has_quit};
-ghost use Rattle.gl_protocol.specs.Output.{is_line, is_refusal};
-ghost use Rattle.gl_run.specs.Script.{known_of};
+ghost use Rattle.gl_protocol.specs.{FramingLaw.up_to_quit, Framing.has_quit, Output.is_line};
+ghost use Rattle.gl_protocol.specs.{Output.is_refusal};
 ghost use Rattle.gl_run.specs.State.{state_of, start, fresh};
-ghost use Rattle.gl_run.specs.Framed.{IsFramed, HasHeader};
 ghost use Rattle.gl_run.specs.Serving.{ended_item, byte_item, last_item, TellsQuit, Serves};
 ghost use Rattle.gl_run.specs.Answering.{ActsOnSome, SpendsOnSome, Leads};
+ghost use Rattle.gl_run.specs.{Script.known_of, Framed.IsFramed, Framed.HasHeader};
 
 use crate::answers::{answer_line, answer_long, answer_truncated, is_version_line};
 use crate::imports::answer_import;
