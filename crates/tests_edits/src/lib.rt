@@ -2,6 +2,4 @@
 #![tactic(auto)]
 
 #[cfg(test)]
-mod replicas;
-#[cfg(test)]
-mod undo;
+mod tests;

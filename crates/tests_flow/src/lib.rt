@@ -2,8 +2,4 @@
 #![tactic(auto)]
 
 #[cfg(test)]
-mod large;
-#[cfg(test)]
-mod small;
-#[cfg(test)]
-mod told;
+mod tests;

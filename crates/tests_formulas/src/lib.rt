@@ -2,8 +2,4 @@
 #![tactic(auto)]
 
 #[cfg(test)]
-mod ast;
-#[cfg(test)]
-mod lex;
-#[cfg(test)]
-mod parse;
+mod tests;

@@ -2,10 +2,4 @@
 #![tactic(auto)]
 
 #[cfg(test)]
-mod cells;
-#[cfg(test)]
-mod csvin;
-#[cfg(test)]
-mod script;
-#[cfg(test)]
-mod views;
+mod tests;

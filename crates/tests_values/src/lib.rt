@@ -2,16 +2,4 @@
 #![tactic(auto)]
 
 #[cfg(test)]
-mod arrays;
-#[cfg(test)]
-mod calls;
-#[cfg(test)]
-mod funs;
-#[cfg(test)]
-mod lift;
-#[cfg(test)]
-mod scalar;
-#[cfg(test)]
-mod value;
-#[cfg(test)]
-mod values;
+mod tests;

@@ -1,0 +1,9 @@
+// The tests, a file for each concept.
+mod anew;
+mod calculations;
+mod held;
+mod histories;
+mod kept;
+mod large;
+mod sheets;
+mod siblings;

@@ -1,0 +1,3 @@
+// The tests, a file for each concept.
+mod replicas;
+mod undo;

@@ -1,4 +1,0 @@
-use Rattle.tests_evaluation.proofs.results.kept_after.Goals as goal
-
-pub returns : goal.returns
-returns c = λ n m. c.requires n (c.in_ok-keep.ensures.the.0 n m).0

@@ -1,0 +1,20 @@
+// The tests, a file for each concept.
+mod calls;
+mod copies;
+mod evaluations;
+mod large;
+mod many;
+mod notes;
+mod picks;
+mod ranges;
+mod references;
+mod results;
+mod resumed;
+mod runs;
+mod settling;
+mod sheets;
+mod sums;
+mod table;
+mod texts;
+mod tidied;
+mod turns;

@@ -1,0 +1,107 @@
+//! What references look at, read and come to.
+use crate::tests::texts::{found_text, keys_text, ranges_text};
+use crate::tests::turns::turn_under;
+use gl_plane::{Oracle, Permit};
+use std::alloc::Global;
+use std::test::Fail;
+use tests_common::{one_entry, put_line, sheet_of};
+
+/// An array of four elements, a number that is computed, and one that is not.
+const REFERENCES: [&str; 3] = ["set A1 =SEQUENCE(2,2)", "set D1 =7", "set A5 3"];
+
+/// The root, the rows, the columns and the permit of an entry.
+pub type Entry = (&'static str, u16, u16, Permit);
+
+/// A formula in Z1, what it looks at and reads, and what it comes to.
+type Row = (&'static str, &'static str, &'static str, &'static str);
+
+/// Formulas under an oracle of at most one entry.
+struct Under {
+    entry: Option<Entry>,
+    rows: &'static [Row],
+}
+
+const UNDER: [Under; 4] = [
+    Under {
+        entry: None,
+        rows: &[
+            ("set Z1 =A5", "Z1:Z1, A5:A5", "", "3"),
+            ("set Z1 =D1", "Z1:Z1, D1:D1", "D1", "7"),
+            ("set Z1 =A1", "Z1:Z1, A1:A1", "A1", "1"),
+            ("set Z1 =B2", "Z1:Z1, B2:B2", "", "."),
+            ("set Z1 =A1#", "Z1:Z1, A1:A1", "", "#REF!"),
+            ("set Z1 =A1:B2", "Z1:Z1, A1:B2", "A1", "1 . / . ."),
+        ],
+    },
+    Under {
+        entry: Some(("A1", 3, 2, Permit::Permitted)),
+        rows: &[
+            ("set Z1 =A1", "Z1:Z1, A1:A1", "A1", "1"),
+            ("set Z1 =B2", "Z1:Z1, B2:B2, A1:A1", "A1", "4"),
+            ("set Z1 =B3", "Z1:Z1, B3:B3, A1:A1", "A1", "."),
+            ("set Z1 =A1#", "Z1:Z1, A1:A1", "A1", "1 2 / 3 4"),
+            ("set Z1 =B2#", "Z1:Z1, B2:B2", "", "#REF!"),
+            ("set Z1 =A5#", "Z1:Z1, A5:A5", "", "#REF!"),
+            (
+                "set Z1 =B1:D2",
+                "Z1:Z1, B1:D2, A1:A1",
+                "A1, D1",
+                "2 . 7 / 4 . .",
+            ),
+        ],
+    },
+    Under {
+        entry: Some(("A1", 2, 2, Permit::Refused)),
+        rows: &[
+            ("set Z1 =A1", "Z1:Z1, A1:A1", "A1", "#SPILL!"),
+            ("set Z1 =B2", "Z1:Z1, B2:B2", "", "."),
+            ("set Z1 =A1#", "Z1:Z1, A1:A1", "", "#SPILL!"),
+            ("set Z1 =A1:B1", "Z1:Z1, A1:B1", "A1", "#SPILL! ."),
+        ],
+    },
+    Under {
+        entry: Some(("D1", 1, 2, Permit::Permitted)),
+        rows: &[
+            ("set Z1 =E1", "Z1:Z1, E1:E1, D1:D1", "D1", "."),
+            ("set Z1 =D1#", "Z1:Z1, D1:D1", "D1", "#REF!"),
+            ("set Z1 =D1:E1", "Z1:Z1, D1:E1, D1:D1", "D1", "7 ."),
+        ],
+    },
+];
+
+/// An oracle of at most one entry.
+pub fn oracle_of(alloc: Global, entry: Option<Entry>) -> Result<Oracle, Fail> {
+    match entry {
+        Some((root, rows, cols, permit)) => one_entry(alloc, root, rows, cols, permit),
+        None => Ok(Oracle::new(alloc)),
+    }
+}
+
+/// Under this entry the formula of the row is as it says.
+fn refers(alloc: Global, entry: Option<Entry>, row: &Row) -> Result<bool, Fail> {
+    let (line, looked, reads, want) = *row;
+    let mut cells = sheet_of(alloc, &REFERENCES)?;
+    put_line(alloc, &mut cells, line)?;
+    let w = oracle_of(alloc, entry)?;
+    let turn = turn_under(alloc, &cells, &w, "Z1")?;
+    Ok(
+        ranges_text(alloc, &turn.looked)?.as_str() == looked
+            && keys_text(alloc, &turn.reads)?.as_str() == reads
+            && found_text(alloc, &turn.found)?.as_str() == want,
+    )
+}
+
+#[test]
+fn references(rt: HostRuntime) -> Result<(), Fail> {
+    for under in &UNDER {
+        for row in under.rows {
+            assert!(rt;
+                refers(rt.alloc(), under.entry, row)?,
+                "{} under {:?}",
+                row.0,
+                under.entry
+            );
+        }
+    }
+    Ok(())
+}

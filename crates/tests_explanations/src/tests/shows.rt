@@ -1,0 +1,149 @@
+//! What is found of addresses.
+use crate::tests::settings::{explained, found, verdict_on};
+use gl_cert::Verdict;
+use gl_demand::{Budget, Silent, Steps};
+use gl_explain::Explained;
+use gl_plane::{Oracle, Permit};
+use gl_views::shown_text;
+use std::test::Fail;
+use tests_common::{Setting, one_entry, setting_of, sheet_of};
+
+/// How many notes and loops a certificate has, and how many steps its walk takes.
+type Counts = (usize, usize, u64);
+
+/// A sheet, the permit of two cells from A1 down, and of an address the counts of its certificate and
+/// what is shown.
+type Row = (
+    &'static [&'static str],
+    Permit,
+    &'static str,
+    Counts,
+    &'static str,
+);
+
+const COLUMN: [&str; 4] = [
+    "set A1 =SEQUENCE(2,1)",
+    "set B1 =A2+1",
+    "set C1 5",
+    "set D1 =SUM(A1:C1)",
+];
+
+const CIRCLE: [&str; 3] = ["set A1 =B1", "set B1 =A1", "set C1 =IFERROR(A1,7)"];
+
+const ROWS: [Row; 11] = [
+    (&COLUMN, Permit::Permitted, "A1", (1, 0, 1), "1"),
+    (&COLUMN, Permit::Permitted, "A2", (1, 0, 1), "2"),
+    (&COLUMN, Permit::Permitted, "B1", (2, 0, 3), "3"),
+    (&COLUMN, Permit::Permitted, "C1", (0, 0, 0), "5"),
+    (&COLUMN, Permit::Permitted, "D1", (3, 0, 4), "9"),
+    (&COLUMN, Permit::Permitted, "Z9", (0, 0, 0), "."),
+    (&COLUMN, Permit::Refused, "A1", (1, 0, 1), "#SPILL!"),
+    (&COLUMN, Permit::Refused, "A2", (0, 0, 0), "."),
+    (&CIRCLE, Permit::Refused, "C1", (0, 3, 3), "#CYCLE!"),
+    (&CIRCLE, Permit::Refused, "A1", (0, 2, 2), "#CYCLE!"),
+    // a root that loops spills nothing
+    (&CIRCLE, Permit::Permitted, "A2", (0, 2, 2), "."),
+];
+
+/// The certificate of the row's address is as the row says, and it is accepted.
+fn holds(at: Setting<'_>, row: &Row) -> Result<bool, Fail> {
+    let mut steps = Steps::new(Silent);
+    let c = found(at, row.2, &mut steps)?;
+    let counts = (c.notes.len(), c.loops.len(), steps.done());
+    Ok(counts == row.3 && shown_text(at.alloc, &c.shown)?.as_str() == row.4)
+}
+
+/// The verdict on the certificate of the row's address.
+fn said(at: Setting<'_>, row: &Row) -> Result<Verdict, Fail> {
+    let c = found(at, row.2, &mut Steps::new(Silent))?;
+    verdict_on(at, row.2, &c, &mut Steps::new(Silent))
+}
+
+#[test]
+fn what_is_found_is_accepted(rt: HostRuntime) -> Result<(), Fail> {
+    for row in &ROWS {
+        let cells = sheet_of(rt.alloc(), row.0)?;
+        let w = one_entry(rt.alloc(), "A1", 2, 1, row.1)?;
+        let at = setting_of(rt.alloc(), &cells, &w);
+        assert!(rt; holds(at, row)?, "{} of {:?}", row.2, row.0);
+        let verdict = said(at, row)?;
+        assert_eq!(rt; verdict, Verdict::Accepted, "{} of {:?}", row.2, row.0);
+    }
+    Ok(())
+}
+
+/// Copies of copies, down to a number of them.
+const DEEP: [&str; 4] = [
+    "set A1 0",
+    "set B1 =IF(A1=0,0,A1+VIEW(UPDATE(SHEET(A1:B1),A1,A1-1),B1))",
+    "set D1 =VIEW(UPDATE(SHEET(A1:B1),A1,95),B1)",
+    "set E1 =VIEW(UPDATE(SHEET(A1:B1),A1,96),B1)",
+];
+
+/// A copy that never settles, and what reads it.
+const TURNING: [&str; 6] = [
+    "set D1 0",
+    "set A2 =SEQUENCE(1,3)",
+    "set B1 =IF(D1=0,1,IF(ISERROR(ROWS(A2#)),1,SEQUENCE(3,1)))",
+    "set F1 =G(A1:D3,D1,1)",
+    "set F9 =IFERROR(F1,1)",
+    "set G9 =IF(TRUE,2,F1)",
+];
+
+/// A sheet, an address, and the budget that explains it, if one does.
+const BUDGETS: [(&[&str], &str, Option<Budget>); 5] = [
+    (&DEEP, "D1", None),
+    (&DEEP, "E1", Some(Budget::Depth)),
+    (&TURNING, "F1", Some(Budget::CopyRounds)),
+    (&TURNING, "F9", Some(Budget::CopyRounds)),
+    (&TURNING, "G9", None),
+];
+
+/// The budget that explains an address, if one does.
+fn spent(at: Setting<'_>, name: &str) -> Result<Option<Budget>, Fail> {
+    match explained(at, name, &mut Steps::new(Silent))? {
+        Explained::Aborts(b) => Ok(Some(b)),
+        Explained::Cert(_) => Ok(None),
+        Explained::Work => Err("too much work".into()),
+    }
+}
+
+#[test]
+fn copies_that_spend_a_budget(rt: HostRuntime) -> Result<(), Fail> {
+    for (lines, name, budget) in &BUDGETS {
+        let alloc = rt.alloc();
+        let cells = sheet_of(alloc, lines)?;
+        let w = Oracle::new(alloc);
+        let at = setting_of(alloc, &cells, &w);
+        assert_eq!(rt; spent(at, name)?, *budget, "{name}");
+    }
+    Ok(())
+}
+
+/// Copies that each make two, 1,023 times.
+const TREE: [&str; 2] = [
+    "set A1 1",
+    "set B1 =IF(A1>=1024,1,VIEW(UPDATE(SHEET(A1:B1),A1,2*A1),B1)+VIEW(UPDATE(SHEET(A1:B1),A1,2*A1+1),B1))",
+];
+
+#[test]
+fn copies_that_each_make_two(rt: HostRuntime) -> Result<(), Fail> {
+    let alloc = rt.alloc();
+    let cells = sheet_of(alloc, &TREE)?;
+    let w = Oracle::new(alloc);
+    let at = setting_of(alloc, &cells, &w);
+    let mut steps = Steps::new(Silent);
+    let c = found(at, "B1", &mut steps)?;
+    // a cell and a settling for each copy; a cell that makes two is evaluated three times, and each
+    // settling twice
+    assert_eq!(rt;
+        (c.notes.len(), c.loops.len(), steps.done()),
+        (4_093, 0, 8_185)
+    );
+    assert_eq!(rt;
+        verdict_on(at, "B1", &c, &mut Steps::new(Silent))?,
+        Verdict::Accepted
+    );
+    assert_eq!(rt; shown_text(alloc, &c.shown)?.as_str(), "1024");
+    Ok(())
+}

@@ -1,0 +1,235 @@
+//! Scripts of long lines and of many lines, made from their parts.
+use crate::tests::calls::{Row, holds};
+use gl_ast::{put, put_number};
+use gl_plane::NoMemory;
+use std::alloc::Global;
+use std::process::Abort;
+use std::test::Fail;
+
+/// Bytes, bytes so many times between others, or a line for each number from 1 to the last.
+#[derive(Clone, Copy)]
+pub enum Part {
+    Once(&'static [u8]),
+    Times(&'static [u8], &'static [u8], usize, &'static [u8]),
+    Lines(&'static str, usize, &'static str),
+}
+
+/// The parts of a script and of its replies.
+pub struct Long {
+    pub script: &'static [Part],
+    pub replies: &'static [Part],
+    pub refused: bool,
+}
+
+const LINES: [Long; 10] = [
+    Long {
+        script: &[Part::Times(b"", b"a", 32769, b"\n")],
+        replies: &[Part::Once(b"error line\n")],
+        refused: true,
+    },
+    Long {
+        script: &[Part::Times(b"", b";", 32768, b"\n")],
+        replies: &[],
+        refused: false,
+    },
+    Long {
+        script: &[
+            Part::Times(b"", b";", 32768, b"\n"),
+            Part::Times(b"", b";", 32769, b"\nshow A1\n"),
+        ],
+        replies: &[Part::Once(b"error line\n.\n")],
+        refused: true,
+    },
+    Long {
+        script: &[
+            Part::Times(b"", b"x", 32768, b"\r\n"),
+            Part::Times(b"", b"x", 32769, b"\r\n"),
+        ],
+        replies: &[Part::Once(b"error command\nerror line\n")],
+        refused: true,
+    },
+    Long {
+        script: &[Part::Times(b"", b"q", 32769, b"\nquit\nfoo\n")],
+        replies: &[Part::Once(b"error line\nbye\n")],
+        refused: true,
+    },
+    // the longest formula
+    Long {
+        script: &[Part::Times(b"set A1 =1", b" ", 8191, b"\nget A1\n")],
+        replies: &[Part::Once(b"ok\n=1\n")],
+        refused: false,
+    },
+    Long {
+        script: &[
+            Part::Times(b"set A1 =1", b" ", 8191, b"\n"),
+            Part::Times(b"set A1 =1", b" ", 8192, b"\n"),
+        ],
+        replies: &[Part::Once(b"ok\nerror long\n")],
+        refused: true,
+    },
+    Long {
+        script: &[Part::Times(b"set A1 =", b"(", 8192, b"\n")],
+        replies: &[Part::Once(b"error deep\n")],
+        refused: true,
+    },
+    // the longest payload, as one field
+    Long {
+        script: &[Part::Times(b"import A1 1048576\n\"", b"a", 1_048_574, b"\"list\n")],
+        replies: &[Part::Once(b"error field\nlist 0\n")],
+        refused: true,
+    },
+    // the largest table, and one that is larger
+    Long {
+        script: &[Part::Once(b"view A1:B5000\nview A1:B5001\n")],
+        replies: &[Part::Times(b"", b". .\n", 5000, b"error range\n")],
+        refused: true,
+    },
+];
+
+#[test]
+fn lines(rt: HostRuntime) -> Result<(), Fail> {
+    assert_long(&rt, rt.alloc(), &LINES)
+}
+
+/// Texts at their limits, and sheets of many formulas.
+const TEXTS_AND_SHEETS: [Long; 6] = [
+    Long {
+        script: &[
+            Part::Times(b"set A1 ", b"a", 4096, b"\n"),
+            Part::Times(b"set A1 ", b"a", 4097, b"\n"),
+            Part::Times(b"set A1 \"", b"a", 4096, b"\"\n"),
+            Part::Times(b"set A1 \"", b"a", 4097, b"\"\n"),
+            Part::Times(b"set A1 =\"", b"a", 4096, b"\"\n"),
+            Part::Times(b"set A1 =\"", b"a", 4097, b"\"\n"),
+        ],
+        replies: &[Part::Once(b"ok\nerror field\nok\nerror text\nok\nerror text\n")],
+        refused: true,
+    },
+    Long {
+        script: &[
+            Part::Times(b"set A1 ", b"a", 4096, b"\n"),
+            Part::Once(
+                b"set B1 =LEN(A1&\"b\")\nshow B1\nset B1 =A1&\"\"\nset C1 =LEN(B1)\nshow C1\n",
+            ),
+            Part::Times(b"set A1 ", b"\xc3\xa9", 2048, b"\nshow C1\n"),
+            Part::Times(b"set A1 ", b"\xc3\xa9", 2049, b"\n"),
+        ],
+        replies: &[Part::Once(b"ok\nok\n#SIZE!\nok\nok\n4096\nok\n2048\nerror field\n")],
+        refused: true,
+    },
+    Long {
+        script: &[
+            Part::Once(b"import A1 2892\n"),
+            Part::Lines("", 500, ",3"),
+            Part::Once(
+                b"set D1 =A1:A500*B1:B500\nset F1 =SUM(D1#)\nset H1 100\nset I1 20\nset J1 =H1-H1*I1/100\nset L1 =G(H1:J1,I1,25)\ncalc\nshow F1\nshow J1\nview L1:N1\n",
+            ),
+        ],
+        replies: &[Part::Once(b"ok\nok\nok\nok\nok\nok\nok\nsettled 2\n375750\n80\n100 25 75\n")],
+        refused: false,
+    },
+    Long {
+        script: &[
+            Part::Once(b"set A1 =SEQUENCE(3,1)\nset B1 =A1#*2\n"),
+            Part::Lines("set D", 100, " =1+1"),
+            Part::Once(b"calc\ncalc\n"),
+        ],
+        replies: &[Part::Times(b"", b"ok\n", 102, b"settled 3\nsettled 3\n")],
+        refused: false,
+    },
+    Long {
+        script: &[
+            Part::Lines("set A", 2500, " =1+1"),
+            Part::Lines("set B", 2500, " =1+1"),
+            Part::Once(b"calc\n"),
+        ],
+        replies: &[Part::Times(b"", b"ok\n", 5000, b"settled 1\n")],
+        refused: false,
+    },
+    // as many formulas as a sheet has, and one more
+    Long {
+        script: &[
+            Part::Lines("set A", 8192, " =1"),
+            Part::Lines("set B", 8192, " =1"),
+            Part::Once(b"set C1 =1\nset A1 =2\nset B1 1\nset C1 =1\nset D1 =1\n"),
+        ],
+        replies: &[Part::Times(
+            b"",
+            b"ok\n",
+            16384,
+            b"error formulas\nok\nok\nok\nerror formulas\n",
+        )],
+        refused: true,
+    },
+];
+
+#[test]
+fn texts_and_sheets(rt: HostRuntime) -> Result<(), Fail> {
+    assert_long(&rt, rt.alloc(), &TEXTS_AND_SHEETS)
+}
+
+fn add_times(out: &mut Vec<u8>, bytes: &[u8], count: usize) -> Result<(), NoMemory> {
+    for _ in 0..count {
+        out.extend_from_slice(bytes)?;
+    }
+    Ok(())
+}
+
+fn add_lines(
+    alloc: Global,
+    out: &mut Vec<u8>,
+    before: &str,
+    count: usize,
+    behind: &str,
+) -> Result<(), NoMemory> {
+    let mut lines = String::new(alloc);
+    for i in 0..count {
+        put(&mut lines, before)?;
+        put_number(alloc, &mut lines, i + 1)?;
+        put(&mut lines, behind)?;
+        put(&mut lines, "\n")?;
+    }
+    out.extend_from_slice(lines.as_bytes())?;
+    Ok(())
+}
+
+/// The parts, one after the other.
+fn joined(alloc: Global, parts: &[Part]) -> Result<Vec<u8>, NoMemory> {
+    let mut out = Vec::new(alloc);
+    for part in parts {
+        match *part {
+            Part::Once(bytes) => out.extend_from_slice(bytes)?,
+            Part::Times(before, bytes, count, behind) => {
+                out.extend_from_slice(before)?;
+                add_times(&mut out, bytes, count)?;
+                out.extend_from_slice(behind)?;
+            }
+            Part::Lines(before, count, behind) => {
+                add_lines(alloc, &mut out, before, count, behind)?
+            }
+        }
+    }
+    Ok(out)
+}
+
+/// The script has these replies by each pick rule.
+fn long_holds(alloc: Global, long: &Long) -> Result<bool, Fail> {
+    let script = joined(alloc, long.script)?;
+    let replies = joined(alloc, long.replies)?;
+    holds(
+        alloc,
+        &Row {
+            script: &script,
+            replies: &replies,
+            refused: long.refused,
+        },
+    )
+}
+
+/// Each script of a table has its replies by each pick rule.
+pub fn assert_long(rt: &impl Abort, alloc: Global, table: &[Long]) -> Result<(), Fail> {
+    for (i, long) in table.iter().enumerate() {
+        assert!(rt; long_holds(alloc, long)?, "{i}");
+    }
+    Ok(())
+}

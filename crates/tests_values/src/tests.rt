@@ -1,0 +1,8 @@
+// The tests, a file for each concept.
+mod arrays;
+mod calls;
+mod funs;
+mod lift;
+mod scalar;
+mod value;
+mod values;
