@@ -13,12 +13,9 @@ use std::rc::Rc;
 
 /// The array of so many rows and columns whose elements the closure answers, called once for each
 /// in row-major order; `#SIZE!` where it would have more than 10,000 cells.
-pub fn table<F: Fn(u16, u16) -> Result<Scalar, NoMemory>>(
-    alloc: Global,
-    rows: u16,
-    cols: u16,
-    element: F,
-) -> Result<Value, NoMemory>
+pub fn table<F>(alloc: Global, rows: u16, cols: u16, element: F) -> Result<Value, NoMemory>
+where
+    F: Fn(u16, u16) -> Result<Scalar, NoMemory>,
     requires callable { F.IsAlwaysCallable element }
     requires some_rows { 1 ≤ rows }
     requires some_cols { 1 ≤ cols }
@@ -40,12 +37,9 @@ pub fn table<F: Fn(u16, u16) -> Result<Scalar, NoMemory>>(
 }
 
 /// Appends the elements of one row.
-fn push_row<F: Fn(u16, u16) -> Result<Scalar, NoMemory>>(
-    items: &mut Vec<Scalar>,
-    i: u16,
-    cols: u16,
-    element: &F,
-) -> Result<(), NoMemory>
+fn push_row<F>(items: &mut Vec<Scalar>, i: u16, cols: u16, element: &F) -> Result<(), NoMemory>
+where
+    F: Fn(u16, u16) -> Result<Scalar, NoMemory>,
     requires { F.IsAlwaysCallable element.now }
     ensures count { OnOk result (vec_len items.new ≡ vec_len items.old + cols) }
     ensures sound { AnswersSoundAt F.Fn element.now

@@ -69,12 +69,9 @@ fn reached(v: &Value, i: u16, j: u16) -> Option<&Scalar>
 
 /// What an operator gives at an element of a value, or else at `#N/A`.
 #[tactic(auto, using(gl_value::specs::Forms::trees))]
-pub fn single<F: Fn(&Scalar) -> Result<Scalar, NoMemory>>(
-    v: &Value,
-    i: u16,
-    j: u16,
-    f: &F,
-) -> Result<Scalar, NoMemory>
+pub fn single<F>(v: &Value, i: u16, j: u16, f: &F) -> Result<Scalar, NoMemory>
+where
+    F: Fn(&Scalar) -> Result<Scalar, NoMemory>,
     requires callable { F.IsAlwaysCallable f.now }
     requires sound { IsTrue (is_sound_value (value_tree v.now)) }
     ensures sound { AnswersSound1 F.Fn f.now → IsSoundAnswer result }
@@ -89,13 +86,9 @@ pub fn single<F: Fn(&Scalar) -> Result<Scalar, NoMemory>>(
 
 /// What an operator gives at the elements of two values, and `#N/A` where one of them has none.
 #[tactic(auto, using(gl_value::specs::Forms::trees))]
-pub fn pair<F: Fn(&Scalar, &Scalar) -> Result<Scalar, NoMemory>>(
-    u: &Value,
-    v: &Value,
-    i: u16,
-    j: u16,
-    f: &F,
-) -> Result<Scalar, NoMemory>
+pub fn pair<F>(u: &Value, v: &Value, i: u16, j: u16, f: &F) -> Result<Scalar, NoMemory>
+where
+    F: Fn(&Scalar, &Scalar) -> Result<Scalar, NoMemory>,
     requires callable { F.IsAlwaysCallable f.now }
     requires first { IsTrue (is_sound_value (value_tree u.now)) }
     requires second { IsTrue (is_sound_value (value_tree v.now)) }
@@ -114,14 +107,9 @@ pub fn pair<F: Fn(&Scalar, &Scalar) -> Result<Scalar, NoMemory>>(
 
 /// What an operator gives at the elements of three values, and `#N/A` where one of them has none.
 #[tactic(auto, using(gl_value::specs::Forms::trees))]
-pub fn triple<F: Fn(&Scalar, &Scalar, &Scalar) -> Result<Scalar, NoMemory>>(
-    u: &Value,
-    v: &Value,
-    w: &Value,
-    i: u16,
-    j: u16,
-    f: &F,
-) -> Result<Scalar, NoMemory>
+pub fn triple<F>(u: &Value, v: &Value, w: &Value, i: u16, j: u16, f: &F) -> Result<Scalar, NoMemory>
+where
+    F: Fn(&Scalar, &Scalar, &Scalar) -> Result<Scalar, NoMemory>,
     requires callable { F.IsAlwaysCallable f.now }
     requires first { IsTrue (is_sound_value (value_tree u.now)) }
     requires second { IsTrue (is_sound_value (value_tree v.now)) }

@@ -24,11 +24,9 @@ use tables::{table_of_one, table_of_three, table_of_two};
 ///
 /// A scalar gives a scalar, an array an array of the same size.
 #[tactic(auto, using(gl_value::specs::Forms::trees))]
-pub fn lift1<F: Fn(&Scalar) -> Result<Scalar, NoMemory>>(
-    alloc: Global,
-    v: &Value,
-    f: F,
-) -> Result<Value, NoMemory>
+pub fn lift1<F>(alloc: Global, v: &Value, f: F) -> Result<Value, NoMemory>
+where
+    F: Fn(&Scalar) -> Result<Scalar, NoMemory>,
     requires callable { F.IsAlwaysCallable f }
     requires sound { IsTrue (is_sound_value (value_tree v.now)) }
     ensures sound { AnswersSound1 F.Fn f
@@ -48,12 +46,9 @@ pub fn lift1<F: Fn(&Scalar) -> Result<Scalar, NoMemory>>(
 /// would have more than 10,000 cells. A scalar counts as one row and one column, an extent of 1
 /// repeats, and an element beyond another extent of either value is `#N/A`.
 #[tactic(auto, using(gl_value::specs::Forms::trees))]
-pub fn lift2<F: Fn(&Scalar, &Scalar) -> Result<Scalar, NoMemory>>(
-    alloc: Global,
-    u: &Value,
-    v: &Value,
-    f: F,
-) -> Result<Value, NoMemory>
+pub fn lift2<F>(alloc: Global, u: &Value, v: &Value, f: F) -> Result<Value, NoMemory>
+where
+    F: Fn(&Scalar, &Scalar) -> Result<Scalar, NoMemory>,
     requires callable { F.IsAlwaysCallable f }
     requires first { IsTrue (is_sound_value (value_tree u.now)) }
     requires second { IsTrue (is_sound_value (value_tree v.now)) }
@@ -71,13 +66,9 @@ pub fn lift2<F: Fn(&Scalar, &Scalar) -> Result<Scalar, NoMemory>>(
 
 /// The operator at each three elements of three values, by the same rules.
 #[tactic(auto, using(gl_value::specs::Forms::trees))]
-pub fn lift3<F: Fn(&Scalar, &Scalar, &Scalar) -> Result<Scalar, NoMemory>>(
-    alloc: Global,
-    u: &Value,
-    v: &Value,
-    w: &Value,
-    f: F,
-) -> Result<Value, NoMemory>
+pub fn lift3<F>(alloc: Global, u: &Value, v: &Value, w: &Value, f: F) -> Result<Value, NoMemory>
+where
+    F: Fn(&Scalar, &Scalar, &Scalar) -> Result<Scalar, NoMemory>,
     requires callable { F.IsAlwaysCallable f }
     requires first { IsTrue (is_sound_value (value_tree u.now)) }
     requires second { IsTrue (is_sound_value (value_tree v.now)) }

@@ -16,13 +16,11 @@ use std::alloc::Global;
 
 /// What an operator gives at each element of a value.
 #[tactic(auto, using(gl_value::specs::Forms::trees))]
-pub fn table_of_one<F: Fn(&Scalar) -> Result<Scalar, NoMemory>>(
-    alloc: Global,
-    v: &Value,
-    f: &F,
-) -> Result<Value, NoMemory>
-    requires callable { F.IsAlwaysCallable f.now }
+pub fn table_of_one<F>(alloc: Global, v: &Value, f: &F) -> Result<Value, NoMemory>
+where
+    F: Fn(&Scalar) -> Result<Scalar, NoMemory>,
     requires sound { IsTrue (is_sound_value (value_tree v.now)) }
+    requires callable { F.IsAlwaysCallable f.now }
     ensures sound { AnswersSound1 F.Fn f.now
         → IfOk result (λ r. IsTrue (is_sound_value (value_tree r))) }
     ensures value { (rule : V.Scalar → V.Scalar)
@@ -37,15 +35,12 @@ pub fn table_of_one<F: Fn(&Scalar) -> Result<Scalar, NoMemory>>(
 
 /// What an operator gives at each pair of elements of two values.
 #[tactic(auto, using(gl_value::specs::Forms::trees))]
-pub fn table_of_two<F: Fn(&Scalar, &Scalar) -> Result<Scalar, NoMemory>>(
-    alloc: Global,
-    u: &Value,
-    v: &Value,
-    f: &F,
-) -> Result<Value, NoMemory>
-    requires callable { F.IsAlwaysCallable f.now }
+pub fn table_of_two<F>(alloc: Global, u: &Value, v: &Value, f: &F) -> Result<Value, NoMemory>
+where
+    F: Fn(&Scalar, &Scalar) -> Result<Scalar, NoMemory>,
     requires first { IsTrue (is_sound_value (value_tree u.now)) }
     requires second { IsTrue (is_sound_value (value_tree v.now)) }
+    requires callable { F.IsAlwaysCallable f.now }
     ensures sound { AnswersSound2 F.Fn f.now
         → IfOk result (λ r. IsTrue (is_sound_value (value_tree r))) }
     ensures value { (rule : V.Scalar → V.Scalar → V.Scalar)
@@ -61,17 +56,19 @@ pub fn table_of_two<F: Fn(&Scalar, &Scalar) -> Result<Scalar, NoMemory>>(
 
 /// What an operator gives at each three elements of three values.
 #[tactic(auto, using(gl_value::specs::Forms::trees))]
-pub fn table_of_three<F: Fn(&Scalar, &Scalar, &Scalar) -> Result<Scalar, NoMemory>>(
+pub fn table_of_three<F>(
     alloc: Global,
     u: &Value,
     v: &Value,
     w: &Value,
     f: &F,
 ) -> Result<Value, NoMemory>
-    requires callable { F.IsAlwaysCallable f.now }
+where
+    F: Fn(&Scalar, &Scalar, &Scalar) -> Result<Scalar, NoMemory>,
     requires first { IsTrue (is_sound_value (value_tree u.now)) }
     requires second { IsTrue (is_sound_value (value_tree v.now)) }
     requires third { IsTrue (is_sound_value (value_tree w.now)) }
+    requires callable { F.IsAlwaysCallable f.now }
     ensures sound { AnswersSound3 F.Fn f.now
         → IfOk result (λ r. IsTrue (is_sound_value (value_tree r))) }
     ensures value { (rule : V.Scalar → V.Scalar → V.Scalar → V.Scalar)
