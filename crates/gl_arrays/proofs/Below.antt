@@ -1,5 +1,5 @@
 -- Values one under the other.
-use Rattle.std.proofs.Common.{◌≡◌, ℕ, ◌+◌, ◌-◌, ◌<◌, ◌≤◌, false, nat_lt, List, [], ◌∷◌, ◌++◌, length, map, replicate, refl, ap, sym, ◌∙◌, arith}
+use Rattle.std.proofs.Common.{◌≡◌, ℕ, ◌+◌, ◌-◌, ◌<◌, ◌≤◌, max, false, nat_lt, List, [], ◌∷◌, ◌++◌, length, map, replicate, refl, ap, sym, ◌∙◌, arith}
 use Rattle.std.specs.List.{range_with_len, flat_map}
 use Rattle.std.proofs.lemmas.Bool.Decides.{nat_tests}
 use Rattle.std.proofs.lemmas.List.{map-append}
@@ -10,9 +10,20 @@ use Rattle.gl_calculus.specs.Value.{Scalar, Value}
 use Rattle.gl_calculus.specs.Lift.{item, shape, table, rows, from_rows}
 use Rattle.gl_calculus.specs.Functions.{padded, greatest_cols, vstack}
 use Rattle.gl_arrays.specs.Parts.{row}
-use Rattle.gl_arrays.specs.Stacks.{total_rows, below}
+use Rattle.gl_arrays.specs.Stacks.{total, greatest, stacked}
+use Rattle.gl_arrays.specs.declared.stacks.Axis.TheVariants.{Rows, Columns}
 use Rattle.gl_arrays.proofs.Ranges.{map_same, map_shift, map_map, map_const, range_append}
 use Rattle.gl_arrays.proofs.Tables.{from_rows_are, beyond_cols, test_lt}
+
+abbrev pub total_rows : List Value → ℕ
+total_rows vs = total Rows vs
+
+abbrev pub below : List Value → ℕ → ℕ → Scalar
+below vs = stacked Rows vs
+
+pub greatest_is : (vs : List Value) → greatest Columns vs ≡ greatest_cols vs
+greatest_is [] = refl
+greatest_is (v ∷ vs) = ap (λ n. max (shape v).cols n) (greatest_is vs)
 
 abbrev pub HaveRows : List Value → Type 0
 HaveRows [] = Unit {0}

@@ -13,9 +13,19 @@ use Rattle.gl_calculus.specs.Sound.{is_sound_value}
 use Rattle.gl_value.specs.View.{value_tree}
 use Rattle.gl_value.specs.declared.Value as Code
 use Rattle.gl_arrays.specs.Parts.{row}
-use Rattle.gl_arrays.specs.Stacks.{total_rows, total_cols, greatest_rows, below, beside}
+use Rattle.gl_arrays.specs.Stacks.{total, greatest, stacked}
+use Rattle.gl_arrays.specs.declared.stacks.Axis.TheVariants.{Rows, Columns}
 use Rattle.gl_arrays.proofs.Tables.{rows_are, extents_small, cells_few, small_table, table_item, table_rows, table_same, table_large, beyond_rows, beyond_cols}
-use Rattle.gl_arrays.proofs.Below.{HaveRows, vstack_is}
+use Rattle.gl_arrays.proofs.Below.{total_rows, below, greatest_is, HaveRows, vstack_is}
+
+abbrev pub total_cols : List Value → ℕ
+total_cols vs = total Columns vs
+
+abbrev pub greatest_rows : List Value → ℕ
+greatest_rows vs = greatest Rows vs
+
+abbrev pub beside : List Value → ℕ → ℕ → Scalar
+beside vs i j = stacked Columns vs j i
 
 abbrev pub AreSound : List Value → Type 0
 AreSound [] = Unit {0}
@@ -41,7 +51,7 @@ pub some_greatest_rows : (vs : List Value) → AreSound vs → 1 ≤ length vs �
 some_greatest_rows [] h l = absurd (omega arith)
 some_greatest_rows (v ∷ vs) h l = let e = extents_small v h.0 in omega (arith, e.0)
 
-pub some_greatest_cols : (vs : List Value) → AreSound vs → 1 ≤ length vs → 0 < greatest_cols vs
+pub some_greatest_cols : (vs : List Value) → AreSound vs → 1 ≤ length vs → 0 < greatest Columns vs
 some_greatest_cols [] h l = absurd (omega arith)
 some_greatest_cols (v ∷ vs) h l = let e = extents_small v h.0 in omega (arith, e.1)
 
@@ -137,10 +147,10 @@ hstack_sound vs h l =
 
 -- ---- what the code finds of the values
 
-pub vstack_fits : (vs : List Value) (m n : ℕ) → AreSound vs → 1 ≤ length vs → m ≡ total_rows vs → n ≡ greatest_cols vs → table (size m n) (below vs) ≡ vstack vs
-vstack_fits vs m n h l e f = rw (e, f) (sym (vstack_sound vs h l))
+pub vstack_fits : (vs : List Value) (m n : ℕ) → AreSound vs → 1 ≤ length vs → m ≡ total_rows vs → n ≡ greatest Columns vs → table (size m n) (below vs) ≡ vstack vs
+vstack_fits vs m n h l e f = rw (e, f, greatest_is vs) (sym (vstack_sound vs h l))
 
-pub vstack_large : (vs : List Value) (m n : ℕ) → AreSound vs → 1 ≤ length vs → m ≡ total_rows vs → n ≡ greatest_cols vs → 10000 < m * n → One (Scalar.Err ErrKind.Size) ≡ vstack vs
+pub vstack_large : (vs : List Value) (m n : ℕ) → AreSound vs → 1 ≤ length vs → m ≡ total_rows vs → n ≡ greatest Columns vs → 10000 < m * n → One (Scalar.Err ErrKind.Size) ≡ vstack vs
 vstack_large vs m n h l e f g = sym (table_large m n (below vs) g) ∙ vstack_fits vs m n h l e f
 
 pub hstack_fits : (vs : List Value) (m n : ℕ) → AreSound vs → 1 ≤ length vs → m ≡ greatest_rows vs → n ≡ total_cols vs → table (size m n) (beside vs) ≡ hstack vs

@@ -8,7 +8,9 @@ use Rattle.gl_calculus.specs.Value.{Scalar, Value}
 use Rattle.gl_calculus.specs.Lift.{item, shape, rows}
 use Rattle.gl_calculus.specs.Functions.{kept, left_over, kept_part, left_over_part}
 use Rattle.gl_calculus.specs.Sound.{is_sound_value}
-use Rattle.gl_arrays.specs.Parts.{row, window, kept_start, kept_count, left_start, left_count}
+use Rattle.gl_arrays.specs.Parts.{row, window, kept_start, kept_count, left_start, left_count, start_of, count_of, rule_of}
+use Rattle.gl_arrays.specs.declared.parts.Part.{Part}
+use Rattle.gl_arrays.specs.declared.parts.Part.TheVariants.{Kept, LeftOver}
 use Rattle.gl_arrays.proofs.Ranges.{map_same, map_shift, map_map, take_map, drop_map}
 use Rattle.gl_arrays.proofs.Tables.{rows_are, beyond_rows, beyond_cols, extents_small}
 
@@ -65,14 +67,19 @@ windows v p q a m b n h e f =
     ∙ map_same (λ i. q (row v (a + i))) (λ i. map (λ j. item v (a + i) (b + j)) (range_with_len 0 n)) 0 m (λ i _ _. f (item v (a + i)))
     )
 
-pub kept_window : (v : Value) (m n : ℤ) (r c a k b l : ℕ) → IsTrue (is_sound_value v) → r ≡ (shape v).rows → c ≡ (shape v).cols → a ≡ kept_start m r → k ≡ kept_count m r → b ≡ kept_start n c → l ≡ kept_count n c
+kept_window : (v : Value) (m n : ℤ) (r c a k b l : ℕ) → IsTrue (is_sound_value v) → r ≡ (shape v).rows → c ≡ (shape v).cols → a ≡ kept_start m r → k ≡ kept_count m r → b ≡ kept_start n c → l ≡ kept_count n c
     → window v a k b l ≡ kept_part m n (rows v)
 kept_window v m n r c a k b l h er ec ea ek eb el =
     rw (ea, ek, eb, el, er, ec)
     (windows v (kept m) (kept n) (kept_start m (shape v).rows) (kept_count m (shape v).rows) (kept_start n (shape v).cols) (kept_count n (shape v).cols) h (kept_is (row v) m (shape v).rows) (λ g. kept_is g n (shape v).cols))
 
-pub left_window : (v : Value) (m n : ℤ) (r c a k b l : ℕ) → IsTrue (is_sound_value v) → r ≡ (shape v).rows → c ≡ (shape v).cols → a ≡ left_start m r → k ≡ left_count m r → b ≡ left_start n c → l ≡ left_count n c
+left_window : (v : Value) (m n : ℤ) (r c a k b l : ℕ) → IsTrue (is_sound_value v) → r ≡ (shape v).rows → c ≡ (shape v).cols → a ≡ left_start m r → k ≡ left_count m r → b ≡ left_start n c → l ≡ left_count n c
     → window v a k b l ≡ left_over_part m n (rows v)
 left_window v m n r c a k b l h er ec ea ek eb el =
     rw (ea, ek, eb, el, er, ec)
     (windows v (left_over m) (left_over n) (left_start m (shape v).rows) (left_count m (shape v).rows) (left_start n (shape v).cols) (left_count n (shape v).cols) h (left_is (row v) m (shape v).rows) (λ g. left_is g n (shape v).cols))
+
+pub part_window : (part : Part) (v : Value) (m n : ℤ) (r c a k b l : ℕ) → IsTrue (is_sound_value v) → r ≡ (shape v).rows → c ≡ (shape v).cols → a ≡ start_of part m r → k ≡ count_of part m r → b ≡ start_of part n c → l ≡ count_of part n c
+    → window v a k b l ≡ rule_of part m n (rows v)
+part_window Kept = kept_window
+part_window LeftOver = left_window

@@ -1,10 +1,15 @@
 -- Places, rows and columns of a value.
-use Rattle.std.specs.Prelude.{ℕ, suc, ◌+◌, ◌-◌, ◌*◌, min, ℤ, pos, negsuc, nat_lt, Bool, ◌&&◌, Ok, Err, Option, None, Some, slice_get, List, map}
+use Rattle.std.specs.Prelude.{◌≡◌, ℕ, suc, ◌+◌, ◌-◌, ◌*◌, min, ℤ, pos, negsuc, nat_lt, Bool, ◌&&◌, Ok, Err, Result, IfOk, Option, None, Some, slice_get, List, map}
 use Rattle.std.specs.List.{range_with_len}
 use Rattle.gl_calculus.specs.ErrKind.{ErrKind}
 use Rattle.gl_calculus.specs.Value.{Scalar, Int, Value}
 use Rattle.gl_calculus.specs.Lift.{item, shape}
-use Rattle.gl_calculus.specs.Functions.{Try, when, is_column_beside, keeps}
+use Rattle.gl_calculus.specs.Functions.{Try, when, is_column_beside, keeps, kept_part, left_over_part, part_of, value_or_error}
+use Rattle.gl_plane.specs.declared.NoMemory.{NoMemory}
+use Rattle.gl_value.specs.View.{value_tree}
+use Rattle.gl_value.specs.declared.Value as Code
+use Rattle.gl_arrays.specs.declared.parts.Part.{Part}
+use Rattle.gl_arrays.specs.declared.parts.Part.TheVariants.{Kept, LeftOver}
 
 -- a place within the extent
 abbrev pub within : ℕ → Try ℕ → Try ℕ
@@ -44,6 +49,23 @@ left_start (negsuc n) extent = 0
 abbrev pub left_count : ℤ → ℕ → ℕ
 left_count (pos n) extent = extent - n
 left_count (negsuc n) extent = extent - suc n
+
+-- the same of either
+abbrev pub start_of : Part → ℤ → ℕ → ℕ
+start_of Kept n extent = kept_start n extent
+start_of LeftOver n extent = left_start n extent
+
+abbrev pub count_of : Part → ℤ → ℕ → ℕ
+count_of Kept n extent = kept_count n extent
+count_of LeftOver n extent = left_count n extent
+
+abbrev pub rule_of : Part → ℤ → ℤ → List (List Scalar) → List (List Scalar)
+rule_of Kept m n rows = kept_part m n rows
+rule_of LeftOver m n rows = left_over_part m n rows
+
+-- the answer is what a rule makes of the rows of the value by two numbers
+abbrev pub IsPart : Result Code.Value NoMemory → (ℤ → ℤ → List (List Scalar) → List (List Scalar)) → Code.Value → Code.Value → Code.Value → Type 0
+IsPart r rule v m n = IfOk r (λ w. value_tree w ≡ value_or_error (part_of rule (value_tree v) (value_tree m) (value_tree n)))
 
 -- m rows from row a on of n columns from column b on
 abbrev pub window : Value → ℕ → ℕ → ℕ → ℕ → List (List Scalar)

@@ -1,26 +1,38 @@
 -- Values one under the other, and side by side.
-use Rattle.std.specs.Prelude.{ℕ, ◌+◌, ◌-◌, max, nat_lt, List, [], ◌∷◌, if◌then◌else◌}
+use Rattle.std.specs.Prelude.{ℕ, ◌+◌, ◌-◌, ◌≤◌, max, nat_lt, List, [], ◌∷◌, All, IsTrue, length, if◌then◌else◌}
 use Rattle.gl_calculus.specs.ErrKind.{ErrKind}
 use Rattle.gl_calculus.specs.Value.{Scalar, Value}
+use Rattle.gl_calculus.specs.Limits.{max_arguments}
 use Rattle.gl_calculus.specs.Lift.{item, shape}
+use Rattle.gl_calculus.specs.Sound.{is_sound_value}
+use Rattle.gl_value.specs.View.{value_tree}
+use Rattle.gl_value.specs.declared.Value as Code
+use Rattle.gl_arrays.specs.declared.stacks.Axis.{Axis}
+use Rattle.gl_arrays.specs.declared.stacks.Axis.TheVariants.{Rows, Columns}
 
-abbrev pub total_rows : List Value → ℕ
-total_rows [] = 0
-total_rows (v ∷ vs) = (shape v).rows + total_rows vs
+-- at least one value, and not too many, which are sound
+abbrev pub AreStackable : List Code.Value → Type 0
+AreStackable vs = (1 ≤ length vs) × (length vs ≤ max_arguments) × All (λ v. IsTrue (is_sound_value (value_tree v))) vs
 
-abbrev pub total_cols : List Value → ℕ
-total_cols [] = 0
-total_cols (v ∷ vs) = (shape v).cols + total_cols vs
+-- how many rows or columns a value has
+abbrev pub extent : Axis → Value → ℕ
+extent Rows v = (shape v).rows
+extent Columns v = (shape v).cols
 
-abbrev pub greatest_rows : List Value → ℕ
-greatest_rows [] = 0
-greatest_rows (v ∷ vs) = max (shape v).rows (greatest_rows vs)
+abbrev pub total : Axis → List Value → ℕ
+total axis [] = 0
+total axis (v ∷ vs) = extent axis v + total axis vs
 
--- the element in a row and a column of values one under the other, and side by side
-abbrev pub below : List Value → ℕ → ℕ → Scalar
-below [] i j = Scalar.Err ErrKind.Na
-below (v ∷ vs) i j = if nat_lt i (shape v).rows then item v i j else below vs (i - (shape v).rows) j
+abbrev pub greatest : Axis → List Value → ℕ
+greatest axis [] = 0
+greatest axis (v ∷ vs) = max (extent axis v) (greatest axis vs)
 
-abbrev pub beside : List Value → ℕ → ℕ → Scalar
-beside [] i j = Scalar.Err ErrKind.Na
-beside (v ∷ vs) i j = if nat_lt j (shape v).cols then item v i j else beside vs i (j - (shape v).cols)
+-- the element at a place along the axis and one across it
+abbrev pub item_along : Axis → Value → ℕ → ℕ → Scalar
+item_along Rows v at across = item v at across
+item_along Columns v at across = item v across at
+
+-- the same of values that stand along the axis, one after the other
+abbrev pub stacked : Axis → List Value → ℕ → ℕ → Scalar
+stacked axis [] at across = Scalar.Err ErrKind.Na
+stacked axis (v ∷ vs) at across = if nat_lt at (extent axis v) then item_along axis v at across else stacked axis vs (at - extent axis v) across

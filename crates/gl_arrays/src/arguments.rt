@@ -7,7 +7,6 @@ ghost use Rattle.gl_arrays.specs.{Answers.continued, Parts.within};
 use gl_value::{ErrKind, Scalar, Value};
 
 /// A scalar error of an argument.
-#[tactic(auto, using(gl_value::specs::Forms::trees))]
 pub fn no_error(v: &Value) -> Result<(), ErrKind>
     ensures { continued (λ u. Ok (value_tree v.now)) result ≡ F.no_error (value_tree v.now) }
 {
@@ -18,7 +17,6 @@ pub fn no_error(v: &Value) -> Result<(), ErrKind>
 }
 
 /// An argument that is a number: a blank is 0, an error passes, and all else is `#VALUE!`.
-#[tactic(auto, using(gl_value::specs::Forms::trees))]
 pub fn number(v: &Value) -> Result<i64, ErrKind>
     ensures { continued (λ n. Ok n) result ≡ F.number (value_tree v.now) }
 {

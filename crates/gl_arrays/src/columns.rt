@@ -1,6 +1,6 @@
 //! Values of one column.
 ghost use Rattle.std.specs.Prelude.{◌≡◌, IsTrue};
-ghost use Rattle.gl_calculus.specs.{Lift.item, Lift.shape, Operators.agrees, Sound.is_sound_value};
+ghost use Rattle.gl_calculus.specs.{Lift.item, Operators.agrees, Sound.is_sound_value};
 ghost use Rattle.gl_calculus.specs.Functions as F;
 ghost use Rattle.gl_value.specs.View.{scalar_tree, value_tree};
 
@@ -16,7 +16,6 @@ pub fn is_column_beside(u: &Value, v: &Value) -> bool
 }
 
 /// The first element of a row agrees with the scalar under `=`.
-#[tactic(auto, using(gl_value::specs::Forms::trees))]
 pub fn agrees_at(v: &Value, i: u16, x: &Scalar) -> bool
     requires { IsTrue (is_sound_value (value_tree v.now)) }
     ensures { result ≡ agrees (item (value_tree v.now) i 0) (scalar_tree x.now) }

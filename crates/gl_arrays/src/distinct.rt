@@ -1,8 +1,6 @@
 //! Rows without those that stand before.
 ghost use Rattle.std.specs.Prelude.{◌≡◌, ◌≤◌, [], IsTrue, IfOk, vec_len, map};
-ghost use Rattle.std.specs.List.{range_with_len};
-ghost use Rattle.gl_calculus.specs.{Limits.max_cells, Lift.shape, Lift.from_rows};
-ghost use Rattle.gl_calculus.specs.{Sound.is_sound_value};
+ghost use Rattle.gl_calculus.specs.{Limits.max_cells, Lift.from_rows, Sound.is_sound_value};
 ghost use Rattle.gl_calculus.specs.Lift as L;
 ghost use Rattle.gl_calculus.specs.Functions as F;
 ghost use Rattle.gl_value.specs.View.{scalar_tree, value_tree};
@@ -61,7 +59,6 @@ fn distinct(alloc: Global, v: &Value) -> Result<Value, NoMemory>
 
 /// UNIQUE: an array's distinct rows in the order of their first occurrence, equal by structure; a
 /// scalar as it is, an error too.
-#[tactic(auto, using(gl_value::specs::Forms::trees))]
 pub fn unique(alloc: Global, v: &Value) -> Result<Value, NoMemory>
     requires { IsTrue (is_sound_value (value_tree v.now)) }
     ensures sound { IfOk result (λ r. IsTrue (is_sound_value (value_tree r))) }

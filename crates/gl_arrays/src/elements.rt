@@ -15,7 +15,6 @@ use gl_value::{ErrKind, Scalar, Value};
 use std::alloc::Global;
 
 /// The element at a row and a column, from 0, shared; `#N/A` beyond the extents.
-#[tactic(auto, using(gl_value::specs::Forms::trees))]
 pub fn item(v: &Value, i: u16, j: u16) -> Result<Scalar, NoMemory>
     requires { IsTrue (is_sound_value (value_tree v.now)) }
     ensures sound { IfOk result (λ x. IsTrue (is_sound_scalar (scalar_tree x))) }
@@ -41,11 +40,8 @@ fn place(v: &Value, r: &Value, c: &Value) -> Result<(u16, u16), ErrKind>
 
 /// INDEX: the element in a row and a column, from 1. A scalar error of the first argument comes
 /// first, then those of the numbers; outside the extents it is `#REF!`.
-#[tactic(auto, using(gl_value::specs::Forms::trees))]
 pub fn index(_alloc: Global, v: &Value, r: &Value, c: &Value) -> Result<Scalar, NoMemory>
     requires value { IsTrue (is_sound_value (value_tree v.now)) }
-    requires row { IsTrue (is_sound_value (value_tree r.now)) }
-    requires column { IsTrue (is_sound_value (value_tree c.now)) }
     ensures sound { IfOk result (λ x. IsTrue (is_sound_scalar (scalar_tree x))) }
     ensures value { IfOk result (λ x. V.Value.One (scalar_tree x)
         ≡ F.value_or_error (F.index (value_tree v.now) (value_tree r.now) (value_tree c.now))) }
@@ -57,7 +53,6 @@ pub fn index(_alloc: Global, v: &Value, r: &Value, c: &Value) -> Result<Scalar, 
 }
 
 /// What LOOKUP looks for: any scalar but an error or a sheet value.
-#[tactic(auto, using(gl_value::specs::Forms::trees))]
 fn sought(x: &Value) -> Result<&Scalar, ErrKind>
     ensures { continued (λ s. Ok (scalar_tree s.now)) result ≡ F.sought (value_tree x.now) }
 {
@@ -117,9 +112,7 @@ fn looked_up(x: &Scalar, keys: &Value, values: &Value) -> Result<Scalar, NoMemor
 /// An error of the first argument passes, and a sheet value or an array there is `#VALUE!`. Then
 /// come scalar errors of the keys and of the values, which must both have one column and equally
 /// many rows, or else the result is `#VALUE!`.
-#[tactic(auto, using(gl_value::specs::Forms::trees))]
 pub fn lookup(_alloc: Global, x: &Value, keys: &Value, values: &Value) -> Result<Scalar, NoMemory>
-    requires sought { IsTrue (is_sound_value (value_tree x.now)) }
     requires keys { IsTrue (is_sound_value (value_tree keys.now)) }
     requires values { IsTrue (is_sound_value (value_tree values.now)) }
     ensures sound { IfOk result (λ y. IsTrue (is_sound_scalar (scalar_tree y))) }

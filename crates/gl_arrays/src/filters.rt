@@ -6,7 +6,7 @@ ghost use Rattle.gl_calculus.specs.{Sound.is_sound_value};
 ghost use Rattle.gl_calculus.specs.ErrKind as E;
 ghost use Rattle.gl_calculus.specs.Lift as L;
 ghost use Rattle.gl_calculus.specs.Functions as F;
-ghost use Rattle.gl_value.specs.View.{error_tree, scalar_tree, value_tree};
+ghost use Rattle.gl_value.specs.View.{error_tree, value_tree};
 ghost use Rattle.gl_arrays.specs.{Answers.continued, Parts.column_from, Parts.keeps_row};
 
 use crate::arguments::no_error;
@@ -18,7 +18,6 @@ use gl_value::{ErrKind, Scalar, Value};
 use std::alloc::Global;
 
 /// What makes the first element of a row no truth: all but a truth value or a blank.
-#[tactic(auto, using(gl_value::specs::Forms::trees))]
 fn fault_at(keep: &Value, i: u16) -> Option<ErrKind>
     requires { IsTrue (is_sound_value (value_tree keep.now)) }
     ensures { option_map error_tree result ≡ F.truth_fault (L.item (value_tree keep.now) i 0) }
@@ -33,7 +32,6 @@ fn fault_at(keep: &Value, i: u16) -> Option<ErrKind>
 }
 
 /// The first element of a row is TRUE.
-#[tactic(auto, using(gl_value::specs::Forms::trees))]
 fn keeps_at(keep: &Value, i: u16) -> bool
     requires { IsTrue (is_sound_value (value_tree keep.now)) }
     ensures { result ≡ keeps_row (value_tree keep.now) i }
@@ -101,7 +99,6 @@ fn can_filter(v: &Value, keep: &Value) -> Result<(), ErrKind>
 }
 
 /// The array of the rows whose element of the column is TRUE; `#N/A` where there is none.
-#[tactic(auto, using(gl_value::specs::Forms::trees))]
 fn filtered(alloc: Global, v: &Value, keep: &Value) -> Result<Value, NoMemory>
     requires column { IsTrue (F.is_column_beside (value_tree keep.now) (value_tree v.now)) }
     requires value { IsTrue (is_sound_value (value_tree v.now)) }
@@ -126,7 +123,6 @@ fn filtered(alloc: Global, v: &Value, keep: &Value) -> Result<Value, NoMemory>
 /// one column and the first's rows, or else the result is `#VALUE!`; then the first of its elements
 /// that is an error, or `#VALUE!` for one that is neither a truth value nor blank, is the result. A
 /// blank counts as FALSE. No row gives `#N/A`. The result is an array, also of a scalar.
-#[tactic(auto, using(gl_value::specs::Forms::trees))]
 pub fn filter(alloc: Global, v: &Value, keep: &Value) -> Result<Value, NoMemory>
     requires value { IsTrue (is_sound_value (value_tree v.now)) }
     requires keep { IsTrue (is_sound_value (value_tree keep.now)) }

@@ -1,5 +1,5 @@
 //! Functions on arrays: extents, elements, sequences, parts, stacks and distinct rows.
-#![tactic(auto)]
+#![tactic(auto, using(gl_value::specs::Forms::trees))]
 
 mod arguments;
 mod columns;

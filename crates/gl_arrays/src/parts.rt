@@ -1,12 +1,12 @@
 //! Parts of an array: some of its rows and columns.
-ghost use Rattle.std.specs.Prelude.{◌≡◌, ◌≤◌, ◌+◌, IsTrue, IfOk, min, List};
+ghost use Rattle.std.specs.Prelude.{◌≡◌, ◌+◌, IsTrue, IfOk, min};
 ghost use Rattle.gl_calculus.specs.Sound.{is_sound_scalar, is_sound_value};
 ghost use Rattle.gl_calculus.specs.ErrKind as E;
-ghost use Rattle.gl_calculus.specs.Value as V;
 ghost use Rattle.gl_calculus.specs.Lift as L;
 ghost use Rattle.gl_calculus.specs.Functions as F;
 ghost use Rattle.gl_value.specs.View.{scalar_tree, value_tree};
-ghost use Rattle.gl_arrays.specs.Parts.{kept_start, kept_count, left_start, left_count, window};
+ghost use Rattle.gl_arrays.specs.Parts.{kept_start, kept_count, left_start, left_count, start_of};
+ghost use Rattle.gl_arrays.specs.Parts.{count_of, rule_of, window, IsPart};
 ghost use Rattle.gl_arrays.specs.Answers.{continued};
 
 use crate::arguments::{no_error, number};
@@ -21,6 +21,13 @@ use std::alloc::Global;
 struct Span {
     start: u16,
     count: u16,
+}
+
+/// Which rows and columns are meant: those that TAKE keeps, or those that DROP leaves.
+#[derive(Clone, Copy)]
+enum Part {
+    Kept,
+    LeftOver,
 }
 
 /// The number, or the extent where that is smaller.
@@ -57,8 +64,18 @@ fn left_over(n: i64, extent: u16) -> Span
     }
 }
 
+/// The rows or columns that are meant by a number.
+fn span_of(part: Part, n: i64, extent: u16) -> Span
+    ensures start { result.start ≡ start_of part n extent }
+    ensures count { result.count ≡ count_of part n extent }
+{
+    match part {
+        Part::Kept => kept(n, extent),
+        Part::LeftOver => left_over(n, extent),
+    }
+}
+
 /// The element so many rows and columns after a place, shared; `#N/A` beyond the extents.
-#[tactic(auto, using(gl_value::specs::Forms::trees))]
 fn item_after(v: &Value, row: u16, col: u16, i: u16, j: u16) -> Result<Scalar, NoMemory>
     requires { IsTrue (is_sound_value (value_tree v.now)) }
     ensures sound { IfOk result (λ x. IsTrue (is_sound_scalar (scalar_tree x))) }
@@ -75,8 +92,7 @@ fn item_after(v: &Value, row: u16, col: u16, i: u16, j: u16) -> Result<Scalar, N
 }
 
 /// The array of these rows and columns of a value; `#VALUE!` where there are none.
-#[tactic(auto, using(gl_value::specs::Forms::trees))]
-fn part(alloc: Global, v: &Value, rows: Span, cols: Span) -> Result<Value, NoMemory>
+fn window(alloc: Global, v: &Value, rows: Span, cols: Span) -> Result<Value, NoMemory>
     requires { IsTrue (is_sound_value (value_tree v.now)) }
     ensures sound { IfOk result (λ r. IsTrue (is_sound_value (value_tree r))) }
     ensures value { IfOk result (λ r.
@@ -94,36 +110,32 @@ fn part(alloc: Global, v: &Value, rows: Span, cols: Span) -> Result<Value, NoMem
     })
 }
 
-/// The rows and columns that TAKE keeps.
-fn kept_spans(v: &Value, m: &Value, n: &Value) -> Result<(Span, Span), ErrKind>
+/// The rows and columns that are meant by two numbers.
+fn spans(part: Part, v: &Value, m: &Value, n: &Value) -> Result<(Span, Span), ErrKind>
     requires { IsTrue (is_sound_value (value_tree v.now)) }
     ensures { continued
         (λ s.
         F.some_rows E.ErrKind.Value
         (window (value_tree v.now) s.0.start s.0.count s.1.start s.1.count)) result
-        ≡ F.part_of F.kept_part (value_tree v.now) (value_tree m.now) (value_tree n.now) }
+        ≡ F.part_of (rule_of part) (value_tree v.now) (value_tree m.now) (value_tree n.now) }
 {
     no_error(v)?;
     let m = number(m)?;
     let n = number(n)?;
     let (rows, cols) = extents(v);
-    Ok((kept(m, rows), kept(n, cols)))
+    Ok((span_of(part, m, rows), span_of(part, n, cols)))
 }
 
-/// The rows and columns that DROP leaves.
-fn left_spans(v: &Value, m: &Value, n: &Value) -> Result<(Span, Span), ErrKind>
+/// The array of the rows and columns that are meant by two numbers.
+fn part_of(alloc: Global, part: Part, v: &Value, m: &Value, n: &Value) -> Result<Value, NoMemory>
     requires { IsTrue (is_sound_value (value_tree v.now)) }
-    ensures { continued
-        (λ s.
-        F.some_rows E.ErrKind.Value
-        (window (value_tree v.now) s.0.start s.0.count s.1.start s.1.count)) result
-        ≡ F.part_of F.left_over_part (value_tree v.now) (value_tree m.now) (value_tree n.now) }
+    ensures sound { IfOk result (λ r. IsTrue (is_sound_value (value_tree r))) }
+    ensures value { IsPart result (rule_of part) v.now m.now n.now }
 {
-    no_error(v)?;
-    let m = number(m)?;
-    let n = number(n)?;
-    let (rows, cols) = extents(v);
-    Ok((left_over(m, rows), left_over(n, cols)))
+    match spans(part, v, m, n) {
+        Ok((rows, cols)) => window(alloc, v, rows, cols),
+        Err(k) => Ok(Value::One(Scalar::Err(k))),
+    }
 }
 
 /// TAKE: the first m rows, or the last where m is negative, all where there are fewer; and n
@@ -131,21 +143,12 @@ fn left_spans(v: &Value, m: &Value, n: &Value) -> Result<(Span, Span), ErrKind>
 ///
 /// A scalar error of the value comes first, then errors of the numbers, and `#VALUE!` where one is
 /// 0. The result is an array, also of a scalar.
-#[tactic(auto, using(gl_value::specs::Forms::trees))]
 pub fn take(alloc: Global, v: &Value, m: &Value, n: &Value) -> Result<Value, NoMemory>
     requires value { IsTrue (is_sound_value (value_tree v.now)) }
-    requires rows { IsTrue (is_sound_value (value_tree m.now)) }
-    requires columns { IsTrue (is_sound_value (value_tree n.now)) }
     ensures sound { IfOk result (λ r. IsTrue (is_sound_value (value_tree r))) }
-    ensures value { IfOk result (λ r.
-        value_tree r
-        ≡ F.value_or_error
-        (F.part_of F.kept_part (value_tree v.now) (value_tree m.now) (value_tree n.now))) }
+    ensures value { IsPart result F.kept_part v.now m.now n.now }
 {
-    match kept_spans(v, m, n) {
-        Ok((rows, cols)) => part(alloc, v, rows, cols),
-        Err(k) => Ok(Value::One(Scalar::Err(k))),
-    }
+    part_of(alloc, Part::Kept, v, m, n)
 }
 
 /// DROP: what is left when the first m rows, or the last where m is negative, and n columns in the
@@ -153,19 +156,10 @@ pub fn take(alloc: Global, v: &Value, m: &Value, n: &Value) -> Result<Value, NoM
 ///
 /// A scalar error of the value comes first, then errors of the numbers, and `#VALUE!` where nothing
 /// is left. The result is an array, also of a scalar.
-#[tactic(auto, using(gl_value::specs::Forms::trees))]
 pub fn drop_part(alloc: Global, v: &Value, m: &Value, n: &Value) -> Result<Value, NoMemory>
     requires value { IsTrue (is_sound_value (value_tree v.now)) }
-    requires rows { IsTrue (is_sound_value (value_tree m.now)) }
-    requires columns { IsTrue (is_sound_value (value_tree n.now)) }
     ensures sound { IfOk result (λ r. IsTrue (is_sound_value (value_tree r))) }
-    ensures value { IfOk result (λ r.
-        value_tree r
-        ≡ F.value_or_error
-        (F.part_of F.left_over_part (value_tree v.now) (value_tree m.now) (value_tree n.now))) }
+    ensures value { IsPart result F.left_over_part v.now m.now n.now }
 {
-    match left_spans(v, m, n) {
-        Ok((rows, cols)) => part(alloc, v, rows, cols),
-        Err(k) => Ok(Value::One(Scalar::Err(k))),
-    }
+    part_of(alloc, Part::LeftOver, v, m, n)
 }

@@ -12,7 +12,6 @@ use gl_value::{ErrKind, Scalar, Value};
 use std::alloc::Global;
 
 /// The element in a column of the row that is listed at a place, shared.
-#[tactic(auto, using(gl_value::specs::Forms::trees))]
 fn item_in(v: &Value, rows: &[u16], i: u16, j: u16) -> Result<Scalar, NoMemory>
     requires { IsTrue (is_sound_value (value_tree v.now)) }
     ensures sound { IfOk result (λ x. IsTrue (is_sound_scalar (scalar_tree x))) }
@@ -25,7 +24,6 @@ fn item_in(v: &Value, rows: &[u16], i: u16, j: u16) -> Result<Scalar, NoMemory>
 }
 
 /// The array of the rows that are listed, from 0.
-#[tactic(auto, using(gl_value::specs::Forms::trees))]
 pub fn listed_rows(alloc: Global, v: &Value, rows: &[u16]) -> Result<Value, NoMemory>
     requires sound { IsTrue (is_sound_value (value_tree v.now)) }
     requires some { 1 ≤ length rows.now }

@@ -1,7 +1,6 @@
 //! Numbered arrays, and arrays with rows and columns exchanged.
-ghost use Rattle.std.specs.Prelude.{◌≡◌, ◌≤◌, ◌<◌, ◌+◌, ◌*◌, pos, IsTrue, IfOk, IfSome, IfNone, Ok};
+ghost use Rattle.std.specs.Prelude.{◌≡◌, ◌≤◌, ◌<◌, ◌+◌, ◌*◌, IsTrue, IfOk, IfSome, IfNone, Ok};
 ghost use Rattle.gl_calculus.specs.{Limits.max_cells, Grid.size, Sound.is_sound_value};
-ghost use Rattle.gl_calculus.specs.Value as V;
 ghost use Rattle.gl_calculus.specs.Lift as L;
 ghost use Rattle.gl_calculus.specs.Functions as F;
 ghost use Rattle.gl_value.specs.View.{scalar_tree, value_tree};
@@ -45,7 +44,6 @@ fn extents_of(m: &Value, n: &Value) -> Result<(u64, u64), ErrKind>
 }
 
 /// The number at a place of an array that counts its elements from 1.
-#[tactic(auto, using(gl_value::specs::Forms::trees))]
 fn counted(cols: u16, i: u16, j: u16) -> Scalar
     ensures { scalar_tree result ≡ numbered cols i j }
 {
@@ -53,7 +51,6 @@ fn counted(cols: u16, i: u16, j: u16) -> Scalar
 }
 
 /// The array of these extents that counts its elements, or `#SIZE!`.
-#[tactic(auto, using(gl_value::specs::Forms::trees))]
 fn counting(alloc: Global, rows: u64, cols: u64) -> Result<Value, NoMemory>
     requires some_rows { 1 ≤ rows }
     requires some_cols { 1 ≤ cols }
@@ -70,10 +67,7 @@ fn counting(alloc: Global, rows: u64, cols: u64) -> Result<Value, NoMemory>
 ///
 /// Errors of the numbers come first, then `#VALUE!` where one is below 1, and then `#SIZE!` of more
 /// than 10,000 cells.
-#[tactic(auto, using(gl_value::specs::Forms::trees))]
 pub fn sequence(alloc: Global, m: &Value, n: &Value) -> Result<Value, NoMemory>
-    requires rows { IsTrue (is_sound_value (value_tree m.now)) }
-    requires columns { IsTrue (is_sound_value (value_tree n.now)) }
     ensures sound { IfOk result (λ r. IsTrue (is_sound_value (value_tree r))) }
     ensures value { IfOk result (λ r.
         value_tree r ≡ F.value_or_error (F.sequence (value_tree m.now) (value_tree n.now))) }
@@ -84,26 +78,17 @@ pub fn sequence(alloc: Global, m: &Value, n: &Value) -> Result<Value, NoMemory>
     }
 }
 
-/// The array with the value's rows as columns.
-#[tactic(auto, using(gl_value::specs::Forms::trees))]
-fn flipped(alloc: Global, v: &Value) -> Result<Value, NoMemory>
-    requires { IsTrue (is_sound_value (value_tree v.now)) }
-    ensures sound { IfOk result (λ r. IsTrue (is_sound_value (value_tree r))) }
-    ensures value { IfOk result (λ r. value_tree r ≡ F.flipped (value_tree v.now)) }
-{
-    let (rows, cols) = extents(v);
-    table(alloc, cols, rows, |i, j| item(v, j, i))
-}
-
 /// TRANSPOSE: an array with rows and columns exchanged; a scalar as it is, an error too.
-#[tactic(auto, using(gl_value::specs::Forms::trees))]
 pub fn transpose(alloc: Global, v: &Value) -> Result<Value, NoMemory>
     requires { IsTrue (is_sound_value (value_tree v.now)) }
     ensures sound { IfOk result (λ r. IsTrue (is_sound_value (value_tree r))) }
     ensures value { IfOk result (λ r. value_tree r ≡ F.transpose (value_tree v.now)) }
 {
     match v {
+        Value::Array(_) => {
+            let (rows, cols) = extents(v);
+            table(alloc, cols, rows, |i, j| item(v, j, i))
+        }
         Value::One(x) => Ok(Value::One(x.share()?)),
-        Value::Array(_) => flipped(alloc, v),
     }
 }

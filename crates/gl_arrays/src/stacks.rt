@@ -13,86 +13,75 @@ use gl_plane::NoMemory;
 use gl_value::{ErrKind, Scalar, Value};
 use std::alloc::Global;
 
-/// How many rows the values have together.
-fn total_rows(parts: &[Value]) -> u64
+/// How values stand: one under the other, or side by side.
+#[derive(Clone, Copy)]
+enum Axis {
+    Rows,
+    Columns,
+}
+
+/// How many rows or columns a value has.
+fn extent(axis: Axis, v: &Value) -> u16
+    ensures { result ≡ S.extent axis (value_tree v.now) }
+{
+    let (rows, cols) = extents(v);
+    match axis {
+        Axis::Rows => rows,
+        Axis::Columns => cols,
+    }
+}
+
+/// How many rows or columns the values have together.
+fn total(axis: Axis, parts: &[Value]) -> u64
     requires { length parts.now ≤ max_arguments }
-    ensures { result ≡ S.total_rows (map value_tree parts.now) }
+    ensures { result ≡ S.total axis (map value_tree parts.now) }
 {
     let mut total: u64 = 0;
     for v in parts {
-        total += u64::from(extents(v).0);
+        total += u64::from(extent(axis, v));
     }
     total
 }
 
-/// How many columns the values have together.
-fn total_cols(parts: &[Value]) -> u64
-    requires { length parts.now ≤ max_arguments }
-    ensures { result ≡ S.total_cols (map value_tree parts.now) }
-{
-    let mut total: u64 = 0;
-    for v in parts {
-        total += u64::from(extents(v).1);
-    }
-    total
-}
-
-/// The greatest number of rows.
-fn greatest_rows(parts: &[Value]) -> u16
-    ensures { result ≡ S.greatest_rows (map value_tree parts.now) }
+/// The greatest number of rows or columns.
+fn greatest(axis: Axis, parts: &[Value]) -> u16
+    ensures { result ≡ S.greatest axis (map value_tree parts.now) }
 {
     let mut most: u16 = 0;
     for v in parts {
-        most = most.max(extents(v).0);
+        most = most.max(extent(axis, v));
     }
     most
 }
 
-/// The greatest number of columns.
-fn greatest_cols(parts: &[Value]) -> u16
-    ensures { result ≡ F.greatest_cols (map value_tree parts.now) }
+/// The element at a place along the axis and one across it, shared; `#N/A` beyond the extents.
+fn item_along(axis: Axis, v: &Value, at: u16, across: u16) -> Result<Scalar, NoMemory>
+    requires { IsTrue (is_sound_value (value_tree v.now)) }
+    ensures sound { IfOk result (λ x. IsTrue (is_sound_scalar (scalar_tree x))) }
+    ensures value { IfOk result (λ x.
+        scalar_tree x ≡ S.item_along axis (value_tree v.now) at across) }
 {
-    let mut most: u16 = 0;
-    for v in parts {
-        most = most.max(extents(v).1);
+    match axis {
+        Axis::Rows => item(v, at, across),
+        Axis::Columns => item(v, across, at),
     }
-    most
 }
 
-/// The element in a row and a column of the values one under the other, shared; `#N/A` where one
-/// has fewer columns.
-#[tactic(auto, using(gl_value::specs::Forms::trees))]
-fn below(parts: &[Value], i: u16, j: u16) -> Result<Scalar, NoMemory>
+/// The element at a place along the axis on which the values stand and one across it, shared;
+/// `#N/A` where a value does not reach so far across.
+fn stacked(axis: Axis, parts: &[Value], at: u16, across: u16) -> Result<Scalar, NoMemory>
     requires { All (λ v. IsTrue (is_sound_value (value_tree v))) parts.now }
     ensures sound { IfOk result (λ x. IsTrue (is_sound_scalar (scalar_tree x))) }
-    ensures value { IfOk result (λ x. scalar_tree x ≡ S.below (map value_tree parts.now) i j) }
+    ensures value { IfOk result (λ x.
+        scalar_tree x ≡ S.stacked axis (map value_tree parts.now) at across) }
 {
-    let mut row = i;
+    let mut at = at;
     for v in parts {
-        let rows = extents(v).0;
-        if row < rows {
-            return item(v, row, j);
+        let extent = extent(axis, v);
+        if at < extent {
+            return item_along(axis, v, at, across);
         }
-        row -= rows;
-    }
-    Ok(Scalar::Err(ErrKind::Na))
-}
-
-/// The element in a row and a column of the values side by side, shared; `#N/A` where one has fewer
-/// rows.
-#[tactic(auto, using(gl_value::specs::Forms::trees))]
-fn beside(parts: &[Value], i: u16, j: u16) -> Result<Scalar, NoMemory>
-    requires { All (λ v. IsTrue (is_sound_value (value_tree v))) parts.now }
-    ensures sound { IfOk result (λ x. IsTrue (is_sound_scalar (scalar_tree x))) }
-    ensures value { IfOk result (λ x. scalar_tree x ≡ S.beside (map value_tree parts.now) i j) }
-{
-    let mut col = j;
-    for v in parts {
-        let cols = extents(v).1;
-        if col < cols {
-            return item(v, i, col);
-        }
-        col -= cols;
+        at -= extent;
     }
     Ok(Scalar::Err(ErrKind::Na))
 }
@@ -101,16 +90,14 @@ fn beside(parts: &[Value], i: u16, j: u16) -> Result<Scalar, NoMemory>
 ///
 /// An element is `#N/A` where its array has fewer columns. Scalars count as arrays of one element,
 /// errors too. More than 10,000 cells are `#SIZE!`.
-#[tactic(auto, using(gl_value::specs::Forms::trees))]
 pub fn vstack(alloc: Global, parts: &[Value]) -> Result<Value, NoMemory>
-    requires some { 1 ≤ length parts.now }
-    requires few { length parts.now ≤ max_arguments }
-    requires sound { All (λ v. IsTrue (is_sound_value (value_tree v))) parts.now }
+    requires { S.AreStackable parts.now }
     ensures sound { IfOk result (λ r. IsTrue (is_sound_value (value_tree r))) }
     ensures value { IfOk result (λ r. value_tree r ≡ F.vstack (map value_tree parts.now)) }
 {
-    match fitting(total_rows(parts), u64::from(greatest_cols(parts))) {
-        Some((m, n)) => table(alloc, m, n, |i, j| below(parts, i, j)),
+    let cols = u64::from(greatest(Axis::Columns, parts));
+    match fitting(total(Axis::Rows, parts), cols) {
+        Some((m, n)) => table(alloc, m, n, |i, j| stacked(Axis::Rows, parts, i, j)),
         None => Ok(Value::One(Scalar::Err(ErrKind::Size))),
     }
 }
@@ -119,16 +106,14 @@ pub fn vstack(alloc: Global, parts: &[Value]) -> Result<Value, NoMemory>
 ///
 /// An element is `#N/A` where its array has fewer rows. Scalars count as arrays of one element,
 /// errors too. More than 10,000 cells are `#SIZE!`.
-#[tactic(auto, using(gl_value::specs::Forms::trees))]
 pub fn hstack(alloc: Global, parts: &[Value]) -> Result<Value, NoMemory>
-    requires some { 1 ≤ length parts.now }
-    requires few { length parts.now ≤ max_arguments }
-    requires sound { All (λ v. IsTrue (is_sound_value (value_tree v))) parts.now }
+    requires { S.AreStackable parts.now }
     ensures sound { IfOk result (λ r. IsTrue (is_sound_value (value_tree r))) }
     ensures value { IfOk result (λ r. value_tree r ≡ F.hstack (map value_tree parts.now)) }
 {
-    match fitting(u64::from(greatest_rows(parts)), total_cols(parts)) {
-        Some((m, n)) => table(alloc, m, n, |i, j| beside(parts, i, j)),
+    let rows = u64::from(greatest(Axis::Rows, parts));
+    match fitting(rows, total(Axis::Columns, parts)) {
+        Some((m, n)) => table(alloc, m, n, |i, j| stacked(Axis::Columns, parts, j, i)),
         None => Ok(Value::One(Scalar::Err(ErrKind::Size))),
     }
 }

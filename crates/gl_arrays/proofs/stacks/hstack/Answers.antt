@@ -1,41 +1,42 @@
 use Rattle.std.proofs.Common.{◌≡◌, map, subst, arith, rules, IfOk}
 use Rattle.gl_value.specs.Forms.{scalar_tree-Err, value_tree-One}
 use Rattle.gl_value.specs.View.{value_tree}
-use Rattle.gl_arrays.specs.Stacks as S
-use Rattle.gl_arrays.proofs.Beside.{are_sound_trees, some_trees, some_greatest_rows, some_cols, hstack_fits, hstack_large}
+use Rattle.gl_arrays.specs.Stacks.{total, greatest}
+use Rattle.gl_arrays.specs.declared.stacks.Axis.TheVariants.{Rows, Columns}
+use Rattle.gl_arrays.proofs.Beside.{beside, are_sound_trees, some_trees, some_greatest_rows, some_cols, hstack_fits, hstack_large}
 use Rattle.gl_arrays.proofs.stacks.hstack.Goals as goal
 
 pub fitting-requires-clause-some_rows : goal.fitting-requires-clause-some_rows
 fitting-requires-clause-some_rows c =
-    let h = some_greatest_rows (map value_tree c.args.parts.now) (are_sound_trees c.args.parts.now c.requires.sound) (some_trees c.args.parts.now c.requires.some) in
+    let h = some_greatest_rows (map value_tree c.args.parts.now) (are_sound_trees c.args.parts.now c.requires.2) (some_trees c.args.parts.now c.requires.0) in
     omega (arith, h)
 
 pub fitting-requires-clause-some_cols : goal.fitting-requires-clause-some_cols
 fitting-requires-clause-some_cols c =
-    let h = some_cols (map value_tree c.args.parts.now) (are_sound_trees c.args.parts.now c.requires.sound) (some_trees c.args.parts.now c.requires.some) in
+    let h = some_cols (map value_tree c.args.parts.now) (are_sound_trees c.args.parts.now c.requires.2) (some_trees c.args.parts.now c.requires.0) in
     omega (arith, h)
 
 pub table-requires-clause-some_rows : goal.table-requires-clause-some_rows
 table-requires-clause-some_rows c =
-    let h = some_greatest_rows (map value_tree c.args.parts.now) (are_sound_trees c.args.parts.now c.requires.sound) (some_trees c.args.parts.now c.requires.some) in
+    let h = some_greatest_rows (map value_tree c.args.parts.now) (are_sound_trees c.args.parts.now c.requires.2) (some_trees c.args.parts.now c.requires.0) in
     omega (arith, h, c.in-Some.ensures.some)
 
 pub table-requires-clause-some_cols : goal.table-requires-clause-some_cols
 table-requires-clause-some_cols c =
-    let h = some_cols (map value_tree c.args.parts.now) (are_sound_trees c.args.parts.now c.requires.sound) (some_trees c.args.parts.now c.requires.some) in
+    let h = some_cols (map value_tree c.args.parts.now) (are_sound_trees c.args.parts.now c.requires.2) (some_trees c.args.parts.now c.requires.0) in
     omega (arith, h, c.in-Some.ensures.some)
 
 pub returns-in-Some-clause-value : goal.returns-in-Some-clause-value
 returns-in-Some-clause-value c =
     let parts = map value_tree c.args.parts.now in
-    let rows : c.in-Some.m ≡ S.greatest_rows parts = omega (arith, c.in-Some.ensures.some) in
-    let cols : c.in-Some.n ≡ S.total_cols parts = omega (arith, c.in-Some.ensures.some) in
+    let rows : c.in-Some.m ≡ greatest Rows parts = omega (arith, c.in-Some.ensures.some) in
+    let cols : c.in-Some.n ≡ total Columns parts = omega (arith, c.in-Some.ensures.some) in
     subst (λ t. IfOk c.table.result (λ r. value_tree r ≡ t))
-    (hstack_fits parts c.in-Some.m c.in-Some.n (are_sound_trees c.args.parts.now c.requires.sound) (some_trees c.args.parts.now c.requires.some) rows cols)
-    (c.table.ensures.value (S.beside parts) (λ i j r bi bj post. search rules))
+    (hstack_fits parts c.in-Some.m c.in-Some.n (are_sound_trees c.args.parts.now c.requires.2) (some_trees c.args.parts.now c.requires.0) rows cols)
+    (c.table.ensures.value (beside parts) (λ i j r bi bj post. search rules))
 
 pub returns-in-None-clause-value : goal.returns-in-None-clause-value
 returns-in-None-clause-value c =
     let parts = map value_tree c.args.parts.now in
     rw (value_tree-One, scalar_tree-Err)
-    (hstack_large parts c.from.result c.total_cols.result (are_sound_trees c.args.parts.now c.requires.sound) (some_trees c.args.parts.now c.requires.some) (omega arith) c.total_cols.ensures c.in-None.ensures.none)
+    (hstack_large parts c.from-rows.result c.total.result (are_sound_trees c.args.parts.now c.requires.2) (some_trees c.args.parts.now c.requires.0) (omega arith) c.total.ensures c.in-None.ensures.none)

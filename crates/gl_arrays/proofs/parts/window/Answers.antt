@@ -3,7 +3,7 @@ use Rattle.gl_calculus.specs.ErrKind.{ErrKind}
 use Rattle.gl_calculus.specs.Lift.{item}
 use Rattle.gl_value.specs.View.{value_tree}
 use Rattle.gl_arrays.proofs.Tables.{some_rows_are}
-use Rattle.gl_arrays.proofs.parts.part.Goals as goal
+use Rattle.gl_arrays.proofs.parts.window.Goals as goal
 
 pub returns-clause-value : goal.returns-clause-value
 returns-clause-value c =

@@ -1,7 +1,0 @@
-use Rattle.std.proofs.Common.{◌≡◌, drop, map, max}
-use Rattle.gl_value.specs.View.{value_tree}
-use Rattle.gl_arrays.specs.Stacks.{greatest_rows}
-use Rattle.gl_arrays.proofs.stacks.greatest_rows.Given as goal
-
-abbrev pub invariant-loop-v : goal.invariant-loop-v
-invariant-loop-v l = max l.most (greatest_rows (map value_tree (drop l.v-index l.parts))) ≡ greatest_rows (map value_tree l.parts)
