@@ -12,6 +12,9 @@ use Rattle.gl_calculus.specs.Functions as F
 use Rattle.gl_calculus.specs.Sound.{is_sound_scalar}
 use Rattle.gl_calculus.specs.Value as V
 use Rattle.gl_value.specs.Sound.{text_sound}
+use Rattle.gl_funs.specs.Rules.{cut}
+use Rattle.gl_funs.specs.declared.texts.Side.{Side}
+use Rattle.gl_funs.specs.declared.texts.Side.TheVariants.{First, Last}
 
 -- ---- digits
 
@@ -77,11 +80,15 @@ part_sound part bs ds less u h w e =
     let m : length ds ≤ 4096 = omega (arith, rw (encodes-chars bs u, ← e) at l) in
     rw (← text_sound ds w) (le-leb (length ds) 4096 m)
 
-pub first_sound : (n : ℕ) (bs ds : List ℕ) → IsUtf8 bs → length bs ≤ 4096 → IsUtf8 ds → ds ≡ encode_utf8_all (take n (chars bs)) → IsTrue (is_sound_scalar (V.Scalar.Text ds))
+first_sound : (n : ℕ) (bs ds : List ℕ) → IsUtf8 bs → length bs ≤ 4096 → IsUtf8 ds → ds ≡ encode_utf8_all (take n (chars bs)) → IsTrue (is_sound_scalar (V.Scalar.Text ds))
 first_sound n bs ds = part_sound (take n) bs ds (taken_le n)
 
-pub last_sound : (n : ℕ) (bs ds : List ℕ) → IsUtf8 bs → length bs ≤ 4096 → IsUtf8 ds → ds ≡ encode_utf8_all (F.take_last n (chars bs)) → IsTrue (is_sound_scalar (V.Scalar.Text ds))
+last_sound : (n : ℕ) (bs ds : List ℕ) → IsUtf8 bs → length bs ≤ 4096 → IsUtf8 ds → ds ≡ encode_utf8_all (F.take_last n (chars bs)) → IsTrue (is_sound_scalar (V.Scalar.Text ds))
 last_sound n bs ds = part_sound (F.take_last n) bs ds (λ cs. dropped_le (length cs - n) cs)
+
+pub cut_sound : (side : Side) (n : ℕ) (bs ds : List ℕ) → IsUtf8 bs → length bs ≤ 4096 → IsUtf8 ds → ds ≡ encode_utf8_all (cut side n (chars bs)) → IsTrue (is_sound_scalar (V.Scalar.Text ds))
+cut_sound First = first_sound
+cut_sound Last = last_sound
 
 pub signed_short : (n : ℤ) → FitsSigned w64 n → length (signed_decimal n) ≤ 4096
 signed_short n h = omega (arith, length_signed_le 19 n (omega (arith, h.sfits)) h.sfits)

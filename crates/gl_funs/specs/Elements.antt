@@ -1,6 +1,7 @@
 -- The elements of several values, one after the other.
-use Rattle.std.specs.Prelude.{ℕ, List, [], ◌∷◌, ◌++◌, drop, map, IsTrue}
+use Rattle.std.specs.Prelude.{ℕ, ◌≤◌, List, [], ◌∷◌, ◌++◌, drop, length, map, IsTrue}
 use Rattle.std.specs.List.{All}
+use Rattle.gl_calculus.specs.Limits.{max_arguments}
 use Rattle.gl_calculus.specs.Value as V
 use Rattle.gl_calculus.specs.Value.{elements}
 use Rattle.gl_calculus.specs.Sound.{is_sound_value}
@@ -10,6 +11,10 @@ use Rattle.gl_value.specs.declared.Value.{Value}
 
 abbrev pub AreSound : List Value → Type 0
 AreSound vs = All (λ v. IsTrue (is_sound_value (value_tree v))) vs
+
+-- sound values, and not too many
+abbrev pub AreArguments : List Value → Type 0
+AreArguments vs = (length vs ≤ max_arguments) × AreSound vs
 
 -- all elements of the values, in order
 abbrev pub elements_of : List Value → List V.Scalar

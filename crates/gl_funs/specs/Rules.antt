@@ -1,9 +1,19 @@
 -- The functions taken apart as the code takes them.
-use Rattle.std.specs.Prelude.{ℕ, ℤ, pos, ◌+ℤ◌, Bool, List, fold, filter_map, Option, Some, None, encode_utf8_all, chars}
+use Rattle.std.specs.Prelude.{ℕ, ℤ, pos, ◌+ℤ◌, Bool, ◌&&◌, ◌||◌, List, fold, filter_map, take, Option, Some, None, Result, IfOk, IsTrue, encode_utf8_all, chars}
 use Rattle.gl_calculus.specs.ErrKind.{ErrKind}
 use Rattle.gl_calculus.specs.Value.{Scalar, Int, Text}
 use Rattle.gl_calculus.specs.Operators.{exact, plain}
-use Rattle.gl_calculus.specs.Functions.{first_fault, sum_fault, truth_fault, unless, whole_number, truth, best, truth_of}
+use Rattle.gl_calculus.specs.Functions.{first_fault, sum_fault, truth_fault, unless, whole_number, truth, best, truth_of, lesser, greater, all_true, some_true, take_last}
+use Rattle.gl_calculus.specs.Sound.{is_sound_scalar}
+use Rattle.gl_plane.specs.declared.NoMemory.{NoMemory}
+use Rattle.gl_value.specs.View.{scalar_tree}
+use Rattle.gl_value.specs.declared.Scalar as Code
+use Rattle.gl_funs.specs.declared.numbers.End.{End}
+use Rattle.gl_funs.specs.declared.numbers.End.TheVariants.{Least, Greatest}
+use Rattle.gl_funs.specs.declared.texts.Side.{Side}
+use Rattle.gl_funs.specs.declared.texts.Side.TheVariants.{First, Last}
+use Rattle.gl_funs.specs.declared.truths.Quantity.{Quantity}
+use Rattle.gl_funs.specs.declared.truths.Quantity.TheVariants.{All, Any}
 
 -- the sum of some elements and of what was added before
 abbrev pub total_from : ℤ → List Scalar → Scalar
@@ -13,6 +23,10 @@ total_from n xs = unless (first_fault sum_fault xs) (exact (fold (λ i j. i +ℤ
 abbrev pub best_from : (ℤ → ℤ → ℤ) → Option ℤ → List ℤ → ℤ
 best_from better None ns = best better ns
 best_from better (Some n) ns = fold better n ns
+
+abbrev pub better : End → ℤ → ℤ → ℤ
+better Least = lesser
+better Greatest = greater
 
 abbrev pub extreme_from : (ℤ → ℤ → ℤ) → Option ℤ → List Scalar → Scalar
 extreme_from better o xs = unless (first_fault sum_fault xs) (Int (best_from better o (filter_map whole_number xs)))
@@ -25,6 +39,15 @@ truth_from joins f (Some b) bs = Scalar.Bool (joins b (f bs))
 abbrev pub verdict_from : (Bool → Bool → Bool) → (List Bool → Bool) → Option Bool → List Scalar → Scalar
 verdict_from joins f o xs = unless (first_fault truth_fault xs) (truth_from joins f o (filter_map truth xs))
 
+-- how truth values are joined, two of them and a list of them
+abbrev pub joins : Quantity → Bool → Bool → Bool
+joins All = ◌&&◌
+joins Any = ◌||◌
+
+abbrev pub rule_of : Quantity → List Bool → Bool
+rule_of All = all_true
+rule_of Any = some_true
+
 -- the truth that is known, or #VALUE!
 abbrev pub known_truth : Option Bool → Scalar
 known_truth (Some b) = Scalar.Bool b
@@ -34,6 +57,15 @@ known_truth None = Scalar.Err ErrKind.Value
 abbrev pub natural : Option ℤ → Option ℕ
 natural (Some (pos n)) = Some n
 natural o = None
+
+-- so many of the first, or of the last
+abbrev pub cut : Side → ℕ → List ℕ → List ℕ
+cut First = take
+cut Last = take_last
+
+-- the answer is sound where the operand is
+abbrev pub KeepsSound : Code.Scalar → Result Code.Scalar NoMemory → Type 0
+KeepsSound x r = IsTrue (is_sound_scalar (scalar_tree x)) → IfOk r (λ z. IsTrue (is_sound_scalar (scalar_tree z)))
 
 -- a part of the characters of a scalar's plain text
 abbrev pub part_text : (List ℕ → List ℕ) → Scalar → Scalar

@@ -52,7 +52,6 @@ impl<'a> Iterator for Elements<'a> {
 }
 
 /// The element at an index.
-#[tactic(auto, using(gl_value::specs::Forms::trees))]
 fn element(v: &Value, k: usize) -> Option<&Scalar>
     requires { IsTrue (is_sound_value (value_tree v.now)) }
     ensures { option_map scalar_tree (option_copied result)
@@ -65,7 +64,6 @@ fn element(v: &Value, k: usize) -> Option<&Scalar>
 }
 
 /// The item of an array at an index in row-major order.
-#[tactic(auto, using(gl_value::specs::Forms::trees))]
 fn item(a: &Array, k: usize) -> Option<&Scalar>
     requires { IsTrue (is_sound_value (array_tree a.now)) }
     ensures { option_map scalar_tree (option_copied result)

@@ -3,7 +3,7 @@
 //! `sum`, `count`, `least`, `greatest`, `all` and `any` go over the elements of all arguments in
 //! order, those of an array in row-major order. The others are on scalars; where an argument is an
 //! array they are lifted to its elements.
-#![tactic(auto)]
+#![tactic(auto, using(gl_value::specs::Forms::trees))]
 
 mod elements;
 mod numbers;

@@ -1,11 +1,12 @@
 //! SUM, COUNT, MIN and MAX, and the functions on single numbers.
-ghost use Rattle.std.specs.Prelude.{◌≡◌, ◌≢◌, ◌≤◌, IsTrue, pos, length, [], ◌∷◌};
-ghost use Rattle.gl_calculus.specs.{Limits.max_arguments, Sound.is_sound_scalar};
+ghost use Rattle.std.specs.Prelude.{◌≡◌, ◌≢◌, IsTrue, pos, [], ◌∷◌};
+ghost use Rattle.gl_calculus.specs.Sound.{is_sound_scalar};
 ghost use Rattle.gl_calculus.specs.Functions as F;
 ghost use Rattle.gl_calculus.specs.Operators as O;
 ghost use Rattle.gl_calculus.specs.Value as V;
 ghost use Rattle.gl_value.specs.View.{scalar_tree};
-ghost use Rattle.gl_funs.specs.{Elements.AreSound, Elements.elements_of, Rules.best_from};
+ghost use Rattle.gl_funs.specs.Elements.{AreArguments, elements_of};
+ghost use Rattle.gl_funs.specs.Rules.{best_from, better};
 
 use crate::elements::Elements;
 use gl_scalar::operands::{amount, fault};
@@ -15,10 +16,8 @@ use gl_value::{ErrKind, Scalar, Value};
 ///
 /// The first element that is an error, or a sheet value as `#VALUE!`, is the result where there is
 /// one. Blanks, truth values and texts are passed over.
-#[tactic(auto, using(gl_value::specs::Forms::trees))]
 pub fn sum(values: &[Value]) -> Scalar
-    requires few { length values.now ≤ max_arguments }
-    requires sound { AreSound values.now }
+    requires { AreArguments values.now }
     ensures value { scalar_tree result ≡ F.total (elements_of values.now) }
     ensures sound { IsTrue (is_sound_scalar (scalar_tree result)) }
 {
@@ -35,14 +34,12 @@ pub fn sum(values: &[Value]) -> Scalar
 }
 
 /// How many of the elements are integers. All others are passed over, errors too.
-#[tactic(auto, using(gl_value::specs::Forms::trees))]
 pub fn count(values: &[Value]) -> Scalar
-    requires few { length values.now ≤ max_arguments }
-    requires sound { AreSound values.now }
+    requires { AreArguments values.now }
     ensures value { scalar_tree result ≡ F.count (elements_of values.now) }
     ensures sound { IsTrue (is_sound_scalar (scalar_tree result)) }
 {
-    let mut numbers: u32 = 0;
+    let mut numbers = 0u32;
     for x in Elements::new(values) {
         if let Scalar::Int(_) = x {
             numbers += 1;
@@ -52,43 +49,56 @@ pub fn count(values: &[Value]) -> Scalar
 }
 
 /// The least integer among the elements, 0 where there is none. Errors are those of `sum`.
-#[tactic(auto, using(gl_value::specs::Forms::trees))]
 pub fn least(values: &[Value]) -> Scalar
-    requires few { length values.now ≤ max_arguments }
-    requires sound { AreSound values.now }
+    requires { AreArguments values.now }
     ensures value { scalar_tree result ≡ F.extreme F.lesser (elements_of values.now) }
     ensures sound { IsTrue (is_sound_scalar (scalar_tree result)) }
 {
-    let mut least: Option<i64> = None;
-    for x in Elements::new(values) {
-        match x {
-            Scalar::Int(n) => least = Some(lesser(least, *n)),
-            Scalar::Err(kind) => return Scalar::Err(*kind),
-            Scalar::Sheet(_) => return Scalar::Err(ErrKind::Value),
-            _ => {}
-        }
-    }
-    Scalar::Int(least.unwrap_or(0))
+    extreme(End::Least, values)
 }
 
 /// The greatest integer among the elements, 0 where there is none. Errors are those of `sum`.
-#[tactic(auto, using(gl_value::specs::Forms::trees))]
 pub fn greatest(values: &[Value]) -> Scalar
-    requires few { length values.now ≤ max_arguments }
-    requires sound { AreSound values.now }
+    requires { AreArguments values.now }
     ensures value { scalar_tree result ≡ F.extreme F.greater (elements_of values.now) }
     ensures sound { IsTrue (is_sound_scalar (scalar_tree result)) }
 {
-    let mut greatest: Option<i64> = None;
+    extreme(End::Greatest, values)
+}
+
+/// Which integer is sought.
+#[derive(Clone, Copy)]
+enum End {
+    Least,
+    Greatest,
+}
+
+/// The least or the greatest integer among the elements, 0 where there is none.
+fn extreme(end: End, values: &[Value]) -> Scalar
+    requires { AreArguments values.now }
+    ensures value { scalar_tree result ≡ F.extreme (better end) (elements_of values.now) }
+    ensures sound { IsTrue (is_sound_scalar (scalar_tree result)) }
+{
+    let mut found = None;
     for x in Elements::new(values) {
         match x {
-            Scalar::Int(n) => greatest = Some(greater(greatest, *n)),
+            Scalar::Int(n) => found = Some(best(end, found, *n)),
             Scalar::Err(kind) => return Scalar::Err(*kind),
             Scalar::Sheet(_) => return Scalar::Err(ErrKind::Value),
             _ => {}
         }
     }
-    Scalar::Int(greatest.unwrap_or(0))
+    Scalar::Int(found.unwrap_or(0))
+}
+
+/// The lesser or the greater of a number and of the best before it.
+fn best(end: End, found: Option<i64>, n: i64) -> i64
+    ensures { result ≡ best_from (better end) found (n ∷ []) }
+{
+    match end {
+        End::Least => lesser(found, n),
+        End::Greatest => greater(found, n),
+    }
 }
 
 /// The lesser of a number and of the least before it.
@@ -113,15 +123,14 @@ fn greater(greatest: Option<i64>, n: i64) -> i64
 
 /// The magnitude of a number: an error passes, a blank counts as 0, anything else but an integer
 /// gives `#VALUE!`, and the least integer `#NUM!`.
-#[tactic(auto, using(gl_value::specs::Forms::trees))]
 pub fn abs(x: &Scalar) -> Scalar
     ensures value { scalar_tree result ≡ O.magnitude (scalar_tree x.now) }
     ensures sound { IsTrue (is_sound_scalar (scalar_tree result)) }
 {
     match x {
-        Scalar::Err(kind) => Scalar::Err(*kind),
-        Scalar::Blank => Scalar::Int(0),
         Scalar::Int(n) => exact(i128::from(*n).abs()),
+        Scalar::Blank => Scalar::Int(0),
+        Scalar::Err(kind) => Scalar::Err(*kind),
         _ => Scalar::Err(ErrKind::Value),
     }
 }
@@ -130,7 +139,6 @@ pub fn abs(x: &Scalar) -> Scalar
 ///
 /// An error of the first operand is the result, else one of the second. A truth value, a text or a
 /// sheet value gives `#VALUE!`, and a divisor of 0 `#DIV/0!`. A blank counts as 0.
-#[tactic(auto, using(gl_value::specs::Forms::trees))]
 pub fn modulo(x: &Scalar, y: &Scalar) -> Scalar
     ensures value { scalar_tree result
         ≡ O.numeric O.modulo (scalar_tree x.now) (scalar_tree y.now) }
@@ -159,7 +167,6 @@ fn remainder(m: i64, n: i64) -> i64
 }
 
 /// A number within the 64 bits, or `#NUM!`.
-#[tactic(auto, using(gl_value::specs::Forms::trees))]
 fn exact(n: i128) -> Scalar
     ensures { scalar_tree result ≡ O.exact n }
 {

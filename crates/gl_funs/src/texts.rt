@@ -6,7 +6,7 @@ ghost use Rattle.gl_calculus.specs.{Limits.max_text, Sound.is_sound_scalar};
 ghost use Rattle.gl_calculus.specs.Functions as F;
 ghost use Rattle.gl_calculus.specs.Operators as O;
 ghost use Rattle.gl_value.specs.View.{scalar_tree};
-ghost use Rattle.gl_funs.specs.Rules.{natural, part_text};
+ghost use Rattle.gl_funs.specs.{Rules.cut, Rules.natural, Rules.part_text, Rules.KeepsSound};
 
 use gl_plane::NoMemory;
 use gl_scalar::operands::{amount, fault};
@@ -16,7 +16,6 @@ use std::rc::RcStr;
 
 /// How many characters the plain text of a scalar has. An error passes, and a sheet value gives
 /// `#VALUE!`.
-#[tactic(auto, using(gl_value::specs::Forms::trees))]
 pub fn len(x: &Scalar) -> Scalar
     ensures value { scalar_tree result ≡ F.text_length (scalar_tree x.now) }
     ensures sound { IsTrue (is_sound_scalar (scalar_tree result)) }
@@ -51,40 +50,46 @@ fn digits(n: u64) -> u32
     }
 }
 
+/// Which characters of a text are meant.
+#[derive(Clone, Copy)]
+enum Side {
+    First,
+    Last,
+}
+
 /// The first characters of the plain text of a scalar, all where it has fewer.
 ///
 /// An error of the first operand is the result, else one of the second. A sheet value, or a second
 /// operand that is no number or is negative, gives `#VALUE!`; a blank counts as 0.
-#[tactic(auto, using(gl_value::specs::Forms::trees))]
 pub fn left(alloc: Global, x: &Scalar, n: &Scalar) -> Result<Scalar, NoMemory>
     ensures value { IfOk result (λ z.
         scalar_tree z ≡ F.text_part take (scalar_tree x.now) (scalar_tree n.now)) }
-    ensures sound { IsTrue (is_sound_scalar (scalar_tree x.now))
-        → IfOk result (λ z. IsTrue (is_sound_scalar (scalar_tree z))) }
+    ensures sound { KeepsSound x.now result }
 {
-    if let Some(kind) = fault(x, n) {
-        return Ok(Scalar::Err(kind));
-    }
-    match natural(n) {
-        Some(n) => first_part(alloc, x, n),
-        None => Ok(Scalar::Err(ErrKind::Value)),
-    }
+    side_of(alloc, Side::First, x, n)
 }
 
 /// The last characters of the plain text of a scalar, all where it has fewer. Errors are those of
 /// `left`.
-#[tactic(auto, using(gl_value::specs::Forms::trees))]
 pub fn right(alloc: Global, x: &Scalar, n: &Scalar) -> Result<Scalar, NoMemory>
     ensures value { IfOk result (λ z.
         scalar_tree z ≡ F.text_part F.take_last (scalar_tree x.now) (scalar_tree n.now)) }
-    ensures sound { IsTrue (is_sound_scalar (scalar_tree x.now))
-        → IfOk result (λ z. IsTrue (is_sound_scalar (scalar_tree z))) }
+    ensures sound { KeepsSound x.now result }
+{
+    side_of(alloc, Side::Last, x, n)
+}
+
+/// The first or the last characters of the plain text of a scalar, by a number of them.
+fn side_of(alloc: Global, side: Side, x: &Scalar, n: &Scalar) -> Result<Scalar, NoMemory>
+    ensures value { IfOk result (λ z.
+        scalar_tree z ≡ F.text_part (cut side) (scalar_tree x.now) (scalar_tree n.now)) }
+    ensures sound { KeepsSound x.now result }
 {
     if let Some(kind) = fault(x, n) {
         return Ok(Scalar::Err(kind));
     }
     match natural(n) {
-        Some(n) => last_part(alloc, x, n),
+        Some(n) => part(alloc, side, x, n),
         None => Ok(Scalar::Err(ErrKind::Value)),
     }
 }
@@ -99,29 +104,24 @@ fn natural(n: &Scalar) -> Option<usize>
     }
 }
 
-/// The first characters of the plain text of a scalar.
-#[tactic(auto, using(gl_value::specs::Forms::trees))]
-fn first_part(alloc: Global, x: &Scalar, n: usize) -> Result<Scalar, NoMemory>
-    ensures value { IfOk result (λ z. scalar_tree z ≡ part_text (take n) (scalar_tree x.now)) }
-    ensures sound { IsTrue (is_sound_scalar (scalar_tree x.now))
-        → IfOk result (λ z. IsTrue (is_sound_scalar (scalar_tree z))) }
+/// So many of the first or the last characters of the plain text of a scalar.
+fn part(alloc: Global, side: Side, x: &Scalar, n: usize) -> Result<Scalar, NoMemory>
+    ensures value { IfOk result (λ z. scalar_tree z ≡ part_text (cut side n) (scalar_tree x.now)) }
+    ensures sound { KeepsSound x.now result }
 {
     let text = plain(alloc, x)?;
-    let part = first(alloc, text.as_str(), n)?;
+    let part = cut(alloc, side, text.as_str(), n)?;
     Ok(Scalar::Text(RcStr::from_string(part)?))
 }
 
-/// The last characters of the plain text of a scalar.
-#[tactic(auto, using(gl_value::specs::Forms::trees))]
-fn last_part(alloc: Global, x: &Scalar, n: usize) -> Result<Scalar, NoMemory>
-    ensures value { IfOk result (λ z.
-        scalar_tree z ≡ part_text (F.take_last n) (scalar_tree x.now)) }
-    ensures sound { IsTrue (is_sound_scalar (scalar_tree x.now))
-        → IfOk result (λ z. IsTrue (is_sound_scalar (scalar_tree z))) }
+/// So many of the first or the last characters of a text.
+fn cut(alloc: Global, side: Side, text: &str, n: usize) -> Result<String, NoMemory>
+    ensures { IfOk result (λ s. string_bytes s ≡ encode_utf8_all (cut side n (chars text.now))) }
 {
-    let text = plain(alloc, x)?;
-    let part = last(alloc, text.as_str(), n)?;
-    Ok(Scalar::Text(RcStr::from_string(part)?))
+    match side {
+        Side::First => first(alloc, text, n),
+        Side::Last => last(alloc, text, n),
+    }
 }
 
 /// The first characters of a text.
@@ -150,7 +150,6 @@ fn characters(text: &str) -> usize
 }
 
 /// The plain text of a scalar, which is empty where it has none.
-#[tactic(auto, using(gl_value::specs::Forms::trees))]
 fn plain(alloc: Global, x: &Scalar) -> Result<RcStr, NoMemory>
     ensures value { IfOk result (λ t. rc_str_bytes t ≡ O.plain (scalar_tree x.now)) }
     ensures sound { IsTrue (is_sound_scalar (scalar_tree x.now))

@@ -1,49 +1,44 @@
 //! AND, OR and NOT, and the tests of one scalar.
-ghost use Rattle.std.specs.Prelude.{◌≡◌, ◌≤◌, IsTrue, length};
-ghost use Rattle.gl_calculus.specs.{Limits.max_arguments, Sound.is_sound_scalar};
+ghost use Rattle.std.specs.Prelude.{◌≡◌, IsTrue, Bool, List, ◌∷◌, Some};
+ghost use Rattle.gl_calculus.specs.Sound.{is_sound_scalar};
 ghost use Rattle.gl_calculus.specs.Functions as F;
 ghost use Rattle.gl_value.specs.View.{scalar_tree};
-ghost use Rattle.gl_funs.specs.{Elements.AreSound, Elements.elements_of, Rules.known_truth};
+ghost use Rattle.gl_funs.specs.Elements.{AreArguments, elements_of};
+ghost use Rattle.gl_funs.specs.Rules.{joins, known_truth, rule_of, truth_from};
 
 use crate::elements::Elements;
 use gl_value::{ErrKind, Scalar, Value};
+
+/// Whether all truth values must be TRUE, or any of them.
+#[derive(Clone, Copy)]
+enum Quantity {
+    All,
+    Any,
+}
 
 /// Whether all truth values among the elements are TRUE; `#VALUE!` where there is none.
 ///
 /// The first element that is an error, or an integer, a text or a sheet value as `#VALUE!`, is the
 /// result where there is one. Blanks are passed over.
-#[tactic(auto, using(gl_value::specs::Forms::trees))]
 pub fn all(values: &[Value]) -> Scalar
-    requires few { length values.now ≤ max_arguments }
-    requires sound { AreSound values.now }
+    requires { AreArguments values.now }
     ensures value { scalar_tree result ≡ F.verdict F.all_true (elements_of values.now) }
     ensures sound { IsTrue (is_sound_scalar (scalar_tree result)) }
 {
-    let mut verdict: Option<bool> = None;
-    for x in Elements::new(values) {
-        match x {
-            Scalar::Blank => {}
-            Scalar::Bool(b) => verdict = Some(verdict.unwrap_or(true) && *b),
-            Scalar::Err(kind) => return Scalar::Err(*kind),
-            _ => return Scalar::Err(ErrKind::Value),
-        }
-    }
-    truth(verdict)
+    verdict(Quantity::All, values)
 }
 
-/// Whether some truth value among the elements is TRUE. Errors are those of `all`.
-#[tactic(auto, using(gl_value::specs::Forms::trees))]
-pub fn any(values: &[Value]) -> Scalar
-    requires few { length values.now ≤ max_arguments }
-    requires sound { AreSound values.now }
-    ensures value { scalar_tree result ≡ F.verdict F.some_true (elements_of values.now) }
+/// Whether all truth values among the elements are TRUE, or any; `#VALUE!` where there is none.
+fn verdict(quantity: Quantity, values: &[Value]) -> Scalar
+    requires { AreArguments values.now }
+    ensures value { scalar_tree result ≡ F.verdict (rule_of quantity) (elements_of values.now) }
     ensures sound { IsTrue (is_sound_scalar (scalar_tree result)) }
 {
     let mut verdict: Option<bool> = None;
     for x in Elements::new(values) {
         match x {
             Scalar::Blank => {}
-            Scalar::Bool(b) => verdict = Some(verdict.unwrap_or(false) || *b),
+            Scalar::Bool(b) => verdict = Some(joined(quantity, verdict, *b)),
             Scalar::Err(kind) => return Scalar::Err(*kind),
             _ => return Scalar::Err(ErrKind::Value),
         }
@@ -51,8 +46,19 @@ pub fn any(values: &[Value]) -> Scalar
     truth(verdict)
 }
 
+/// The truth of the values so far and of one more.
+fn joined(quantity: Quantity, verdict: Option<bool>, b: bool) -> bool
+    ensures { (bs : List Bool)
+        → truth_from (joins quantity) (rule_of quantity) verdict (b ∷ bs)
+        ≡ truth_from (joins quantity) (rule_of quantity) (Some result) bs }
+{
+    match quantity {
+        Quantity::All => verdict.unwrap_or(true) && b,
+        Quantity::Any => verdict.unwrap_or(false) || b,
+    }
+}
+
 /// The truth value, or `#VALUE!` where there is none.
-#[tactic(auto, using(gl_value::specs::Forms::trees))]
 fn truth(verdict: Option<bool>) -> Scalar
     ensures { scalar_tree result ≡ known_truth verdict }
 {
@@ -62,9 +68,17 @@ fn truth(verdict: Option<bool>) -> Scalar
     }
 }
 
+/// Whether some truth value among the elements is TRUE. Errors are those of `all`.
+pub fn any(values: &[Value]) -> Scalar
+    requires { AreArguments values.now }
+    ensures value { scalar_tree result ≡ F.verdict F.some_true (elements_of values.now) }
+    ensures sound { IsTrue (is_sound_scalar (scalar_tree result)) }
+{
+    verdict(Quantity::Any, values)
+}
+
 /// The other truth value: an error passes, a blank counts as FALSE, and anything else gives
 /// `#VALUE!`.
-#[tactic(auto, using(gl_value::specs::Forms::trees))]
 pub fn not(x: &Scalar) -> Scalar
     ensures value { scalar_tree result ≡ F.negation (scalar_tree x.now) }
     ensures sound { IsTrue (is_sound_scalar (scalar_tree result)) }
@@ -78,7 +92,6 @@ pub fn not(x: &Scalar) -> Scalar
 }
 
 /// TRUE exactly for an error.
-#[tactic(auto, using(gl_value::specs::Forms::trees))]
 pub fn is_error(x: &Scalar) -> Scalar
     ensures value { scalar_tree result ≡ F.is_error (scalar_tree x.now) }
     ensures sound { IsTrue (is_sound_scalar (scalar_tree result)) }
@@ -87,7 +100,6 @@ pub fn is_error(x: &Scalar) -> Scalar
 }
 
 /// TRUE exactly for a blank.
-#[tactic(auto, using(gl_value::specs::Forms::trees))]
 pub fn is_blank(x: &Scalar) -> Scalar
     ensures value { scalar_tree result ≡ F.is_blank (scalar_tree x.now) }
     ensures sound { IsTrue (is_sound_scalar (scalar_tree result)) }

@@ -6,7 +6,7 @@ use Rattle.gl_funs.proofs.numbers.count.Goals as goal
 
 pub overflow_add-numbers : goal.overflow_add-numbers
 overflow_add-numbers c =
-    let few = elements_few c.args.values.now c.requires.few c.requires.sound in
+    let few = elements_few c.args.values.now c.requires.0 c.requires.1 in
     let most = numbers_few (elements_of c.args.values.now) in
     let known = count_more c.in-Some.x.now _ _ c.loop-x.numbers _ c.in-Int.field-0 c.in-Some.ensures.steps c.in-Int.is c.loop-x.invariant.2 in
     omega (arith, few, most, known)

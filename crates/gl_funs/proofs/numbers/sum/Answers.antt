@@ -11,7 +11,7 @@ pub loop-x-init : goal.loop-x-init
 loop-x-init c =
     let it = c.into_iter-x-iterator.result in
     let e : elements_past it.given it.values.now ≡ elements_of c.args.values.now = rw c.into_iter-x-iterator.ensures.into_iter_gives c.new-x-items.ensures in
-    rw e (tt, tt, refl, omega (arith, elements_few c.args.values.now c.requires.few c.requires.sound))
+    rw e (tt, tt, refl, omega (arith, elements_few c.args.values.now c.requires.0 c.requires.1))
 
 pub overflow_add-total : goal.overflow_add-total
 overflow_add-total c =

@@ -1,8 +1,0 @@
-use Rattle.std.proofs.Common.{◌&&◌, ◌∙◌, sym}
-use Rattle.gl_calculus.specs.Functions as F
-use Rattle.gl_funs.proofs.Folds.{verdict_err}
-use Rattle.gl_funs.proofs.truths.all.Goals as goal
-
-pub returns-in-Err-clause-value : goal.returns-in-Err-clause-value
-returns-in-Err-clause-value c =
-    verdict_err ◌&&◌ F.all_true c.in-Some.x.now _ _ c.loop-x.verdict c.in-Err.kind c.in-Some.ensures.steps c.in-Err.is ∙ sym c.loop-x.invariant.2
