@@ -1,5 +1,5 @@
 //! The elements of several values.
-ghost use Rattle.std.specs.Prelude.{◌≡◌, ◌*◌, IsTrue, length, option_map, slice_get};
+ghost use Rattle.std.specs.Prelude.{◌≡◌, IsTrue, option_map, slice_get};
 ghost use Rattle.std.specs.Option.{option_copied};
 ghost use Rattle.gl_calculus.specs.{Value.elements, Sound.is_sound_value};
 ghost use Rattle.gl_value.specs.View.{array_tree, scalar_tree, value_tree};
