@@ -1,5 +1,5 @@
 //! Numbers of sheet values with an array among their overrides, which are built apart.
-use crate::tests::numbers::{is_known, is_new};
+use crate::tests::numbers::{Built, Told, is_so};
 use gl_intern::Interner;
 use gl_plane::{NoMemory, Permit};
 use gl_value::{Array, Env, Scalar, SheetVal, Value};
@@ -36,49 +36,23 @@ fn pair(alloc: Global, n: i64, s: &Rc<SheetVal>) -> Result<Vec<Scalar>, Fail> {
 }
 
 /// A sheet value that holds a row of a number and this sheet value.
-fn in_row(alloc: Global, n: i64, s: &Rc<SheetVal>) -> Result<Rc<SheetVal>, Fail> {
+pub fn in_row(alloc: Global, n: i64, s: &Rc<SheetVal>) -> Result<Rc<SheetVal>, Fail> {
     around(alloc, array(alloc, 1, 2, pair(alloc, n, s)?)?)
 }
 
 /// The same two items, one below the other.
-fn in_column(alloc: Global, n: i64, s: &Rc<SheetVal>) -> Result<Rc<SheetVal>, Fail> {
+pub fn in_column(alloc: Global, n: i64, s: &Rc<SheetVal>) -> Result<Rc<SheetVal>, Fail> {
     around(alloc, array(alloc, 2, 1, pair(alloc, n, s)?)?)
 }
 
 /// A sheet value in a row in a sheet value in a row, with this number inside.
-fn deep(alloc: Global, n: i64) -> Result<Rc<SheetVal>, Fail> {
+pub fn deep(alloc: Global, n: i64) -> Result<Rc<SheetVal>, Fail> {
     let inner = in_row(alloc, 5, &holding(alloc, n)?)?;
     in_row(alloc, 5, &inner)
 }
 
-#[test]
-fn what_is_inside_an_array_tells_sheet_values_apart(rt: HostRuntime) -> Result<(), Fail> {
-    let alloc = rt.alloc();
-    let mut interner = Interner::new(alloc);
-    assert!(rt; is_new(&mut interner, &deep(alloc, 7)?, 0)?);
-    assert!(rt; is_new(&mut interner, &deep(alloc, 8)?, 1)?);
-    assert!(rt; is_known(&mut interner, &deep(alloc, 7)?, 0)?);
-    assert!(rt; is_known(&mut interner, &deep(alloc, 8)?, 1)?);
-    // what stands inside has no number of its own yet
-    assert!(rt; is_new(&mut interner, &holding(alloc, 8)?, 2)?);
-    Ok(())
-}
-
-#[test]
-fn an_item_before_and_the_shape_tell_arrays_apart(rt: HostRuntime) -> Result<(), Fail> {
-    let alloc = rt.alloc();
-    let mut interner = Interner::new(alloc);
-    assert!(rt; is_new(&mut interner, &in_row(alloc, 3, &holding(alloc, 7)?)?, 0)?);
-    assert!(rt; is_new(&mut interner, &in_row(alloc, 4, &holding(alloc, 7)?)?, 1)?);
-    assert!(rt; is_new(&mut interner, &in_column(alloc, 3, &holding(alloc, 7)?)?, 2)?);
-    assert!(rt; is_known(&mut interner, &in_column(alloc, 3, &holding(alloc, 7)?)?, 2)?);
-    assert!(rt; is_known(&mut interner, &in_row(alloc, 4, &holding(alloc, 7)?)?, 1)?);
-    assert!(rt; is_known(&mut interner, &in_row(alloc, 3, &holding(alloc, 7)?)?, 0)?);
-    Ok(())
-}
-
 /// A sheet value that holds a row of so many numbers, the last of which is this one.
-fn numbers(alloc: Global, cols: u16, last: i64) -> Result<Rc<SheetVal>, Fail> {
+pub fn numbers(alloc: Global, cols: u16, last: i64) -> Result<Rc<SheetVal>, Fail> {
     let mut items = Vec::new(alloc);
     for n in 1..cols {
         items
@@ -89,18 +63,6 @@ fn numbers(alloc: Global, cols: u16, last: i64) -> Result<Rc<SheetVal>, Fail> {
     around(alloc, array(alloc, 1, cols, items)?)
 }
 
-#[test]
-fn one_number_tells_arrays_of_numbers_apart(rt: HostRuntime) -> Result<(), Fail> {
-    let alloc = rt.alloc();
-    let mut interner = Interner::new(alloc);
-    assert!(rt; is_new(&mut interner, &numbers(alloc, 1000, 1)?, 0)?);
-    assert!(rt; is_new(&mut interner, &numbers(alloc, 1000, 2)?, 1)?);
-    assert!(rt; is_new(&mut interner, &numbers(alloc, 999, 2)?, 2)?);
-    assert!(rt; is_known(&mut interner, &numbers(alloc, 1000, 2)?, 1)?);
-    assert!(rt; is_known(&mut interner, &numbers(alloc, 1000, 1)?, 0)?);
-    Ok(())
-}
-
 /// The frame of a copy that is made in a frame.
 fn copy_in(alloc: Global, env: &Env) -> Result<Env, Fail> {
     let copy = made(sheet_in(alloc, env, range("A1:B2")?)?)?;
@@ -109,7 +71,7 @@ fn copy_in(alloc: Global, env: &Env) -> Result<Env, Fail> {
 }
 
 /// A sheet value with a copy in a row that is told from others only four frames outside.
-fn with_copy(alloc: Global, n: i64) -> Result<Rc<SheetVal>, Fail> {
+pub fn far(alloc: Global, n: i64) -> Result<Rc<SheetVal>, Fail> {
     let oracle = one_entry(alloc, "A1", 1, 2, Permit::Permitted)?;
     let mut env = frame(alloc, holding(alloc, n)?, oracle)?;
     for _ in 0..3 {
@@ -123,23 +85,11 @@ fn with_copy(alloc: Global, n: i64) -> Result<Rc<SheetVal>, Fail> {
 fn many_arrays_with_copies_are_told_apart(rt: HostRuntime) -> Result<(), Fail> {
     let alloc = rt.alloc();
     let mut interner = Interner::new(alloc);
-    for n in 0_u16..2000 {
-        assert!(rt;
-            is_new(
-                &mut interner,
-                &with_copy(alloc, i64::from(n))?,
-                usize::from(n)
-            )?
-        );
-    }
-    for n in 0_u16..2000 {
-        assert!(rt;
-            is_known(
-                &mut interner,
-                &with_copy(alloc, i64::from(n))?,
-                usize::from(n)
-            )?
-        );
+    for told in [Told::New, Told::Known] {
+        for n in 0_u16..2000 {
+            let step = (told, Built::Far(i64::from(n)), usize::from(n));
+            assert!(rt; is_so(alloc, &mut interner, step)?, "{n}");
+        }
     }
     Ok(())
 }
