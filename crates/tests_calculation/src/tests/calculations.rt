@@ -191,6 +191,18 @@ pub fn goes_on(
     Ok(all_show(alloc, calc, sheet.shows)? && all_have_reasons(alloc, calc, sheet.whys)?)
 }
 
+/// Behind the edits of each row, one after another, all is as it says, by the pick rule of this kind.
+pub fn all_go_on(alloc: Global, calc: &mut Calc, rows: &[Sheet], kind: u8) -> Result<bool, Fail>
+    requires { kind ≤ 2 }
+{
+    for row in rows {
+        if !goes_on(alloc, calc, row, kind, Version::One)? {
+            return Ok(false);
+        }
+    }
+    Ok(true)
+}
+
 /// The sheet is as its row says, by the pick rule of this kind.
 pub fn holds(alloc: Global, sheet: &Sheet, kind: u8) -> Result<bool, Fail>
     requires { kind ≤ 2 }

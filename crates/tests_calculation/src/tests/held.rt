@@ -8,13 +8,17 @@ use std::alloc::Global;
 use std::test::Fail;
 use tests_common::content_of;
 
+/// Whether an answer is held behind a calculation.
+fn is_held_behind_one(alloc: Global, calc: &mut Calc) -> Result<bool, Fail> {
+    refreshed(alloc, calc, 0, Version::One)?;
+    is_held(calc)
+}
+
 /// An answer is held until the edit, and not behind it.
 fn is_held_until(alloc: Global, calc: &mut Calc, line: &str) -> Result<bool, Fail> {
-    refreshed(alloc, calc, 0, Version::One)?;
-    let before = is_held(calc)?;
+    let before = is_held_behind_one(alloc, calc)?;
     edit(alloc, calc, line)?;
-    let behind = is_held(calc)?;
-    Ok(before && !behind)
+    Ok(before && !is_held(calc)?)
 }
 
 #[test]
@@ -29,11 +33,9 @@ fn an_answer_is_held_until_an_edit(rt: HostRuntime) -> Result<(), Fail> {
 
 /// An answer is held until two contents are put at once, and not behind that.
 fn is_held_until_two(alloc: Global, calc: &mut Calc) -> Result<bool, Fail> {
-    refreshed(alloc, calc, 0, Version::One)?;
-    let before = is_held(calc)?;
+    let before = is_held_behind_one(alloc, calc)?;
     put_two(alloc, calc)?;
-    let behind = is_held(calc)?;
-    Ok(before && !behind)
+    Ok(before && !is_held(calc)?)
 }
 
 #[test]
@@ -55,32 +57,25 @@ fn put_two(alloc: Global, calc: &mut Calc) -> Result<(), Fail> {
     Ok(())
 }
 
-/// In version 1 a condition that is an array is none.
-const IN_ONE: Sheet = Sheet {
-    lines: &["set A1 =IF(SEQUENCE(1,2)>0,1,A1)"],
-    ends: "settled 1",
-    oracle: "oracle 0\n",
-    shows: &[("A1", "#VALUE!")],
-    whys: &[("A1", "none")],
-};
-
-/// In version 2, without an edit, both values are evaluated.
-const IN_TWO: Sheet = Sheet {
-    lines: &[],
-    ends: "settled 1",
-    oracle: "oracle 0\n",
-    shows: &[("A1", "#CYCLE!")],
-    whys: &[("A1", "none")],
-};
+/// In version 1 a condition that is an array is none. In version 2, without an edit, both values are
+/// evaluated.
+#[rattlefmt::skip]
+const IN_ONE_AND_TWO: [Sheet; 2] = [
+    Sheet { lines: &["set A1 =IF(SEQUENCE(1,2)>0,1,A1)"], ends: "settled 1", oracle: "oracle 0\n",
+        shows: &[("A1", "#VALUE!")], whys: &[("A1", "none")] },
+    Sheet { lines: &[], ends: "settled 1", oracle: "oracle 0\n", shows: &[("A1", "#CYCLE!")],
+        whys: &[("A1", "none")] },
+];
 
 /// Each version has its own answer, by the pick rule of this kind.
 fn versions_differ(alloc: Global, kind: u8) -> Result<bool, Fail>
     requires { kind ≤ 2 }
 {
     let mut calc = Calc::new(alloc);
+    let [one, two] = &IN_ONE_AND_TWO;
     Ok(
-        goes_on(alloc, &mut calc, &IN_ONE, kind, Version::One)?
-            && goes_on(alloc, &mut calc, &IN_TWO, kind, Version::Two)?,
+        goes_on(alloc, &mut calc, one, kind, Version::One)?
+            && goes_on(alloc, &mut calc, two, kind, Version::Two)?,
     )
 }
 

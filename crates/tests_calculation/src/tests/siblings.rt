@@ -1,8 +1,7 @@
 //! Copies that differ in one cell, each with a copy inside.
 ghost use Rattle.std.specs.Prelude.{◌≤◌};
 
-use crate::tests::calculations::{Sheet, calc_of, edit, goes_on};
-use gl_ast::Version;
+use crate::tests::calculations::{Sheet, all_go_on, calc_of, edit};
 use gl_calc::Calc;
 use std::alloc::Global;
 use std::test::Fail;
@@ -26,55 +25,24 @@ fn siblings(alloc: Global) -> Result<Calc, Fail> {
 }
 
 /// What some of the copies show, behind edits.
+#[rattlefmt::skip]
 const BEHIND: [Sheet; 3] = [
-    Sheet {
-        lines: &[],
-        ends: "settled 1",
-        oracle: "oracle 0\n",
-        shows: &[
-            ("C1", "10"),
-            ("E1", "10"),
-            ("E2", "20"),
-            ("E150", "1500"),
-            ("E2999", "29990"),
-            ("E3000", "30000"),
-        ],
-        whys: &[("E1", "none")],
-    },
+    Sheet { lines: &[], ends: "settled 1", oracle: "oracle 0\n", shows: &[("C1", "10"),
+        ("E1", "10"), ("E2", "20"), ("E150", "1500"), ("E2999", "29990"), ("E3000", "30000")],
+        whys: &[("E1", "none")] },
     // a formula of every copy
-    Sheet {
-        lines: &["set B1 =A1*20"],
-        ends: "settled 1",
-        oracle: "oracle 0\n",
-        shows: &[
-            ("C1", "20"),
-            ("E1", "20"),
-            ("E150", "3000"),
-            ("E3000", "60000"),
-        ],
-        whys: &[],
-    },
+    Sheet { lines: &["set B1 =A1*20"], ends: "settled 1", oracle: "oracle 0\n",
+        shows: &[("C1", "20"), ("E1", "20"), ("E150", "3000"), ("E3000", "60000")], whys: &[] },
     // a formula of one
-    Sheet {
-        lines: &["set E7 1"],
-        ends: "settled 1",
-        oracle: "oracle 0\n",
-        shows: &[("E6", "120"), ("E7", "1"), ("E8", "160")],
-        whys: &[],
-    },
+    Sheet { lines: &["set E7 1"], ends: "settled 1", oracle: "oracle 0\n",
+        shows: &[("E6", "120"), ("E7", "1"), ("E8", "160")], whys: &[] },
 ];
 
 /// By the pick rule of this kind the copies show what they must behind each edit.
 fn siblings_hold(alloc: Global, kind: u8) -> Result<bool, Fail>
     requires { kind ≤ 2 }
 {
-    let mut calc = siblings(alloc)?;
-    for sheet in &BEHIND {
-        if !goes_on(alloc, &mut calc, sheet, kind, Version::One)? {
-            return Ok(false);
-        }
-    }
-    Ok(true)
+    all_go_on(alloc, &mut siblings(alloc)?, &BEHIND, kind)
 }
 
 #[test]

@@ -12,10 +12,13 @@ use std::alloc::Global;
 use std::test::Fail;
 use tests_common::{address, content_of, scalar_text};
 
-/// Each address gets its content, or loses it.
-fn apply(cells: &mut Cells, list: Vec<(Addr, Option<Content>)>) -> Result<(), Fail>
-    requires { AreProperChanges list.items }
+/// Whether there are changes: then each address gets its content, or loses it.
+fn apply(cells: &mut Cells, changes: Option<Vec<(Addr, Option<Content>)>>) -> Result<bool, Fail>
+    requires { IfSome changes (λ list. AreProperChanges list.items) }
 {
+    let Some(list) = changes else {
+        return Ok(false);
+    };
     for (place, content) in list {
         match content {
             Some(c) => cells.put(place, c)?,
@@ -24,7 +27,7 @@ fn apply(cells: &mut Cells, list: Vec<(Addr, Option<Content>)>) -> Result<(), Fa
             }
         }
     }
-    Ok(())
+    Ok(true)
 }
 
 /// The address gets this content, as a step.
@@ -63,26 +66,20 @@ fn clear(alloc: Global, cells: &mut Cells, history: &mut History, place: Addr) -
 
 /// Whether a step was left to undo.
 fn undo(alloc: Global, cells: &mut Cells, history: &mut History) -> Result<bool, Fail> {
-    match history.back(alloc)? {
-        None => Ok(false),
-        Some(list) => {
-            apply(cells, list)?;
-            history.moved_back();
-            Ok(true)
-        }
+    let changes = history.back(alloc)?;
+    if changes.is_some() {
+        history.moved_back();
     }
+    apply(cells, changes)
 }
 
 /// Whether a step was left to redo.
 fn redo(alloc: Global, cells: &mut Cells, history: &mut History) -> Result<bool, Fail> {
-    match history.forward(alloc)? {
-        None => Ok(false),
-        Some(list) => {
-            apply(cells, list)?;
-            history.moved_forward();
-            Ok(true)
-        }
+    let changes = history.forward(alloc)?;
+    if changes.is_some() {
+        history.moved_forward();
     }
+    apply(cells, changes)
 }
 
 /// The content of an address, `=` for a formula, and `-` for none.
@@ -99,8 +96,9 @@ fn steps_back_and_forth(rt: HostRuntime) -> Result<(), Fail> {
     let alloc = rt.alloc();
     let mut cells = Cells::new(alloc);
     let mut history = History::new(alloc)?;
-    set(alloc, &mut cells, &mut history, "set A1 1")?;
-    set(alloc, &mut cells, &mut history, "set A1 =B1")?;
+    for line in ["set A1 1", "set A1 =B1"] {
+        set(alloc, &mut cells, &mut history, line)?;
+    }
     clear(alloc, &mut cells, &mut history, address("A1")?)?;
     assert_eq!(rt; told(alloc, &cells, "A1")?.as_str(), "-");
     for want in ["=", "1", "-"] {

@@ -17,80 +17,34 @@ struct Sheet {
     ends: &'static [End],
 }
 
+#[rattlefmt::skip]
 const COPIES: [Sheet; 4] = [
-    Sheet {
-        lines: &[
-            "set A1 3",
-            "set B1 4",
-            "set C1 =A1*A1+B1*B1",
-            "set E1 =G(A1:C1,A1,6)",
-        ],
-        ends: &[("C1", "25", "25"), ("E1", "settle A1:C1", "6 4 52")],
-    },
-    Sheet {
-        lines: &[
-            "set A1 1",
-            "set B1 =A1*10",
-            "set C1 =VIEW(SHEET(B1),B1)",
-            "set D1 =VIEW(UPDATE(SHEET(A1:C1),A1,7),C1)",
-        ],
-        ends: &[("C1", "settle B1:B1", "10"), ("D1", "settle A1:C1", "70")],
-    },
-    Sheet {
-        lines: &[
-            "set A1 2",
-            "set B1 =SEQUENCE(A1,1)",
-            "set D1 =G(A1:B3,A1,3)",
-            "set G1 =G(A1:B3,A1,4)",
-        ],
-        ends: &[
-            ("B1", "1 / 2", "1 / 2"),
-            ("D1", "settle A1:B3", "3 1 / . 2 / . 3"),
-            ("G1", "settle A1:B3", "4 #SPILL! / . . / . ."),
-        ],
-    },
-    Sheet {
-        lines: &[
-            "set A3 =LET(x,SEQUENCE(100,100),G(A1:G1,A1,x,B1,x,C1,x,D1,x,E1,x,F1,x,G1,x))",
-            "set A4 =LET(x,SEQUENCE(100,100),G(A1:F1,A1,x,B1,x,C1,x,D1,x,E1,x,F1,x))",
-        ],
-        ends: &[
-            ("A3", "#SIZE!", "#SIZE!"),
-            (
-                "A4",
-                "settle A1:F1",
-                "#SPILL! #SPILL! #SPILL! #SPILL! #SPILL! #SPILL!",
-            ),
-        ],
-    },
+    Sheet { lines: &["set A1 3", "set B1 4", "set C1 =A1*A1+B1*B1", "set E1 =G(A1:C1,A1,6)"],
+        ends: &[("C1", "25", "25"), ("E1", "settle A1:C1", "6 4 52")] },
+    Sheet { lines: &["set A1 1", "set B1 =A1*10", "set C1 =VIEW(SHEET(B1),B1)",
+        "set D1 =VIEW(UPDATE(SHEET(A1:C1),A1,7),C1)"],
+        ends: &[("C1", "settle B1:B1", "10"), ("D1", "settle A1:C1", "70")] },
+    Sheet { lines: &["set A1 2", "set B1 =SEQUENCE(A1,1)", "set D1 =G(A1:B3,A1,3)",
+        "set G1 =G(A1:B3,A1,4)"], ends: &[("B1", "1 / 2", "1 / 2"),
+        ("D1", "settle A1:B3", "3 1 / . 2 / . 3"),
+        ("G1", "settle A1:B3", "4 #SPILL! / . . / . .")] },
+    Sheet { lines: &["set A3 =LET(x,SEQUENCE(100,100),G(A1:G1,A1,x,B1,x,C1,x,D1,x,E1,x,F1,x,G1,x))",
+        "set A4 =LET(x,SEQUENCE(100,100),G(A1:F1,A1,x,B1,x,C1,x,D1,x,E1,x,F1,x))"],
+        ends: &[("A3", "#SIZE!", "#SIZE!"),
+        ("A4", "settle A1:F1", "#SPILL! #SPILL! #SPILL! #SPILL! #SPILL! #SPILL!")] },
 ];
 
+#[rattlefmt::skip]
 const BUDGETS_AND_CYCLES: [Sheet; 3] = [
-    Sheet {
-        lines: &["set A1 1", "set B1 =C1+A1", "set C1 =G(A1:B1,A1,5)"],
-        ends: &[("B1", "C1", "cycle"), ("C1", "settle A1:B1", "cycle")],
-    },
-    Sheet {
-        lines: &[
-            "set A1 0",
-            "set B1 =IF(A1=0,0,A1+VIEW(UPDATE(SHEET(A1:B1),A1,A1-1),B1))",
-            "set D1 =VIEW(UPDATE(SHEET(A1:B1),A1,95),B1)",
-            "set E1 =VIEW(UPDATE(SHEET(A1:B1),A1,96),B1)",
-        ],
-        ends: &[
-            ("D1", "settle A1:B1", "4560"),
-            ("E1", "settle A1:B1", "spent depth"),
-        ],
-    },
-    Sheet {
-        lines: &[
-            "set D1 0",
-            "set A2 =SEQUENCE(1,3)",
-            "set B1 =IF(D1=0,1,IF(ISERROR(ROWS(A2#)),1,SEQUENCE(3,1)))",
-            "set F1 =G(A1:D3,D1,1)",
-        ],
-        ends: &[("F1", "settle A1:D3", "spent copyrounds")],
-    },
+    Sheet { lines: &["set A1 1", "set B1 =C1+A1", "set C1 =G(A1:B1,A1,5)"],
+        ends: &[("B1", "C1", "cycle"), ("C1", "settle A1:B1", "cycle")] },
+    Sheet { lines: &["set A1 0", "set B1 =IF(A1=0,0,A1+VIEW(UPDATE(SHEET(A1:B1),A1,A1-1),B1))",
+        "set D1 =VIEW(UPDATE(SHEET(A1:B1),A1,95),B1)",
+        "set E1 =VIEW(UPDATE(SHEET(A1:B1),A1,96),B1)"],
+        ends: &[("D1", "settle A1:B1", "4560"), ("E1", "settle A1:B1", "spent depth")] },
+    Sheet { lines: &["set D1 0", "set A2 =SEQUENCE(1,3)",
+        "set B1 =IF(D1=0,1,IF(ISERROR(ROWS(A2#)),1,SEQUENCE(3,1)))", "set F1 =G(A1:D3,D1,1)"],
+        ends: &[("F1", "settle A1:D3", "spent copyrounds")] },
 ];
 
 const CHOICES: [&str; 4] = [

@@ -12,61 +12,50 @@ const REFERENCES: [&str; 3] = ["set A1 =SEQUENCE(2,2)", "set D1 =7", "set A5 3"]
 /// The root, the rows, the columns and the permit of an entry.
 pub type Entry = (&'static str, u16, u16, Permit);
 
-/// A formula in Z1, what it looks at and reads, and what it comes to.
-type Row = (&'static str, &'static str, &'static str, &'static str);
+/// No array has an entry.
+const NONE: Option<Entry> = None;
 
-/// Formulas under an oracle of at most one entry.
-struct Under {
-    entry: Option<Entry>,
-    rows: &'static [Row],
-}
+/// The array of A1 spills over two columns and one row more.
+const SPILLS: Option<Entry> = Some(("A1", 3, 2, Permit::Permitted));
 
-const UNDER: [Under; 4] = [
-    Under {
-        entry: None,
-        rows: &[
-            ("set Z1 =A5", "Z1:Z1, A5:A5", "", "3"),
-            ("set Z1 =D1", "Z1:Z1, D1:D1", "D1", "7"),
-            ("set Z1 =A1", "Z1:Z1, A1:A1", "A1", "1"),
-            ("set Z1 =B2", "Z1:Z1, B2:B2", "", "."),
-            ("set Z1 =A1#", "Z1:Z1, A1:A1", "", "#REF!"),
-            ("set Z1 =A1:B2", "Z1:Z1, A1:B2", "A1", "1 . / . ."),
-        ],
-    },
-    Under {
-        entry: Some(("A1", 3, 2, Permit::Permitted)),
-        rows: &[
-            ("set Z1 =A1", "Z1:Z1, A1:A1", "A1", "1"),
-            ("set Z1 =B2", "Z1:Z1, B2:B2, A1:A1", "A1", "4"),
-            ("set Z1 =B3", "Z1:Z1, B3:B3, A1:A1", "A1", "."),
-            ("set Z1 =A1#", "Z1:Z1, A1:A1", "A1", "1 2 / 3 4"),
-            ("set Z1 =B2#", "Z1:Z1, B2:B2", "", "#REF!"),
-            ("set Z1 =A5#", "Z1:Z1, A5:A5", "", "#REF!"),
-            (
-                "set Z1 =B1:D2",
-                "Z1:Z1, B1:D2, A1:A1",
-                "A1, D1",
-                "2 . 7 / 4 . .",
-            ),
-        ],
-    },
-    Under {
-        entry: Some(("A1", 2, 2, Permit::Refused)),
-        rows: &[
-            ("set Z1 =A1", "Z1:Z1, A1:A1", "A1", "#SPILL!"),
-            ("set Z1 =B2", "Z1:Z1, B2:B2", "", "."),
-            ("set Z1 =A1#", "Z1:Z1, A1:A1", "", "#SPILL!"),
-            ("set Z1 =A1:B1", "Z1:Z1, A1:B1", "A1", "#SPILL! ."),
-        ],
-    },
-    Under {
-        entry: Some(("D1", 1, 2, Permit::Permitted)),
-        rows: &[
-            ("set Z1 =E1", "Z1:Z1, E1:E1, D1:D1", "D1", "."),
-            ("set Z1 =D1#", "Z1:Z1, D1:D1", "D1", "#REF!"),
-            ("set Z1 =D1:E1", "Z1:Z1, D1:E1, D1:D1", "D1", "7 ."),
-        ],
-    },
+/// The array of A1 may not spill.
+const REFUSED: Option<Entry> = Some(("A1", 2, 2, Permit::Refused));
+
+/// The number of D1 has an entry, as an array.
+const NO_ARRAY: Option<Entry> = Some(("D1", 1, 2, Permit::Permitted));
+
+/// An oracle of at most one entry, a formula in Z1 under it, what that looks at and reads, and what it
+/// comes to.
+type Row = (
+    Option<Entry>,
+    &'static str,
+    &'static str,
+    &'static str,
+    &'static str,
+);
+
+#[rattlefmt::skip]
+const ROWS: [Row; 20] = [
+    (NONE, "set Z1 =A5", "Z1:Z1, A5:A5", "", "3"),
+    (NONE, "set Z1 =D1", "Z1:Z1, D1:D1", "D1", "7"),
+    (NONE, "set Z1 =A1", "Z1:Z1, A1:A1", "A1", "1"),
+    (NONE, "set Z1 =B2", "Z1:Z1, B2:B2", "", "."),
+    (NONE, "set Z1 =A1#", "Z1:Z1, A1:A1", "", "#REF!"),
+    (NONE, "set Z1 =A1:B2", "Z1:Z1, A1:B2", "A1", "1 . / . ."),
+    (SPILLS, "set Z1 =A1", "Z1:Z1, A1:A1", "A1", "1"),
+    (SPILLS, "set Z1 =B2", "Z1:Z1, B2:B2, A1:A1", "A1", "4"),
+    (SPILLS, "set Z1 =B3", "Z1:Z1, B3:B3, A1:A1", "A1", "."),
+    (SPILLS, "set Z1 =A1#", "Z1:Z1, A1:A1", "A1", "1 2 / 3 4"),
+    (SPILLS, "set Z1 =B2#", "Z1:Z1, B2:B2", "", "#REF!"),
+    (SPILLS, "set Z1 =A5#", "Z1:Z1, A5:A5", "", "#REF!"),
+    (SPILLS, "set Z1 =B1:D2", "Z1:Z1, B1:D2, A1:A1", "A1, D1", "2 . 7 / 4 . ."),
+    (REFUSED, "set Z1 =A1", "Z1:Z1, A1:A1", "A1", "#SPILL!"),
+    (REFUSED, "set Z1 =B2", "Z1:Z1, B2:B2", "", "."),
+    (REFUSED, "set Z1 =A1#", "Z1:Z1, A1:A1", "", "#SPILL!"),
+    (REFUSED, "set Z1 =A1:B1", "Z1:Z1, A1:B1", "A1", "#SPILL! ."),
+    (NO_ARRAY, "set Z1 =E1", "Z1:Z1, E1:E1, D1:D1", "D1", "."),
+    (NO_ARRAY, "set Z1 =D1#", "Z1:Z1, D1:D1", "D1", "#REF!"),
+    (NO_ARRAY, "set Z1 =D1:E1", "Z1:Z1, D1:E1, D1:D1", "D1", "7 ."),
 ];
 
 /// An oracle of at most one entry.
@@ -77,9 +66,9 @@ pub fn oracle_of(alloc: Global, entry: Option<Entry>) -> Result<Oracle, Fail> {
     }
 }
 
-/// Under this entry the formula of the row is as it says.
-fn refers(alloc: Global, entry: Option<Entry>, row: &Row) -> Result<bool, Fail> {
-    let (line, looked, reads, want) = *row;
+/// The formula of the row is as it says.
+fn refers(alloc: Global, row: &Row) -> Result<bool, Fail> {
+    let (entry, line, looked, reads, want) = *row;
     let mut cells = sheet_of(alloc, &REFERENCES)?;
     put_line(alloc, &mut cells, line)?;
     let w = oracle_of(alloc, entry)?;
@@ -93,15 +82,8 @@ fn refers(alloc: Global, entry: Option<Entry>, row: &Row) -> Result<bool, Fail> 
 
 #[test]
 fn references(rt: HostRuntime) -> Result<(), Fail> {
-    for under in &UNDER {
-        for row in under.rows {
-            assert!(rt;
-                refers(rt.alloc(), under.entry, row)?,
-                "{} under {:?}",
-                row.0,
-                under.entry
-            );
-        }
+    for row in &ROWS {
+        assert!(rt; refers(rt.alloc(), row)?, "{} under {:?}", row.1, row.0);
     }
     Ok(())
 }

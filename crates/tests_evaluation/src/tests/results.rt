@@ -11,6 +11,7 @@ use crate::tests::turns::cell;
 use gl_core::Results;
 use gl_demand::{Silent, Steps};
 use gl_plane::{Changes, Oracle};
+use std::alloc::Global;
 use std::test::Fail;
 use tests_common::{Setting, range, setting_of, sheet_of};
 
@@ -102,40 +103,17 @@ struct Change {
     each: [[u64; 3]; 3],
 }
 
+#[rattlefmt::skip]
 const CHANGES: [Change; 6] = [
     // nothing rests on it: all results stay, and no step is taken
-    Change {
-        place: "E5:F9",
-        kept: 3,
-        each: [[0, 0, 0], [0, 0, 0], [0, 0, 0]],
-    },
+    Change { place: "E5:F9", kept: 3, each: [[0, 0, 0], [0, 0, 0], [0, 0, 0]] },
     // by the second rule C1 is evaluated before B1, and once more behind it
-    Change {
-        place: "A1:A1",
-        kept: 1,
-        each: [[1, 1, 0], [1, 2, 0], [1, 1, 0]],
-    },
-    Change {
-        place: "B1:B1",
-        kept: 1,
-        each: [[1, 1, 0], [1, 2, 0], [1, 1, 0]],
-    },
+    Change { place: "A1:A1", kept: 1, each: [[1, 1, 0], [1, 2, 0], [1, 1, 0]] },
+    Change { place: "B1:B1", kept: 1, each: [[1, 1, 0], [1, 2, 0], [1, 1, 0]] },
     // B1 stays, and is known from the start: by no rule is C1 evaluated before it
-    Change {
-        place: "C1:C1",
-        kept: 2,
-        each: [[0, 1, 0], [0, 1, 0], [0, 1, 0]],
-    },
-    Change {
-        place: "D1:D1",
-        kept: 2,
-        each: [[0, 0, 1], [0, 0, 1], [0, 0, 1]],
-    },
-    Change {
-        place: "A1:D1",
-        kept: 0,
-        each: [[1, 1, 1], [1, 2, 1], [1, 1, 1]],
-    },
+    Change { place: "C1:C1", kept: 2, each: [[0, 1, 0], [0, 1, 0], [0, 1, 0]] },
+    Change { place: "D1:D1", kept: 2, each: [[0, 0, 1], [0, 0, 1], [0, 0, 1]] },
+    Change { place: "A1:D1", kept: 0, each: [[1, 1, 1], [1, 2, 1], [1, 1, 1]] },
 ];
 
 /// A run behind the change takes these steps and sees what the first one saw.
@@ -200,23 +178,23 @@ const STAYING: [Staying; 5] = [
 
 /// The results of all formulas that stay where the range has changed, a copy of them, and both
 /// tidied, have just these outcomes.
-fn stay(at: &Setting<'_>, row: &Staying) -> Result<bool, Fail> {
+fn stay(alloc: Global, row: &Staying) -> Result<bool, Fail> {
     let (place, want) = *row;
-    let mut kept = results_behind(at, &FORMULAS, place, 0)?;
-    let mut copied = kept.copy(at.alloc)?;
+    let w = Oracle::new(alloc);
+    let cells = sheet_of(alloc, &LINES)?;
+    let at = setting_of(alloc, &cells, &w);
+    let mut kept = results_behind(&at, &FORMULAS, place, 0)?;
+    let mut copied = kept.copy(alloc)?;
     let alike = have(&kept, want)? && have(&copied, want)?;
-    kept.tidy(at.alloc);
-    copied.tidy(at.alloc);
+    kept.tidy(alloc);
+    copied.tidy(alloc);
     Ok(alike && have(&kept, want)? && have(&copied, want)?)
 }
 
 #[test]
 fn outcomes_stay(rt: HostRuntime) -> Result<(), Fail> {
-    let w = Oracle::new(rt.alloc());
-    let cells = sheet_of(rt.alloc(), &LINES)?;
-    let at = setting_of(rt.alloc(), &cells, &w);
     for row in &STAYING {
-        assert!(rt; stay(&at, row)?, "{}", row.0);
+        assert!(rt; stay(rt.alloc(), row)?, "{}", row.0);
     }
     Ok(())
 }

@@ -15,6 +15,14 @@ use std::alloc::Global;
 use std::test::Fail;
 use tests_common::{Setting, address};
 
+fn places_of(alloc: Global, names: &[&str]) -> Result<Vec<Addr>, Fail> {
+    let mut places = Vec::new(alloc);
+    for name in names {
+        places.push(address(name)?)?;
+    }
+    Ok(places)
+}
+
 /// The steps that were taken for each of some keys.
 #[derive(Drop)]
 pub struct Counts {
@@ -58,14 +66,6 @@ fn numbers_of(alloc: Global, counts: &Counts) -> Result<Vec<u64>, Fail> {
         numbers.push(one.1)?;
     }
     Ok(numbers)
-}
-
-fn places_of(alloc: Global, names: &[&str]) -> Result<Vec<Addr>, Fail> {
-    let mut places = Vec::new(alloc);
-    for name in names {
-        places.push(address(name)?)?;
-    }
-    Ok(places)
 }
 
 /// The core of these cells, with results that are true.

@@ -10,49 +10,28 @@ use std::alloc::Global;
 use std::test::Fail;
 use tests_common::{Column, Form, plain_sheet, setting_of, sheet_with, with_number};
 
-/// A chain, two copies of it in which one address holds 7 and 8, that address, and the steps of all
+/// Two copies of a chain in which one address holds 7 and 8, that address, the chain, and the steps of all
 /// keys but the settling of the first copy.
 struct Chain {
     lines: &'static [&'static str],
-    column: Column,
     held: &'static str,
+    column: Column,
     others: u64,
 }
 
+#[rattlefmt::skip]
 const CHAINS: [Chain; 2] = [
     // each formula needs the next: all other keys take two steps, but for the last formula of each
     // copy
-    Chain {
-        lines: &[
-            "set A301 1",
-            "set B1 =VIEW(UPDATE(SHEET(A1:A301),A301,7),A1)",
-            "set C1 =VIEW(UPDATE(SHEET(A1:A301),A301,8),A1)",
-        ],
-        column: Column {
-            name: "A",
-            first: 1,
-            last: 300,
-            form: Form::Below("", "+1"),
-        },
-        held: "A301",
-        others: 1_204,
-    },
+    Chain { lines: &["set A301 1", "set B1 =VIEW(UPDATE(SHEET(A1:A301),A301,7),A1)",
+        "set C1 =VIEW(UPDATE(SHEET(A1:A301),A301,8),A1)"], held: "A301",
+        column: Column { name: "A", first: 1, last: 300, form: Form::Below("", "+1") },
+        others: 1_204 },
     // each formula needs the one before it, which is known: one step
-    Chain {
-        lines: &[
-            "set A1 1",
-            "set B1 =VIEW(UPDATE(SHEET(A1:A301),A1,7),A301)",
-            "set C1 =VIEW(UPDATE(SHEET(A1:A301),A1,8),A301)",
-        ],
-        column: Column {
-            name: "A",
-            first: 2,
-            last: 301,
-            form: Form::Above("", "+1"),
-        },
-        held: "A1",
-        others: 606,
-    },
+    Chain { lines: &["set A1 1", "set B1 =VIEW(UPDATE(SHEET(A1:A301),A1,7),A301)",
+        "set C1 =VIEW(UPDATE(SHEET(A1:A301),A1,8),A301)"], held: "A1",
+        column: Column { name: "A", first: 2, last: 301, form: Form::Above("", "+1") },
+        others: 606 },
 ];
 
 /// The settling of the copy that has 7 at an address.

@@ -49,13 +49,19 @@ pub fn found_text(alloc: Global, found: &Found) -> Result<String, NoMemory> {
     }
 }
 
+/// A comma behind what is there.
+fn put_comma(out: &mut String) -> Result<(), NoMemory> {
+    if !out.is_empty() {
+        out.push_str(", ")?;
+    }
+    Ok(())
+}
+
 /// The keys with commas between them.
 pub fn keys_text(alloc: Global, keys: &[Key]) -> Result<String, NoMemory> {
     let mut out = String::new(alloc);
     for key in keys {
-        if !out.is_empty() {
-            out.push_str(", ")?;
-        }
+        put_comma(&mut out)?;
         put_key(alloc, &mut out, key)?;
     }
     Ok(out)
@@ -65,9 +71,7 @@ pub fn keys_text(alloc: Global, keys: &[Key]) -> Result<String, NoMemory> {
 pub fn ranges_text(alloc: Global, ranges: &[Range]) -> Result<String, NoMemory> {
     let mut out = String::new(alloc);
     for range in ranges {
-        if !out.is_empty() {
-            out.push_str(", ")?;
-        }
+        put_comma(&mut out)?;
         put_range(alloc, &mut out, *range)?;
     }
     Ok(out)

@@ -76,9 +76,9 @@ fn tidied(at: &Setting<'_>, results: Results, name: &str, row: u16) -> Result<Re
 /// The results of the copy in a row, behind those of the row before, whose formula is as good as
 /// gone: as many however often they are tidied, and a run goes by them alone.
 fn next(at: &Setting<'_>, results: Results, row: u16, kind: u8) -> Result<Results, Fail>
-    requires kind { kind ≤ 2 }
     requires true_notes { AreTrue same_key
         (program (version_tree at.now.version) (sheet at.now.cells.now) at.now.w.now) results }
+    requires kind { kind ≤ 2 }
     ensures { IfOk result
         (AreTrue same_key
         (program (version_tree at.now.version) (sheet at.now.cells.now) at.now.w.now)) }

@@ -20,76 +20,44 @@ type Change = (
 );
 
 /// Of two notes: of an array, and of a sum that reads its second element.
+#[rattlefmt::skip]
 const CHANGED_NOTES: [Change; 11] = [
     (&[(0, Own), (1, Own)], &[], None, Verdict::Accepted),
-    (
-        &[(0, Own), (1, Number(4))],
-        &[],
-        None,
-        Verdict::Note { at: 1 },
-    ),
-    (
-        &[(0, Number(1)), (1, Own)],
-        &[],
-        None,
-        Verdict::Note { at: 0 },
-    ),
+    (&[(0, Own), (1, Number(4))], &[], None, Verdict::Note { at: 1 }),
+    (&[(0, Number(1)), (1, Own)], &[], None, Verdict::Note { at: 0 }),
     (&[(1, Own), (0, Own)], &[], None, Verdict::Note { at: 0 }),
-    (
-        &[(0, Own), (0, Own), (1, Own)],
-        &[],
-        None,
-        Verdict::Note { at: 1 },
-    ),
-    (
-        &[(0, Own), (1, Own), (1, Own)],
-        &[],
-        None,
-        Verdict::Note { at: 2 },
-    ),
+    (&[(0, Own), (0, Own), (1, Own)], &[], None, Verdict::Note { at: 1 }),
+    (&[(0, Own), (1, Own), (1, Own)], &[], None, Verdict::Note { at: 2 }),
     (&[(0, Own), (1, Own)], &[], Some(4), Verdict::Wrong),
     (&[(0, Own)], &[], None, Verdict::Wrong),
     (&[], &[], None, Verdict::Wrong),
     (&[(1, Own)], &[], Some(4), Verdict::Note { at: 0 }),
     // a key that has an outcome waits for none
-    (
-        &[(0, Own), (1, Own)],
-        &["B1"],
-        None,
-        Verdict::Loop { at: 0 },
-    ),
+    (&[(0, Own), (1, Own)], &["B1"], None, Verdict::Loop { at: 0 }),
 ];
 
+/// A cell that views a copy.
+#[rattlefmt::skip]
+const COPY: [&str; 3] = ["set A1 1", "set B1 =A1+1", "set C1 =VIEW(UPDATE(SHEET(A1:B1),A1,5),B1)"];
+
 /// Of three notes: of a cell of a copy, of the copy, and of a cell that views it.
+#[rattlefmt::skip]
 const CHANGED_COPIES: [Change; 5] = [
-    (
-        &[(0, Own), (1, Own), (2, Own)],
-        &[],
-        None,
-        Verdict::Accepted,
-    ),
-    (
-        &[(0, Own), (1, Of(0)), (2, Own)],
-        &[],
-        None,
-        Verdict::Note { at: 1 },
-    ),
-    (
-        &[(0, Of(1)), (1, Own), (2, Own)],
-        &[],
-        None,
-        Verdict::Note { at: 0 },
-    ),
-    (
-        &[(1, Own), (0, Own), (2, Own)],
-        &[],
-        None,
-        Verdict::Note { at: 0 },
-    ),
+    (&[(0, Own), (1, Own), (2, Own)], &[], None, Verdict::Accepted),
+    (&[(0, Own), (1, Of(0)), (2, Own)], &[], None, Verdict::Note { at: 1 }),
+    (&[(0, Of(1)), (1, Own), (2, Own)], &[], None, Verdict::Note { at: 0 }),
+    (&[(1, Own), (0, Own), (2, Own)], &[], None, Verdict::Note { at: 0 }),
     (&[(0, Own), (2, Own)], &[], None, Verdict::Note { at: 1 }),
 ];
 
+/// Two circles, a formula that reads one of them, and one that loops not.
+#[rattlefmt::skip]
+const LOOPS: [&str; 6] = [
+    "set A1 =B1", "set B1 =A1", "set C1 =IFERROR(A1,7)", "set D1 =E1", "set E1 =D1", "set F1 =1",
+];
+
 /// Of three loops: of a formula that reads the second, which waits for the third, and that for it.
+#[rattlefmt::skip]
 const CHANGED_LOOPS: [Change; 13] = [
     (&[], &["C1", "A1", "B1"], None, Verdict::Accepted),
     (&[], &["C1", "A1"], None, Verdict::Loop { at: 1 }),
@@ -97,12 +65,7 @@ const CHANGED_LOOPS: [Change; 13] = [
     (&[], &["C1"], None, Verdict::Loop { at: 0 }),
     (&[], &["B1", "A1", "C1"], None, Verdict::Accepted),
     (&[], &["C1", "A1", "B1", "A1"], None, Verdict::Accepted),
-    (
-        &[],
-        &["C1", "A1", "B1", "D1", "E1"],
-        None,
-        Verdict::Accepted,
-    ),
+    (&[], &["C1", "A1", "B1", "D1", "E1"], None, Verdict::Accepted),
     (&[], &["A1", "B1"], None, Verdict::Wrong),
     (&[], &[], None, Verdict::Wrong),
     (&[], &["C1", "A1", "B1"], Some(7), Verdict::Wrong),
@@ -155,47 +118,25 @@ fn changed_notes(rt: HostRuntime) -> Result<(), Fail> {
 
 #[test]
 fn changed_copies(rt: HostRuntime) -> Result<(), Fail> {
-    let lines = [
-        "set A1 1",
-        "set B1 =A1+1",
-        "set C1 =VIEW(UPDATE(SHEET(A1:B1),A1,5),B1)",
-    ];
     let w = Oracle::new(rt.alloc());
-    assert_said(&rt, rt.alloc(), &lines, &w, "C1", &CHANGED_COPIES)
+    assert_said(&rt, rt.alloc(), &COPY, &w, "C1", &CHANGED_COPIES)
 }
 
 #[test]
 fn changed_loops(rt: HostRuntime) -> Result<(), Fail> {
-    let lines = [
-        "set A1 =B1",
-        "set B1 =A1",
-        "set C1 =IFERROR(A1,7)",
-        "set D1 =E1",
-        "set E1 =D1",
-        "set F1 =1",
-    ];
     let w = Oracle::new(rt.alloc());
-    assert_said(&rt, rt.alloc(), &lines, &w, "C1", &CHANGED_LOOPS)
+    assert_said(&rt, rt.alloc(), &LOOPS, &w, "C1", &CHANGED_LOOPS)
 }
 
 /// Of two notes, and of a loop that reads both.
+#[rattlefmt::skip]
 const CHANGED_BOTH: [Change; 6] = [
     (&[(0, Own), (1, Own)], &["C1"], None, Verdict::Accepted),
     (&[(0, Own)], &["C1"], None, Verdict::Loop { at: 0 }),
     (&[], &["C1"], None, Verdict::Loop { at: 0 }),
-    (
-        &[(0, Own), (1, Own)],
-        &["C1", "A1"],
-        None,
-        Verdict::Loop { at: 1 },
-    ),
+    (&[(0, Own), (1, Own)], &["C1", "A1"], None, Verdict::Loop { at: 1 }),
     (&[(0, Own), (1, Own)], &[], None, Verdict::Wrong),
-    (
-        &[(0, Own), (1, Number(4))],
-        &[],
-        None,
-        Verdict::Note { at: 1 },
-    ),
+    (&[(0, Own), (1, Number(4))], &[], None, Verdict::Note { at: 1 }),
 ];
 
 #[test]

@@ -11,38 +11,15 @@ use tests_common::{Setting, one_entry, setting_of, sheet_of};
 /// A sheet, the permit of two cells from A1 down, and what is said of the certificate.
 type Other = (&'static [&'static str], Permit, Verdict);
 
+#[rattlefmt::skip]
 const OTHERS: [Other; 6] = [
-    (
-        &["set A1 =SEQUENCE(2,1)", "set B1 =A2+1"],
-        Permit::Permitted,
-        Verdict::Accepted,
-    ),
-    (
-        &["set A1 =SEQUENCE(2,1)", "set B1 =A2+1", "set C1 =7"],
-        Permit::Permitted,
-        Verdict::Accepted,
-    ),
-    (
-        &["set A1 =SEQUENCE(2,1)", "set B1 =A2+2"],
-        Permit::Permitted,
-        Verdict::Note { at: 1 },
-    ),
-    (
-        &["set A1 =SEQUENCE(2,1)", "set B1 =A2+1"],
-        Permit::Refused,
-        Verdict::Note { at: 1 },
-    ),
+    (&["set A1 =SEQUENCE(2,1)", "set B1 =A2+1"], Permit::Permitted, Verdict::Accepted),
+    (&["set A1 =SEQUENCE(2,1)", "set B1 =A2+1", "set C1 =7"], Permit::Permitted, Verdict::Accepted),
+    (&["set A1 =SEQUENCE(2,1)", "set B1 =A2+2"], Permit::Permitted, Verdict::Note { at: 1 }),
+    (&["set A1 =SEQUENCE(2,1)", "set B1 =A2+1"], Permit::Refused, Verdict::Note { at: 1 }),
     // a key whose address has no formula
-    (
-        &["set A1 5", "set B1 =A2+1"],
-        Permit::Permitted,
-        Verdict::Note { at: 0 },
-    ),
-    (
-        &["set A1 =SEQUENCE(2,1)", "set B1 3"],
-        Permit::Permitted,
-        Verdict::Note { at: 1 },
-    ),
+    (&["set A1 5", "set B1 =A2+1"], Permit::Permitted, Verdict::Note { at: 0 }),
+    (&["set A1 =SEQUENCE(2,1)", "set B1 3"], Permit::Permitted, Verdict::Note { at: 1 }),
 ];
 
 /// What is said of a certificate of B1 by the row's sheet and oracle.

@@ -12,23 +12,14 @@ struct Large {
 }
 
 /// As many formulas as a sheet may have.
+#[rattlefmt::skip]
 const FULL: [Large; 2] = [
     // all but one read as many cells as a range may have, a tenth of them under the area of that one
     Large {
         lines: &["set A1 =SEQUENCE(100,10)"],
         columns: &[
-            Column {
-                name: "AA",
-                first: 1,
-                last: 9999,
-                form: Form::Same("SUM(A1:J1000)"),
-            },
-            Column {
-                name: "AB",
-                first: 1,
-                last: 6384,
-                form: Form::Same("SUM(A1:J1000)"),
-            },
+            Column { name: "AA", first: 1, last: 9999, form: Form::Same("SUM(A1:J1000)") },
+            Column { name: "AB", first: 1, last: 6384, form: Form::Same("SUM(A1:J1000)") },
         ],
         told: Told::Yes(1),
     },
@@ -36,66 +27,10 @@ const FULL: [Large; 2] = [
     Large {
         lines: &[],
         columns: &[
-            Column {
-                name: "A",
-                first: 1,
-                last: 9999,
-                form: Form::Same("SEQUENCE(1+1,1)"),
-            },
-            Column {
-                name: "B",
-                first: 1,
-                last: 6385,
-                form: Form::Same("SEQUENCE(1+1,1)"),
-            },
+            Column { name: "A", first: 1, last: 9999, form: Form::Same("SEQUENCE(1+1,1)") },
+            Column { name: "B", first: 1, last: 6385, form: Form::Same("SEQUENCE(1+1,1)") },
         ],
         told: Told::Yes(16384),
-    },
-];
-
-/// Whole columns of cells that read the one above or below.
-const CHAINS: [Large; 4] = [
-    Large {
-        lines: &["set A1 =1"],
-        columns: &[Column {
-            name: "A",
-            first: 2,
-            last: 9999,
-            form: Form::Above("", "+1"),
-        }],
-        told: Told::Yes(0),
-    },
-    Large {
-        lines: &["set A9999 =1"],
-        columns: &[Column {
-            name: "A",
-            first: 1,
-            last: 9998,
-            form: Form::Below("", "+1"),
-        }],
-        told: Told::Yes(0),
-    },
-    // arrays that rest on those above
-    Large {
-        lines: &["set A1 5"],
-        columns: &[Column {
-            name: "A",
-            first: 2,
-            last: 9999,
-            form: Form::Above("SEQUENCE(", ",1)"),
-        }],
-        told: Told::Yes(9998),
-    },
-    // arrays that rest on those below, which the first ones may take the place of
-    Large {
-        lines: &["set A9999 5"],
-        columns: &[Column {
-            name: "A",
-            first: 1,
-            last: 9998,
-            form: Form::Below("SEQUENCE(", ",1)"),
-        }],
-        told: Told::Circle("A1"),
     },
 ];
 
@@ -120,22 +55,41 @@ fn a_full_sheet_of_arrays(rt: HostRuntime) -> Result<(), Fail> {
     Ok(())
 }
 
+/// Whole columns of cells that read the one above or below.
+#[rattlefmt::skip]
+const CHAINS: [Large; 2] = [
+    Large { lines: &["set A1 =1"], told: Told::Yes(0),
+        columns: &[Column { name: "A", first: 2, last: 9999, form: Form::Above("", "+1") }] },
+    Large { lines: &["set A9999 =1"], told: Told::Yes(0),
+        columns: &[Column { name: "A", first: 1, last: 9998, form: Form::Below("", "+1") }] },
+];
+
 #[test]
 fn chains_of_numbers(rt: HostRuntime) -> Result<(), Fail> {
-    for (i, large) in CHAINS[..2].iter().enumerate() {
+    for (i, large) in CHAINS.iter().enumerate() {
         assert!(rt; holds(rt.alloc(), large)?, "sheet {i}");
     }
     Ok(())
 }
 
+/// Arrays that rest on those above.
+#[rattlefmt::skip]
+const ABOVE: Large = Large { lines: &["set A1 5"], told: Told::Yes(9998),
+    columns: &[Column { name: "A", first: 2, last: 9999, form: Form::Above("SEQUENCE(", ",1)") }] };
+
 #[test]
 fn an_array_for_each_above(rt: HostRuntime) -> Result<(), Fail> {
-    assert!(rt; holds(rt.alloc(), &CHAINS[2])?);
+    assert!(rt; holds(rt.alloc(), &ABOVE)?);
     Ok(())
 }
 
+/// Arrays that rest on those below, which the first ones may take the place of.
+#[rattlefmt::skip]
+const BELOW: Large = Large { lines: &["set A9999 5"], told: Told::Circle("A1"),
+    columns: &[Column { name: "A", first: 1, last: 9998, form: Form::Below("SEQUENCE(", ",1)") }] };
+
 #[test]
 fn an_array_for_each_below(rt: HostRuntime) -> Result<(), Fail> {
-    assert!(rt; holds(rt.alloc(), &CHAINS[3])?);
+    assert!(rt; holds(rt.alloc(), &BELOW)?);
     Ok(())
 }

@@ -18,72 +18,29 @@ struct Pair {
     ranges: usize,
 }
 
+#[rattlefmt::skip]
 const PAIRS: [Pair; 12] = [
-    Pair {
-        before: ("F6", &[("A1", 1, 2), ("B2", 2, 2)]),
-        after: ("F6", &[("A1", 1, 2), ("B2", 2, 2)]),
-        ranges: 0,
-    },
+    Pair { before: ("F6", &[("A1", 1, 2), ("B2", 2, 2)]),
+        after: ("F6", &[("A1", 1, 2), ("B2", 2, 2)]), ranges: 0 },
     // a new entry that spills, one that doesn't, and one before an equal one
-    Pair {
-        before: ("F6", &[]),
-        after: ("F6", &[("B2", 2, 2)]),
-        ranges: 2,
-    },
-    Pair {
-        before: ("C3", &[]),
-        after: ("C3", &[("B2", 2, 2)]),
-        ranges: 1,
-    },
-    Pair {
-        before: ("F6", &[("B2", 2, 2)]),
-        after: ("F6", &[("A1", 1, 3), ("B2", 2, 2)]),
-        ranges: 2,
-    },
+    Pair { before: ("F6", &[]), after: ("F6", &[("B2", 2, 2)]), ranges: 2 },
+    Pair { before: ("C3", &[]), after: ("C3", &[("B2", 2, 2)]), ranges: 1 },
+    Pair { before: ("F6", &[("B2", 2, 2)]), after: ("F6", &[("A1", 1, 3), ("B2", 2, 2)]),
+        ranges: 2 },
     // a permit that changes by a content, and one by another array
-    Pair {
-        before: ("C3", &[("B2", 2, 2)]),
-        after: ("F6", &[("B2", 2, 2)]),
-        ranges: 2,
-    },
-    Pair {
-        before: ("F6", &[("B1", 3, 1), ("A2", 1, 3)]),
-        after: ("F6", &[("B1", 1, 1), ("A2", 1, 3)]),
-        ranges: 3,
-    },
+    Pair { before: ("C3", &[("B2", 2, 2)]), after: ("F6", &[("B2", 2, 2)]), ranges: 2 },
+    Pair { before: ("F6", &[("B1", 3, 1), ("A2", 1, 3)]),
+        after: ("F6", &[("B1", 1, 1), ("A2", 1, 3)]), ranges: 3 },
     // spills that grow in rows, in columns, in both, and in rows alone
-    Pair {
-        before: ("F6", &[("B2", 2, 2)]),
-        after: ("F6", &[("B2", 3, 2)]),
-        ranges: 1,
-    },
-    Pair {
-        before: ("F6", &[("B2", 2, 2)]),
-        after: ("F6", &[("B2", 2, 3)]),
-        ranges: 1,
-    },
-    Pair {
-        before: ("F6", &[("B2", 2, 2)]),
-        after: ("F6", &[("B2", 3, 4)]),
-        ranges: 2,
-    },
-    Pair {
-        before: ("F6", &[("B2", 1, 3)]),
-        after: ("F6", &[("B2", 3, 1)]),
-        ranges: 2,
-    },
+    Pair { before: ("F6", &[("B2", 2, 2)]), after: ("F6", &[("B2", 3, 2)]), ranges: 1 },
+    Pair { before: ("F6", &[("B2", 2, 2)]), after: ("F6", &[("B2", 2, 3)]), ranges: 1 },
+    Pair { before: ("F6", &[("B2", 2, 2)]), after: ("F6", &[("B2", 3, 4)]), ranges: 2 },
+    Pair { before: ("F6", &[("B2", 1, 3)]), after: ("F6", &[("B2", 3, 1)]), ranges: 2 },
     // another size of an array that may not spill
-    Pair {
-        before: ("C3", &[("B2", 2, 2)]),
-        after: ("C3", &[("B2", 3, 3)]),
-        ranges: 0,
-    },
+    Pair { before: ("C3", &[("B2", 2, 2)]), after: ("C3", &[("B2", 3, 3)]), ranges: 0 },
     // roots that alternate
-    Pair {
-        before: ("F6", &[("A1", 1, 1), ("A3", 2, 2), ("E4", 1, 1)]),
-        after: ("F6", &[("B1", 2, 2), ("A3", 2, 1), ("D4", 2, 2)]),
-        ranges: 9,
-    },
+    Pair { before: ("F6", &[("A1", 1, 1), ("A3", 2, 2), ("E4", 1, 1)]),
+        after: ("F6", &[("B1", 2, 2), ("A3", 2, 1), ("D4", 2, 2)]), ranges: 9 },
 ];
 
 /// The oracle of these arrays: no two areas that spill meet.

@@ -96,23 +96,17 @@ pub fn is_answered(
     ends(alloc, &call, plan)
 }
 
-/// A script, its replies, and whether one of them is a refusal.
-#[derive(Clone, Copy)]
-pub struct Row<'a> {
-    pub script: &'a [u8],
-    pub replies: &'a [u8],
-    pub refused: bool,
-}
+/// A script, its replies, and how the run ends.
+pub type Row<'a> = (&'a [u8], &'a [u8], Status);
 
 /// The script has these replies by the pick rule of this name.
 pub fn holds_by(alloc: Global, row: &Row<'_>, kind: &str) -> Result<bool, Fail> {
+    let (script, replies, status) = *row;
     let call = Call {
         words: &["--order", kind],
-        script: row.script,
-        replies: row.replies,
-        status: Status::Done {
-            refused: row.refused,
-        },
+        script,
+        replies,
+        status,
     };
     ends(alloc, &call, &cut_at(4096))
 }
@@ -135,7 +129,7 @@ pub fn assert_rows_by(
     kind: &str,
 ) -> Result<(), Fail> {
     for row in rows {
-        assert!(rt; holds_by(alloc, row, kind)?, "{:?}", row.script);
+        assert!(rt; holds_by(alloc, row, kind)?, "{:?}", row.0);
     }
     Ok(())
 }
@@ -143,7 +137,7 @@ pub fn assert_rows_by(
 /// Each script of a table has its replies by each pick rule.
 pub fn assert_rows(rt: &impl Abort, alloc: Global, rows: &[Row<'_>]) -> Result<(), Fail> {
     for row in rows {
-        assert!(rt; holds(alloc, row)?, "{:?}", row.script);
+        assert!(rt; holds(alloc, row)?, "{:?}", row.0);
     }
     Ok(())
 }

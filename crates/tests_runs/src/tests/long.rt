@@ -1,7 +1,8 @@
 //! Scripts of long lines and of many lines, made from their parts.
-use crate::tests::calls::{Row, holds};
+use crate::tests::calls::{DONE, REFUSED, holds};
 use gl_ast::{put, put_number};
 use gl_plane::NoMemory;
+use gl_run::Status;
 use std::alloc::Global;
 use std::process::Abort;
 use std::test::Fail;
@@ -14,76 +15,48 @@ pub enum Part {
     Lines(&'static str, usize, &'static str),
 }
 
-/// The parts of a script and of its replies.
-pub struct Long {
-    pub script: &'static [Part],
-    pub replies: &'static [Part],
-    pub refused: bool,
-}
+/// The parts of a script and of its replies, and how the run ends.
+pub type Long = (&'static [Part], &'static [Part], Status);
 
+#[rattlefmt::skip]
 const LINES: [Long; 10] = [
-    Long {
-        script: &[Part::Times(b"", b"a", 32769, b"\n")],
-        replies: &[Part::Once(b"error line\n")],
-        refused: true,
-    },
-    Long {
-        script: &[Part::Times(b"", b";", 32768, b"\n")],
-        replies: &[],
-        refused: false,
-    },
-    Long {
-        script: &[
-            Part::Times(b"", b";", 32768, b"\n"),
-            Part::Times(b"", b";", 32769, b"\nshow A1\n"),
-        ],
-        replies: &[Part::Once(b"error line\n.\n")],
-        refused: true,
-    },
-    Long {
-        script: &[
-            Part::Times(b"", b"x", 32768, b"\r\n"),
-            Part::Times(b"", b"x", 32769, b"\r\n"),
-        ],
-        replies: &[Part::Once(b"error command\nerror line\n")],
-        refused: true,
-    },
-    Long {
-        script: &[Part::Times(b"", b"q", 32769, b"\nquit\nfoo\n")],
-        replies: &[Part::Once(b"error line\nbye\n")],
-        refused: true,
-    },
+    (&[Part::Times(b"", b"a", 32769, b"\n")], &[Part::Once(b"error line\n")], REFUSED),
+    (&[Part::Times(b"", b";", 32768, b"\n")], &[], DONE),
+    (
+        &[Part::Times(b"", b";", 32768, b"\n"), Part::Times(b"", b";", 32769, b"\nshow A1\n")],
+        &[Part::Once(b"error line\n.\n")],
+        REFUSED,
+    ),
+    (
+        &[Part::Times(b"", b"x", 32768, b"\r\n"), Part::Times(b"", b"x", 32769, b"\r\n")],
+        &[Part::Once(b"error command\nerror line\n")],
+        REFUSED,
+    ),
+    (
+        &[Part::Times(b"", b"q", 32769, b"\nquit\nfoo\n")],
+        &[Part::Once(b"error line\nbye\n")],
+        REFUSED,
+    ),
     // the longest formula
-    Long {
-        script: &[Part::Times(b"set A1 =1", b" ", 8191, b"\nget A1\n")],
-        replies: &[Part::Once(b"ok\n=1\n")],
-        refused: false,
-    },
-    Long {
-        script: &[
-            Part::Times(b"set A1 =1", b" ", 8191, b"\n"),
-            Part::Times(b"set A1 =1", b" ", 8192, b"\n"),
-        ],
-        replies: &[Part::Once(b"ok\nerror long\n")],
-        refused: true,
-    },
-    Long {
-        script: &[Part::Times(b"set A1 =", b"(", 8192, b"\n")],
-        replies: &[Part::Once(b"error deep\n")],
-        refused: true,
-    },
+    (&[Part::Times(b"set A1 =1", b" ", 8191, b"\nget A1\n")], &[Part::Once(b"ok\n=1\n")], DONE),
+    (
+        &[Part::Times(b"set A1 =1", b" ", 8191, b"\n"), Part::Times(b"set A1 =1", b" ", 8192, b"\n")],
+        &[Part::Once(b"ok\nerror long\n")],
+        REFUSED,
+    ),
+    (&[Part::Times(b"set A1 =", b"(", 8192, b"\n")], &[Part::Once(b"error deep\n")], REFUSED),
     // the longest payload, as one field
-    Long {
-        script: &[Part::Times(b"import A1 1048576\n\"", b"a", 1_048_574, b"\"list\n")],
-        replies: &[Part::Once(b"error field\nlist 0\n")],
-        refused: true,
-    },
+    (
+        &[Part::Times(b"import A1 1048576\n\"", b"a", 1_048_574, b"\"list\n")],
+        &[Part::Once(b"error field\nlist 0\n")],
+        REFUSED,
+    ),
     // the largest table, and one that is larger
-    Long {
-        script: &[Part::Once(b"view A1:B5000\nview A1:B5001\n")],
-        replies: &[Part::Times(b"", b". .\n", 5000, b"error range\n")],
-        refused: true,
-    },
+    (
+        &[Part::Once(b"view A1:B5000\nview A1:B5001\n")],
+        &[Part::Times(b"", b". .\n", 5000, b"error range\n")],
+        REFUSED,
+    ),
 ];
 
 #[test]
@@ -92,9 +65,10 @@ fn lines(rt: HostRuntime) -> Result<(), Fail> {
 }
 
 /// Texts at their limits, and sheets of many formulas.
-const TEXTS_AND_SHEETS: [Long; 6] = [
-    Long {
-        script: &[
+#[rattlefmt::skip]
+const TEXTS_AND_SHEETS: [Long; 7] = [
+    (
+        &[
             Part::Times(b"set A1 ", b"a", 4096, b"\n"),
             Part::Times(b"set A1 ", b"a", 4097, b"\n"),
             Part::Times(b"set A1 \"", b"a", 4096, b"\"\n"),
@@ -102,65 +76,66 @@ const TEXTS_AND_SHEETS: [Long; 6] = [
             Part::Times(b"set A1 =\"", b"a", 4096, b"\"\n"),
             Part::Times(b"set A1 =\"", b"a", 4097, b"\"\n"),
         ],
-        replies: &[Part::Once(b"ok\nerror field\nok\nerror text\nok\nerror text\n")],
-        refused: true,
-    },
-    Long {
-        script: &[
+        &[Part::Once(b"ok\nerror field\nok\nerror text\nok\nerror text\n")],
+        REFUSED,
+    ),
+    (
+        &[
             Part::Times(b"set A1 ", b"a", 4096, b"\n"),
-            Part::Once(
-                b"set B1 =LEN(A1&\"b\")\nshow B1\nset B1 =A1&\"\"\nset C1 =LEN(B1)\nshow C1\n",
-            ),
+            Part::Once(b"set B1 =LEN(A1&\"b\")\nshow B1\nset B1 =A1&\"\"\nset C1 =LEN(B1)\nshow C1\n"),
             Part::Times(b"set A1 ", b"\xc3\xa9", 2048, b"\nshow C1\n"),
             Part::Times(b"set A1 ", b"\xc3\xa9", 2049, b"\n"),
         ],
-        replies: &[Part::Once(b"ok\nok\n#SIZE!\nok\nok\n4096\nok\n2048\nerror field\n")],
-        refused: true,
-    },
-    Long {
-        script: &[
+        &[Part::Once(b"ok\nok\n#SIZE!\nok\nok\n4096\nok\n2048\nerror field\n")],
+        REFUSED,
+    ),
+    (
+        &[
             Part::Once(b"import A1 2892\n"),
             Part::Lines("", 500, ",3"),
-            Part::Once(
-                b"set D1 =A1:A500*B1:B500\nset F1 =SUM(D1#)\nset H1 100\nset I1 20\nset J1 =H1-H1*I1/100\nset L1 =G(H1:J1,I1,25)\ncalc\nshow F1\nshow J1\nview L1:N1\n",
-            ),
+            Part::Once(b"set D1 =A1:A500*B1:B500\nset F1 =SUM(D1#)\nset H1 100\nset I1 20\nset J1 =H1-H1*I1/100\nset L1 =G(H1:J1,I1,25)\ncalc\nshow F1\nshow J1\nview L1:N1\n"),
         ],
-        replies: &[Part::Once(b"ok\nok\nok\nok\nok\nok\nok\nsettled 2\n375750\n80\n100 25 75\n")],
-        refused: false,
-    },
-    Long {
-        script: &[
+        &[Part::Once(b"ok\nok\nok\nok\nok\nok\nok\nsettled 2\n375750\n80\n100 25 75\n")],
+        DONE,
+    ),
+    (
+        &[
             Part::Once(b"set A1 =SEQUENCE(3,1)\nset B1 =A1#*2\n"),
             Part::Lines("set D", 100, " =1+1"),
             Part::Once(b"calc\ncalc\n"),
         ],
-        replies: &[Part::Times(b"", b"ok\n", 102, b"settled 3\nsettled 3\n")],
-        refused: false,
-    },
-    Long {
-        script: &[
+        &[Part::Times(b"", b"ok\n", 102, b"settled 3\nsettled 3\n")],
+        DONE,
+    ),
+    (
+        &[
             Part::Lines("set A", 2500, " =1+1"),
             Part::Lines("set B", 2500, " =1+1"),
             Part::Once(b"calc\n"),
         ],
-        replies: &[Part::Times(b"", b"ok\n", 5000, b"settled 1\n")],
-        refused: false,
-    },
+        &[Part::Times(b"", b"ok\n", 5000, b"settled 1\n")],
+        DONE,
+    ),
     // as many formulas as a sheet has, and one more
-    Long {
-        script: &[
+    (
+        &[
             Part::Lines("set A", 8192, " =1"),
             Part::Lines("set B", 8192, " =1"),
             Part::Once(b"set C1 =1\nset A1 =2\nset B1 1\nset C1 =1\nset D1 =1\n"),
         ],
-        replies: &[Part::Times(
-            b"",
-            b"ok\n",
-            16384,
-            b"error formulas\nok\nok\nok\nerror formulas\n",
-        )],
-        refused: true,
-    },
+        &[Part::Times(b"", b"ok\n", 16384, b"error formulas\nok\nok\nok\nerror formulas\n")],
+        REFUSED,
+    ),
+    // the notes of a total of 300 formulas stand in the order in which it needs them
+    (
+        &[Part::Lines("set A", 300, " =1+2"), Part::Once(b"set B1 =SUM(A1:A300)\nexplain B1\n")],
+        &[
+            Part::Times(b"", b"ok\n", 301, b"explain 301 0\n"),
+            Part::Lines("A", 300, " 3"),
+            Part::Once(b"B1 900\nshown 900\naccepted\n"),
+        ],
+        DONE,
+    ),
 ];
 
 #[test]
@@ -214,16 +189,10 @@ fn joined(alloc: Global, parts: &[Part]) -> Result<Vec<u8>, NoMemory> {
 
 /// The script has these replies by each pick rule.
 fn long_holds(alloc: Global, long: &Long) -> Result<bool, Fail> {
-    let script = joined(alloc, long.script)?;
-    let replies = joined(alloc, long.replies)?;
-    holds(
-        alloc,
-        &Row {
-            script: &script,
-            replies: &replies,
-            refused: long.refused,
-        },
-    )
+    let (script, replies, status) = *long;
+    let script = joined(alloc, script)?;
+    let replies = joined(alloc, replies)?;
+    holds(alloc, &(script.as_slice(), replies.as_slice(), status))
 }
 
 /// Each script of a table has its replies by each pick rule.

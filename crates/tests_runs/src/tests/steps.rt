@@ -13,17 +13,24 @@ use tests_common::address;
 /// How many cells of column D hold a formula that rests on nothing.
 const CELLS: usize = 100;
 
+/// A cell, and how often it was evaluated.
+#[derive(Drop)]
+struct Counted {
+    key: Key,
+    times: u64,
+}
+
 /// How often each of some cells was evaluated.
 #[derive(Drop)]
 struct Counts {
-    counted: Vec<(Key, u64)>,
+    counted: Vec<Counted>,
 }
 
 impl Watch for Counts {
     fn saw(&mut self, key: &Key) {
         for one in self.counted.iter_mut() {
-            if one.0 == *key {
-                one.1 = one.1.saturating_add(1);
+            if one.key == *key {
+                one.times = one.times.saturating_add(1);
             }
         }
     }
@@ -43,7 +50,8 @@ fn no_counts(alloc: Global) -> Result<Counts, Fail> {
     let mut counted = Vec::new(alloc);
     for i in 0..CELLS {
         let name = numbered(alloc, "D", i + 1, "")?;
-        counted.push((Key::Cell(Env::Top, address(&name)?), 0))?;
+        let key = Key::Cell(Env::Top, address(&name)?);
+        counted.push(Counted { key, times: 0 })?;
     }
     Ok(Counts { counted })
 }
@@ -126,7 +134,7 @@ const ROWS: [Row; 5] = [
 fn are_seen(counts: &Counts, first: u64) -> bool {
     for (i, one) in counts.counted.iter().enumerate() {
         let wanted = if i == 0 { first } else { 1 };
-        if one.1 != wanted {
+        if one.times != wanted {
             return false;
         }
     }

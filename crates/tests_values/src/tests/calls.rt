@@ -26,23 +26,13 @@ fn over_elements(name: &str, values: &[Value]) -> Result<Scalar, Fail> {
     }
 }
 
-fn of_scalar(name: &str, x: &Scalar) -> Result<Scalar, Fail> {
-    match name {
-        "NOT" => Ok(not(x)),
-        "ISERROR" => Ok(is_error(x)),
-        "ISBLANK" => Ok(is_blank(x)),
-        "ABS" => Ok(abs(x)),
-        "LEN" => Ok(len(x)),
-        _ => Err(Fail::new("no function")),
-    }
-}
-
 fn scalar_answer(alloc: Global, name: &str, values: &[Value]) -> Result<Scalar, Fail> {
     match name {
-        "NOT" | "ISERROR" | "ISBLANK" | "ABS" | "LEN" => of_scalar(
-            name,
-            scalar_argument(values, 0)?,
-        ),
+        "NOT" => Ok(not(scalar_argument(values, 0)?)),
+        "ISERROR" => Ok(is_error(scalar_argument(values, 0)?)),
+        "ISBLANK" => Ok(is_blank(scalar_argument(values, 0)?)),
+        "ABS" => Ok(abs(scalar_argument(values, 0)?)),
+        "LEN" => Ok(len(scalar_argument(values, 0)?)),
         "MOD" => Ok(modulo(scalar_argument(values, 0)?, scalar_argument(values, 1)?)),
         "LEFT" => Ok(left(
             alloc,

@@ -4,17 +4,13 @@ use gl_plane::NoMemory;
 use gl_scalar::{arith, compare, join_text, negate};
 use gl_value::{MAX_TEXT, Scalar};
 use std::alloc::Global;
-use std::process::Abort;
 use std::rc::RcStr;
 use std::test::Fail;
 use tests_common::{each_is_read, scalar, scalar_text, text};
 
 fn operate(alloc: Global, op: Op, x: &Scalar, y: &Scalar) -> Result<Scalar, NoMemory> {
     match op {
-        Op::Add => Ok(arith(Op::Add, x, y)),
-        Op::Sub => Ok(arith(Op::Sub, x, y)),
-        Op::Mul => Ok(arith(Op::Mul, x, y)),
-        Op::Div => Ok(arith(Op::Div, x, y)),
+        Op::Add | Op::Sub | Op::Mul | Op::Div => Ok(arith(op, x, y)),
         Op::Join => join_text(alloc, x, y),
         _ => Ok(compare(op, x, y)),
     }
@@ -41,69 +37,41 @@ fn beside(alloc: Global, op: Op, x: &str, others: &[&str]) -> Result<String, Fai
     Ok(out)
 }
 
-fn assert_beside(rt: &impl Abort, alloc: Global, rows: &[(Op, &str, &str)]) -> Result<(), Fail> {
-    for (op, x, want) in rows {
+/// What operators give at a first operand and each of the plain ones: without a number none computes.
+#[rattlefmt::skip]
+const AT_EACH_KIND: [(Op, &str, &str); 20] = [
+    (Op::Add, ".", "0 7 #VALUE! #VALUE!"),
+    (Op::Add, "7", "7 14 #VALUE! #VALUE!"),
+    (Op::Sub, ".", "0 -7 #VALUE! #VALUE!"),
+    (Op::Sub, "7", "7 0 #VALUE! #VALUE!"),
+    (Op::Mul, ".", "0 0 #VALUE! #VALUE!"),
+    (Op::Mul, "7", "0 49 #VALUE! #VALUE!"),
+    (Op::Div, ".", "#DIV/0! 0 #VALUE! #VALUE!"),
+    (Op::Div, "7", "#DIV/0! 1 #VALUE! #VALUE!"),
+    (Op::Add, "\"a\"", "#VALUE! #VALUE! #VALUE! #VALUE!"),
+    (Op::Add, "TRUE", "#VALUE! #VALUE! #VALUE! #VALUE!"),
+    (Op::Sub, "\"a\"", "#VALUE! #VALUE! #VALUE! #VALUE!"),
+    (Op::Sub, "TRUE", "#VALUE! #VALUE! #VALUE! #VALUE!"),
+    (Op::Mul, "\"a\"", "#VALUE! #VALUE! #VALUE! #VALUE!"),
+    (Op::Mul, "TRUE", "#VALUE! #VALUE! #VALUE! #VALUE!"),
+    (Op::Div, "\"a\"", "#VALUE! #VALUE! #VALUE! #VALUE!"),
+    (Op::Div, "TRUE", "#VALUE! #VALUE! #VALUE! #VALUE!"),
+    (Op::Join, ".", "\"\" \"7\" \"a\" \"TRUE\""),
+    (Op::Join, "7", "\"7\" \"77\" \"7a\" \"7TRUE\""),
+    (Op::Join, "\"a\"", "\"a\" \"a7\" \"aa\" \"aTRUE\""),
+    (Op::Join, "TRUE", "\"TRUE\" \"TRUE7\" \"TRUEa\" \"TRUETRUE\""),
+];
+
+#[test]
+fn operators_at_each_kind(rt: HostRuntime) -> Result<(), Fail> {
+    for (op, x, want) in &AT_EACH_KIND {
         assert_eq!(rt;
-            beside(alloc, *op, x, &PLAIN)?.as_str(),
+            beside(rt.alloc(), *op, x, &PLAIN)?.as_str(),
             *want,
             "{op:?} {x}"
         );
     }
     Ok(())
-}
-
-#[test]
-fn arithmetic_with_numbers(rt: HostRuntime) -> Result<(), Fail> {
-    assert_beside(
-        &rt,
-        rt.alloc(),
-        &[
-            (Op::Add, ".", "0 7 #VALUE! #VALUE!"),
-            (Op::Add, "7", "7 14 #VALUE! #VALUE!"),
-            (Op::Sub, ".", "0 -7 #VALUE! #VALUE!"),
-            (Op::Sub, "7", "7 0 #VALUE! #VALUE!"),
-            (Op::Mul, ".", "0 0 #VALUE! #VALUE!"),
-            (Op::Mul, "7", "0 49 #VALUE! #VALUE!"),
-            (Op::Div, ".", "#DIV/0! 0 #VALUE! #VALUE!"),
-            (Op::Div, "7", "#DIV/0! 1 #VALUE! #VALUE!"),
-        ],
-    )
-}
-
-#[test]
-fn arithmetic_without_numbers(rt: HostRuntime) -> Result<(), Fail> {
-    assert_beside(
-        &rt,
-        rt.alloc(),
-        &[
-            (Op::Add, "\"a\"", "#VALUE! #VALUE! #VALUE! #VALUE!"),
-            (Op::Add, "TRUE", "#VALUE! #VALUE! #VALUE! #VALUE!"),
-            (Op::Sub, "\"a\"", "#VALUE! #VALUE! #VALUE! #VALUE!"),
-            (Op::Sub, "TRUE", "#VALUE! #VALUE! #VALUE! #VALUE!"),
-            (Op::Mul, "\"a\"", "#VALUE! #VALUE! #VALUE! #VALUE!"),
-            (Op::Mul, "TRUE", "#VALUE! #VALUE! #VALUE! #VALUE!"),
-            (Op::Div, "\"a\"", "#VALUE! #VALUE! #VALUE! #VALUE!"),
-            (Op::Div, "TRUE", "#VALUE! #VALUE! #VALUE! #VALUE!"),
-        ],
-    )
-}
-
-#[test]
-fn texts_joined_at_each_kind(rt: HostRuntime) -> Result<(), Fail> {
-    assert_beside(
-        &rt,
-        rt.alloc(),
-        &[
-            (Op::Join, ".", "\"\" \"7\" \"a\" \"TRUE\""),
-            (Op::Join, "7", "\"7\" \"77\" \"7a\" \"7TRUE\""),
-            (Op::Join, "\"a\"", "\"a\" \"a7\" \"aa\" \"aTRUE\""),
-            (
-                Op::Join,
-                "TRUE",
-                "\"TRUE\" \"TRUE7\" \"TRUEa\" \"TRUETRUE\"",
-            ),
-        ],
-    )
 }
 
 fn letter(word: &str) -> &'static str {
@@ -205,55 +173,41 @@ fn the_sign_of_every_kind(rt: HostRuntime) -> Result<(), Fail> {
     )
 }
 
-fn assert_told(
-    rt: &impl Abort,
-    alloc: Global,
-    rows: &[(Op, &str, &str, &str)],
-) -> Result<(), Fail> {
-    for (op, x, y, want) in rows {
-        assert_eq!(rt; told(alloc, *op, x, y)?.as_str(), *want, "{op:?} {x} {y}");
+/// Operators on numbers at their limits, and on texts.
+#[rattlefmt::skip]
+const NUMBERS_AND_TEXTS: [(Op, &str, &str, &str); 20] = [
+    (Op::Add, "9223372036854775807", "1", "#NUM!"),
+    (Op::Add, "9223372036854775807", "0", "9223372036854775807"),
+    (Op::Sub, "-9223372036854775808", "1", "#NUM!"),
+    (Op::Mul, "-9223372036854775808", "-1", "#NUM!"),
+    (Op::Mul, "4294967296", "-2147483648", "-9223372036854775808"),
+    (Op::Div, "-9223372036854775808", "-1", "#NUM!"),
+    (Op::Div, "-7", "2", "-3"),
+    (Op::Div, "7", "-2", "-3"),
+    (Op::Div, "1", "0", "#DIV/0!"),
+    (Op::Lt, "-1", "0", "TRUE"),
+    (Op::Lt, "\"Z\"", "\"a\"", "TRUE"),
+    (Op::Lt, "\"aa\"", "\"b\"", "TRUE"),
+    (Op::Lt, "\"a\"", "\"aa\"", "TRUE"),
+    (Op::Eq, "\"a\"", "\"A\"", "FALSE"),
+    (Op::Lt, "\"z\"", "\"\u{e9}\"", "TRUE"),
+    (Op::Add, "\"1\"", "\"1\"", "#VALUE!"),
+    (Op::Join, "\"a\"", "\"\u{e9}\"", "\"a\u{e9}\""),
+    (Op::Eq, "1", "\"1\"", "FALSE"),
+    (Op::Eq, "\"\"", ".", "TRUE"),
+    (Op::Join, "\"a1\"", "TRUE", "\"a1TRUE\""),
+];
+
+#[test]
+fn numbers_at_their_limits_and_texts(rt: HostRuntime) -> Result<(), Fail> {
+    for (op, x, y, want) in &NUMBERS_AND_TEXTS {
+        assert_eq!(rt;
+            told(rt.alloc(), *op, x, y)?.as_str(),
+            *want,
+            "{op:?} {x} {y}"
+        );
     }
     Ok(())
-}
-
-#[test]
-fn numbers_at_their_limits(rt: HostRuntime) -> Result<(), Fail> {
-    assert_told(
-        &rt,
-        rt.alloc(),
-        &[
-            (Op::Add, "9223372036854775807", "1", "#NUM!"),
-            (Op::Add, "9223372036854775807", "0", "9223372036854775807"),
-            (Op::Sub, "-9223372036854775808", "1", "#NUM!"),
-            (Op::Mul, "-9223372036854775808", "-1", "#NUM!"),
-            (Op::Mul, "4294967296", "-2147483648", "-9223372036854775808"),
-            (Op::Div, "-9223372036854775808", "-1", "#NUM!"),
-            (Op::Div, "-7", "2", "-3"),
-            (Op::Div, "7", "-2", "-3"),
-            (Op::Div, "1", "0", "#DIV/0!"),
-            (Op::Lt, "-1", "0", "TRUE"),
-        ],
-    )
-}
-
-#[test]
-fn texts(rt: HostRuntime) -> Result<(), Fail> {
-    assert_told(
-        &rt,
-        rt.alloc(),
-        &[
-            (Op::Lt, "\"Z\"", "\"a\"", "TRUE"),
-            (Op::Lt, "\"aa\"", "\"b\"", "TRUE"),
-            (Op::Lt, "\"a\"", "\"aa\"", "TRUE"),
-            (Op::Eq, "\"a\"", "\"A\"", "FALSE"),
-            (Op::Lt, "\"z\"", "\"\u{e9}\"", "TRUE"),
-            (Op::Add, "\"1\"", "\"1\"", "#VALUE!"),
-            (Op::Join, "\"a\"", "\"\u{e9}\"", "\"a\u{e9}\""),
-            (Op::Eq, "1", "\"1\"", "FALSE"),
-            (Op::Eq, "\"\"", ".", "TRUE"),
-            (Op::Join, "\"a1\"", "TRUE", "\"a1TRUE\""),
-        ],
-    )
 }
 
 /// A text of as many bytes as may be.
