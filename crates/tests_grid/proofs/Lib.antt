@@ -1,4 +1,2 @@
 pub mod After
 pub mod OneContent
-pub mod Nothing
-pub mod InOrder

@@ -1,4 +1,4 @@
-//! Tests of the grid, the outside, permits, rounds, pick rules, notes and what an edit affects.
+//! Tests of the grid, the outside, permits and what an edit affects.
 #![tactic(auto)]
 
 #[cfg(test)]

@@ -8,7 +8,7 @@ use std::test::Fail;
 
 /// A content in the way of an array, and no longer
 #[rattlefmt::skip]
-const A_CONTENT_IN_THE_WAY: [Sheet; 3] = [
+const A_CONTENT_IN_THE_WAY: &[Sheet] = &[
     Sheet { lines: &["set A1 =SEQUENCE(3,1)", "set B1 =A1#*2"], ends: "settled 3",
         oracle: "oracle 2\nA1 3x1 permitted\nB1 3x1 permitted\n", shows: &[("A1", "1"), ("A2", "2"),
         ("A3", "3"), ("B1", "2"), ("B2", "4"), ("B3", "6"), ("C1", ".")],
@@ -22,7 +22,7 @@ const A_CONTENT_IN_THE_WAY: [Sheet; 3] = [
 ];
 
 #[rattlefmt::skip]
-const THE_EDGE_IN_THE_WAY: [Sheet; 4] = [
+const THE_EDGE_IN_THE_WAY: &[Sheet] = &[
     Sheet { lines: &["set A9998 =SEQUENCE(3,1)"], ends: "settled 2",
         oracle: "oracle 1\nA9998 3x1 refused\n", shows: &[("A9998", "#SPILL!"), ("A9999", ".")],
         whys: &[("A9998", "edge")] },
@@ -39,7 +39,7 @@ const THE_EDGE_IN_THE_WAY: [Sheet; 4] = [
 
 /// An array in a copy, and one that has no room there
 #[rattlefmt::skip]
-const ARRAYS_IN_A_COPY: [Sheet; 2] = [
+const ARRAYS_IN_A_COPY: &[Sheet] = &[
     Sheet { lines: &["set A1 2", "set B1 =SEQUENCE(A1,1)", "set D1 =G(A1:B3,A1,3)"],
         ends: "settled 2", oracle: "oracle 2\nB1 2x1 permitted\nD1 3x2 permitted\n",
         shows: &[("D1", "3"), ("E1", "1"), ("D2", "."), ("E2", "2"), ("D3", "."), ("E3", "3"),
@@ -57,11 +57,7 @@ fn history_holds(alloc: Global, rows: &[Sheet], kind: u8) -> Result<bool, Fail>
     all_go_on(alloc, &mut Calc::new(alloc), rows, kind)
 }
 
-const HISTORIES: [&[Sheet]; 3] = [
-    &A_CONTENT_IN_THE_WAY,
-    &THE_EDGE_IN_THE_WAY,
-    &ARRAYS_IN_A_COPY,
-];
+const HISTORIES: &[&[Sheet]] = &[A_CONTENT_IN_THE_WAY, THE_EDGE_IN_THE_WAY, ARRAYS_IN_A_COPY];
 
 #[test]
 fn edits_of_one_sheet(rt: HostRuntime) -> Result<(), Fail> {

@@ -21,7 +21,7 @@ struct Row {
 
 /// Ten formulas that rest on nothing, beside two arrays: each of the ten takes a step once, and
 /// again only where it is edited, once in each of the three rounds.
-const BESIDE_ARRAYS: [Row; 7] = [
+const BESIDE_ARRAYS: &[Row] = &[
     Row {
         lines: &[
             "set A1 =SEQUENCE(3,1)",
@@ -90,7 +90,7 @@ const BESIDE_ARRAYS: [Row; 7] = [
 ];
 
 /// A ring that is broken, and made again.
-const A_RING: [Row; 4] = [
+const A_RING: &[Row] = &[
     Row {
         lines: &["set A1 =B1", "set B1 =A1", "set C1 =B1+1"],
         version: Version::One,
@@ -123,7 +123,7 @@ const A_RING: [Row; 4] = [
 
 /// A budget of each kind is spent, and is spent at once where it is asked again: of rounds, of
 /// depth, and of rounds in a copy. Behind an edit that mends it the sheet settles.
-const SPENT: [Row; 9] = [
+const SPENT: &[Row] = &[
     Row {
         lines: &["set A1 =IF(C1=0,SEQUENCE(1,3),5)"],
         version: Version::One,
@@ -237,7 +237,7 @@ fn assert_rows(rt: &impl Abort, alloc: Global, rows: &[Row]) -> Result<(), Fail>
 
 #[test]
 fn what_is_kept_and_what_is_spent_takes_no_step(rt: HostRuntime) -> Result<(), Fail> {
-    assert_rows(&rt, rt.alloc(), &BESIDE_ARRAYS)?;
-    assert_rows(&rt, rt.alloc(), &SPENT)?;
-    assert_rows(&rt, rt.alloc(), &A_RING)
+    assert_rows(&rt, rt.alloc(), BESIDE_ARRAYS)?;
+    assert_rows(&rt, rt.alloc(), SPENT)?;
+    assert_rows(&rt, rt.alloc(), A_RING)
 }

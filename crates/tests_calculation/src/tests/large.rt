@@ -14,7 +14,7 @@ use std::alloc::Global;
 use std::test::Fail;
 use tests_common::address;
 
-const LARGE: [Sheet; 5] = [
+const LARGE: &[Sheet] = &[
     // copies that each make two
     Sheet {
         lines: &[
@@ -97,7 +97,7 @@ const WORK: Sheet = Sheet {
 
 #[test]
 fn large_sheets(rt: HostRuntime) -> Result<(), Fail> {
-    assert_sheets(&rt, rt.alloc(), &LARGE)
+    assert_sheets(&rt, rt.alloc(), LARGE)
 }
 
 /// Asked again, it says so at once.

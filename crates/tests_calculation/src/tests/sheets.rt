@@ -4,7 +4,7 @@ use crate::tests::calculations::{Sheet, assert_sheets};
 use std::test::Fail;
 
 #[rattlefmt::skip]
-const ARRAYS: [Sheet; 3] = [
+const ARRAYS: &[Sheet] = &[
     Sheet { lines: &["set A2 =SEQUENCE(1,3)", "set B1 =SEQUENCE(3,1)"], ends: "settled 2",
         oracle: "oracle 2\nB1 3x1 permitted\nA2 1x3 refused\n",
         shows: &[("A2", "#SPILL!"), ("B2", "2"), ("B3", "3")],
@@ -20,7 +20,7 @@ const ARRAYS: [Sheet; 3] = [
 ];
 
 #[rattlefmt::skip]
-const CELLS: [Sheet; 10] = [
+const CELLS: &[Sheet] = &[
     // a ring, and a cell that demands it
     Sheet { lines: &["set A1 =B1", "set B1 =A1", "set C1 =IFERROR(A1,7)"], ends: "settled 1",
         oracle: "oracle 0\n", shows: &[("A1", "#CYCLE!"), ("B1", "#CYCLE!"), ("C1", "#CYCLE!")],
@@ -56,6 +56,6 @@ const CELLS: [Sheet; 10] = [
 
 #[test]
 fn sheets_with_arrays_and_cells(rt: HostRuntime) -> Result<(), Fail> {
-    assert_sheets(&rt, rt.alloc(), &ARRAYS)?;
-    assert_sheets(&rt, rt.alloc(), &CELLS)
+    assert_sheets(&rt, rt.alloc(), ARRAYS)?;
+    assert_sheets(&rt, rt.alloc(), CELLS)
 }

@@ -26,7 +26,7 @@ fn siblings(alloc: Global) -> Result<Calc, Fail> {
 
 /// What some of the copies show, behind edits.
 #[rattlefmt::skip]
-const BEHIND: [Sheet; 3] = [
+const BEHIND: &[Sheet] = &[
     Sheet { lines: &[], ends: "settled 1", oracle: "oracle 0\n", shows: &[("C1", "10"),
         ("E1", "10"), ("E2", "20"), ("E150", "1500"), ("E2999", "29990"), ("E3000", "30000")],
         whys: &[("E1", "none")] },
@@ -42,7 +42,7 @@ const BEHIND: [Sheet; 3] = [
 fn siblings_hold(alloc: Global, kind: u8) -> Result<bool, Fail>
     requires { kind ≤ 2 }
 {
-    all_go_on(alloc, &mut siblings(alloc)?, &BEHIND, kind)
+    all_go_on(alloc, &mut siblings(alloc)?, BEHIND, kind)
 }
 
 #[test]

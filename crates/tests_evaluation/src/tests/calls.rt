@@ -11,7 +11,7 @@ use tests_common::{sheet_of, value_text};
 /// A line that sets A1, the extents of the array that it comes to, `None` for a scalar, and the elements.
 type Row = (&'static str, Option<(u16, u16)>, &'static str);
 
-const TRUTHS_AND_NUMBERS: [Row; 15] = [
+const TRUTHS_AND_NUMBERS: &[Row] = &[
     ("set A1 =SUM(7)", None, "7"),
     ("set A1 =COUNT(3,5)", None, "2"),
     ("set A1 =MIN(3,5)", None, "3"),
@@ -29,7 +29,7 @@ const TRUTHS_AND_NUMBERS: [Row; 15] = [
     ("set A1 =NA()", None, "#N/A"),
 ];
 
-const PARTS_AND_ARRAYS: [Row; 15] = [
+const PARTS_AND_ARRAYS: &[Row] = &[
     ("set A1 =ROWS(7)", None, "1"),
     ("set A1 =COLUMNS(7)", None, "1"),
     ("set A1 =TRANSPOSE(7)", None, "7"),
@@ -78,6 +78,6 @@ fn assert_rows(rt: &impl Abort, alloc: Global, rows: &[Row]) -> Result<(), Fail>
 
 #[test]
 fn functions_of_scalars(rt: HostRuntime) -> Result<(), Fail> {
-    assert_rows(&rt, rt.alloc(), &TRUTHS_AND_NUMBERS)?;
-    assert_rows(&rt, rt.alloc(), &PARTS_AND_ARRAYS)
+    assert_rows(&rt, rt.alloc(), TRUTHS_AND_NUMBERS)?;
+    assert_rows(&rt, rt.alloc(), PARTS_AND_ARRAYS)
 }

@@ -18,7 +18,7 @@ struct Sheet {
 }
 
 #[rattlefmt::skip]
-const COPIES: [Sheet; 4] = [
+const COPIES: &[Sheet] = &[
     Sheet { lines: &["set A1 3", "set B1 4", "set C1 =A1*A1+B1*B1", "set E1 =G(A1:C1,A1,6)"],
         ends: &[("C1", "25", "25"), ("E1", "settle A1:C1", "6 4 52")] },
     Sheet { lines: &["set A1 1", "set B1 =A1*10", "set C1 =VIEW(SHEET(B1),B1)",
@@ -35,7 +35,7 @@ const COPIES: [Sheet; 4] = [
 ];
 
 #[rattlefmt::skip]
-const BUDGETS_AND_CYCLES: [Sheet; 3] = [
+const BUDGETS_AND_CYCLES: &[Sheet] = &[
     Sheet { lines: &["set A1 1", "set B1 =C1+A1", "set C1 =G(A1:B1,A1,5)"],
         ends: &[("B1", "C1", "cycle"), ("C1", "settle A1:B1", "cycle")] },
     Sheet { lines: &["set A1 0", "set B1 =IF(A1=0,0,A1+VIEW(UPDATE(SHEET(A1:B1),A1,A1-1),B1))",
@@ -47,7 +47,7 @@ const BUDGETS_AND_CYCLES: [Sheet; 3] = [
         ends: &[("F1", "settle A1:D3", "spent copyrounds")] },
 ];
 
-const CHOICES: [&str; 4] = [
+const CHOICES: &[&str] = &[
     "set A1 =IFERROR(10/(SEQUENCE(1,3)-2),0)",
     "set A2 =IF(SEQUENCE(1,2)>0,1,A2)",
     "set A3 =IF(SEQUENCE(1,2)=1,1,2)",
@@ -55,7 +55,7 @@ const CHOICES: [&str; 4] = [
 ];
 
 /// What they find in version 1, where an array chooses nothing.
-const IN_ONE: [End; 4] = [
+const IN_ONE: &[End] = &[
     ("A1", "-10 #DIV/0! 10", "-10 #DIV/0! 10"),
     ("A2", "#VALUE!", "#VALUE!"),
     ("A3", "#VALUE!", "#VALUE!"),
@@ -63,7 +63,7 @@ const IN_ONE: [End; 4] = [
 ];
 
 /// What they find in version 2.
-const IN_TWO: [End; 4] = [
+const IN_TWO: &[End] = &[
     ("A1", "-10 0 10", "-10 0 10"),
     ("A2", "A2", "cycle"),
     ("A3", "1 2", "1 2"),
@@ -114,13 +114,13 @@ fn assert_sheets(rt: &impl Abort, alloc: Global, sheets: &[Sheet]) -> Result<(),
 
 #[test]
 fn choices_by_version(rt: HostRuntime) -> Result<(), Fail> {
-    assert!(rt; holds(rt.alloc(), Version::One, &CHOICES, &IN_ONE)?);
-    assert!(rt; holds(rt.alloc(), Version::Two, &CHOICES, &IN_TWO)?);
+    assert!(rt; holds(rt.alloc(), Version::One, CHOICES, IN_ONE)?);
+    assert!(rt; holds(rt.alloc(), Version::Two, CHOICES, IN_TWO)?);
     Ok(())
 }
 
 #[test]
 fn copies_budgets_and_cycles(rt: HostRuntime) -> Result<(), Fail> {
-    assert_sheets(&rt, rt.alloc(), &COPIES)?;
-    assert_sheets(&rt, rt.alloc(), &BUDGETS_AND_CYCLES)
+    assert_sheets(&rt, rt.alloc(), COPIES)?;
+    assert_sheets(&rt, rt.alloc(), BUDGETS_AND_CYCLES)
 }

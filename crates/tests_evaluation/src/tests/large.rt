@@ -51,7 +51,7 @@ fn a_chain_of_many_keys_in_turn(rt: HostRuntime) -> Result<(), Fail> {
 }
 
 /// Copies that each make two, and three formulas beside them.
-const TREE: [&str; 5] = [
+const TREE: &[&str] = &[
     "set A1 1",
     "set B1 =IF(A1>=50000,1,VIEW(UPDATE(SHEET(A1:B1),A1,2*A1),B1)+VIEW(UPDATE(SHEET(A1:B1),A1,2*A1+1),B1))",
     "set C1 =1",
@@ -63,7 +63,7 @@ const TREE: [&str; 5] = [
 fn many_keys(rt: HostRuntime) -> Result<(), Fail> {
     assert_eq!(rt; MAX_DEMANDED, 500_000);
     let w = Oracle::new(rt.alloc());
-    let cells = sheet_of(rt.alloc(), &TREE)?;
+    let cells = sheet_of(rt.alloc(), TREE)?;
     let at = setting_of(rt.alloc(), &cells, &w);
     assert_eq!(rt;
         counts(&at, &["B1", "C1", "D1", "E1"], "B1", 2)?,

@@ -7,7 +7,7 @@ use std::test::Fail;
 use tests_common::{one_entry, put_line, sheet_of};
 
 /// An array of four elements, a number that is computed, and one that is not.
-const REFERENCES: [&str; 3] = ["set A1 =SEQUENCE(2,2)", "set D1 =7", "set A5 3"];
+const REFERENCES: &[&str] = &["set A1 =SEQUENCE(2,2)", "set D1 =7", "set A5 3"];
 
 /// The root, the rows, the columns and the permit of an entry.
 pub type Entry = (&'static str, u16, u16, Permit);
@@ -35,7 +35,7 @@ type Row = (
 );
 
 #[rattlefmt::skip]
-const ROWS: [Row; 20] = [
+const ROWS: &[Row] = &[
     (NONE, "set Z1 =A5", "Z1:Z1, A5:A5", "", "3"),
     (NONE, "set Z1 =D1", "Z1:Z1, D1:D1", "D1", "7"),
     (NONE, "set Z1 =A1", "Z1:Z1, A1:A1", "A1", "1"),
@@ -69,7 +69,7 @@ pub fn oracle_of(alloc: Global, entry: Option<Entry>) -> Result<Oracle, Fail> {
 /// The formula of the row is as it says.
 fn refers(alloc: Global, row: &Row) -> Result<bool, Fail> {
     let (entry, line, looked, reads, want) = *row;
-    let mut cells = sheet_of(alloc, &REFERENCES)?;
+    let mut cells = sheet_of(alloc, REFERENCES)?;
     put_line(alloc, &mut cells, line)?;
     let w = oracle_of(alloc, entry)?;
     let turn = turn_under(alloc, &cells, &w, "Z1")?;
@@ -82,7 +82,7 @@ fn refers(alloc: Global, row: &Row) -> Result<bool, Fail> {
 
 #[test]
 fn references(rt: HostRuntime) -> Result<(), Fail> {
-    for row in &ROWS {
+    for row in ROWS {
         assert!(rt; refers(rt.alloc(), row)?, "{} under {:?}", row.1, row.0);
     }
     Ok(())

@@ -16,7 +16,7 @@ use std::test::Fail;
 use tests_common::{Setting, range, setting_of, sheet_of};
 
 /// A chain of two formulas over a number, a formula apart, and one that loops.
-const LINES: [&str; 5] = [
+const LINES: &[&str] = &[
     "set A1 5",
     "set B1 =A1+1",
     "set C1 =B1+1",
@@ -24,7 +24,7 @@ const LINES: [&str; 5] = [
     "set E1 =E1",
 ];
 
-const FORMULAS: [&str; 4] = ["B1", "C1", "D1", "E1"];
+const FORMULAS: &[&str] = &["B1", "C1", "D1", "E1"];
 
 const SEEN: [Sight; 4] = [
     Sight::Number(6),
@@ -34,7 +34,7 @@ const SEEN: [Sight; 4] = [
 ];
 
 /// The formulas that don't loop.
-const CHAIN: [&str; 3] = ["B1", "C1", "D1"];
+const CHAIN: &[&str] = &["B1", "C1", "D1"];
 
 /// A run without results is as one from the start: the steps, the keys that are known, and what is
 /// seen of each formula by its place and by its key.
@@ -42,14 +42,14 @@ fn begins_alike(at: &Setting<'_>, kind: u8) -> Result<bool, Fail>
     requires { kind ≤ 2 }
 {
     let mut steps = Steps::new(Silent);
-    let quiet = run(at, fresh(at, &FORMULAS)?, kind, &mut steps)?;
+    let quiet = run(at, fresh(at, FORMULAS)?, kind, &mut steps)?;
     for (i, name) in FORMULAS.iter().enumerate() {
         if seen_as(quiet.seen(&cell(name)?)) != SEEN[i] {
             return Ok(false);
         }
     }
     let seen = seen_of(at.alloc, &quiet, 4)?;
-    let ran = run_with(at, &FORMULAS, Results::new(at.alloc), kind)?;
+    let ran = run_with(at, FORMULAS, Results::new(at.alloc), kind)?;
     Ok(
         seen.as_slice() == SEEN.as_slice()
             && ran.seen.as_slice() == SEEN.as_slice()
@@ -61,7 +61,7 @@ fn begins_alike(at: &Setting<'_>, kind: u8) -> Result<bool, Fail>
 #[test]
 fn a_run_without_results_is_one_from_the_start(rt: HostRuntime) -> Result<(), Fail> {
     let w = Oracle::new(rt.alloc());
-    let cells = sheet_of(rt.alloc(), &LINES)?;
+    let cells = sheet_of(rt.alloc(), LINES)?;
     let at = setting_of(rt.alloc(), &cells, &w);
     for kind in 0u8..3 {
         assert!(rt; begins_alike(&at, kind)?, "by {kind}");
@@ -104,7 +104,7 @@ struct Change {
 }
 
 #[rattlefmt::skip]
-const CHANGES: [Change; 6] = [
+const CHANGES: &[Change] = &[
     // nothing rests on it: all results stay, and no step is taken
     Change { place: "E5:F9", kept: 3, each: [[0, 0, 0], [0, 0, 0], [0, 0, 0]] },
     // by the second rule C1 is evaluated before B1, and once more behind it
@@ -120,9 +120,9 @@ const CHANGES: [Change; 6] = [
 fn goes_on(at: &Setting<'_>, change: &Change, kind: u8) -> Result<bool, Fail>
     requires { kind ≤ 2 }
 {
-    let kept = results_behind(at, &CHAIN, change.place, kind)?;
+    let kept = results_behind(at, CHAIN, change.place, kind)?;
     let count = kept.len();
-    let ran = run_with(at, &CHAIN, kept, kind)?;
+    let ran = run_with(at, CHAIN, kept, kind)?;
     let [b, c, d] = change.each[usize::from(kind)];
     Ok(
         count == change.kept
@@ -137,9 +137,9 @@ fn goes_on(at: &Setting<'_>, change: &Change, kind: u8) -> Result<bool, Fail>
 #[test]
 fn what_rests_on_a_change_takes_steps(rt: HostRuntime) -> Result<(), Fail> {
     let w = Oracle::new(rt.alloc());
-    let cells = sheet_of(rt.alloc(), &LINES)?;
+    let cells = sheet_of(rt.alloc(), LINES)?;
     let at = setting_of(rt.alloc(), &cells, &w);
-    for change in &CHANGES {
+    for change in CHANGES {
         for kind in 0u8..3 {
             assert!(rt; goes_on(&at, change, kind)?, "{} by {kind}", change.place);
         }
@@ -168,7 +168,7 @@ fn have(results: &Results, want: &[(&str, i64)]) -> Result<bool, Fail> {
 /// A range, and the cells whose outcomes stay where it has changed.
 type Staying = (&'static str, &'static [(&'static str, i64)]);
 
-const STAYING: [Staying; 5] = [
+const STAYING: &[Staying] = &[
     ("E5:F9", &[("B1", 6), ("C1", 7), ("D1", 7)]),
     ("A1:A1", &[("D1", 7)]),
     ("C1:C1", &[("B1", 6), ("D1", 7)]),
@@ -181,9 +181,9 @@ const STAYING: [Staying; 5] = [
 fn stay(alloc: Global, row: &Staying) -> Result<bool, Fail> {
     let (place, want) = *row;
     let w = Oracle::new(alloc);
-    let cells = sheet_of(alloc, &LINES)?;
+    let cells = sheet_of(alloc, LINES)?;
     let at = setting_of(alloc, &cells, &w);
-    let mut kept = results_behind(&at, &FORMULAS, place, 0)?;
+    let mut kept = results_behind(&at, FORMULAS, place, 0)?;
     let mut copied = kept.copy(alloc)?;
     let alike = have(&kept, want)? && have(&copied, want)?;
     kept.tidy(alloc);
@@ -193,7 +193,7 @@ fn stay(alloc: Global, row: &Staying) -> Result<bool, Fail> {
 
 #[test]
 fn outcomes_stay(rt: HostRuntime) -> Result<(), Fail> {
-    for row in &STAYING {
+    for row in STAYING {
         assert!(rt; stay(rt.alloc(), row)?, "{}", row.0);
     }
     Ok(())
@@ -202,9 +202,9 @@ fn outcomes_stay(rt: HostRuntime) -> Result<(), Fail> {
 #[test]
 fn other_keys_have_no_outcome(rt: HostRuntime) -> Result<(), Fail> {
     let w = Oracle::new(rt.alloc());
-    let cells = sheet_of(rt.alloc(), &LINES)?;
+    let cells = sheet_of(rt.alloc(), LINES)?;
     let at = setting_of(rt.alloc(), &cells, &w);
-    let kept = results_behind(&at, &FORMULAS, "C1:C1", 0)?;
+    let kept = results_behind(&at, FORMULAS, "C1:C1", 0)?;
     for (name, want) in [
         ("A1", None),
         ("B1", Some(Sight::Number(6))),

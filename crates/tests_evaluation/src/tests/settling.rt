@@ -20,7 +20,7 @@ struct Chain {
 }
 
 #[rattlefmt::skip]
-const CHAINS: [Chain; 2] = [
+const CHAINS: &[Chain] = &[
     // each formula needs the next: all other keys take two steps, but for the last formula of each
     // copy
     Chain { lines: &["set A301 1", "set B1 =VIEW(UPDATE(SHEET(A1:A301),A301,7),A1)",
@@ -65,7 +65,7 @@ fn counts(alloc: Global, chain: &Chain, kind: u8) -> Result<Counts, Fail>
 
 #[test]
 fn a_settling_takes_two_steps(rt: HostRuntime) -> Result<(), Fail> {
-    for chain in &CHAINS {
+    for chain in CHAINS {
         for kind in 0u8..3 {
             assert_eq!(rt;
                 counts(rt.alloc(), chain, kind)?,

@@ -22,17 +22,17 @@ pub struct Sheet {
 }
 
 /// Four cells, the third of which loops.
-const FOUR: [&str; 4] = ["set B1 =1", "set B2 =2", "set B3 =B3", "set B4 =4"];
+const FOUR: &[&str] = &["set B1 =1", "set B2 =2", "set B3 =B3", "set B4 =4"];
 
 /// What reads them one after another waits for the third, and the fourth isn't demanded.
-const TO_THE_THIRD: [(&str, Sight); 3] = [
+const TO_THE_THIRD: &[(&str, Sight)] = &[
     ("A1", Sight::Loops),
     ("B2", Sight::Number(2)),
     ("B4", Sight::NotDemanded),
 ];
 
 /// Five cells in two columns.
-const FIVE: [&str; 5] = [
+const FIVE: &[&str] = &[
     "set B1 =1",
     "set B2 =2",
     "set B3 =3",
@@ -41,13 +41,13 @@ const FIVE: [&str; 5] = [
 ];
 
 /// The sum of the numbers up to one, by a copy for each.
-const SUM_BY_COPIES: [&str; 2] = [
+const SUM_BY_COPIES: &[&str] = &[
     "set A1 0",
     "set B1 =IF(A1=0,0,A1+VIEW(UPDATE(SHEET(A1:B1),A1,A1-1),B1))",
 ];
 
 #[rattlefmt::skip]
-const SHEETS: [Sheet; 16] = [
+const SHEETS: &[Sheet] = &[
     Sheet { lines: &[&["set A1 =B1+1", "set B1 =C1+1", "set C1 =1"]], seeds: &["A1", "B1", "C1"],
         demanded: 3, steps: [5, 3, 4],
         sees: &[("A1", Sight::Number(3)), ("C1", Sight::Number(1)), ("D1", Sight::NotDemanded)] },
@@ -57,20 +57,20 @@ const SHEETS: [Sheet; 16] = [
         seeds: &["A1", "B1", "B2", "B3"], demanded: 4, steps: [5, 4, 5],
         sees: &[("A1", Sight::Number(6)), ("B3", Sight::Number(3))] },
     // it waits for the first that loops, and those behind it aren't demanded
-    Sheet { lines: &[&["set A1 =SUM(B1:B4)"], &FOUR], seeds: &["A1"], demanded: 4, steps: [4, 4, 4],
-        sees: &TO_THE_THIRD },
+    Sheet { lines: &[&["set A1 =SUM(B1:B4)"], FOUR], seeds: &["A1"], demanded: 4, steps: [4, 4, 4],
+        sees: TO_THE_THIRD },
     // so it goes through all references that a formula surely reads
-    Sheet { lines: &[&["set A1 =SUM(B1:B2,C1:C2,B3)"], &FIVE], seeds: &["A1"], demanded: 6,
+    Sheet { lines: &[&["set A1 =SUM(B1:B2,C1:C2,B3)"], FIVE], seeds: &["A1"], demanded: 6,
         steps: [7, 7, 7], sees: &[("A1", Sight::Number(15))] },
-    Sheet { lines: &[&["set A1 =ABS(B1-B2)*LET(x,B3,x+SUM(C1:C2,x))"], &FIVE], seeds: &["A1"],
+    Sheet { lines: &[&["set A1 =ABS(B1-B2)*LET(x,B3,x+SUM(C1:C2,x))"], FIVE], seeds: &["A1"],
         demanded: 6, steps: [7, 7, 7], sees: &[("A1", Sight::Number(15))] },
     // what is chosen is known only behind the condition, and what is behind the choice with it
-    Sheet { lines: &[&["set A1 =IF(B1<B2,C1+C2,B3)+B4", "set B4 =B4"], &FIVE], seeds: &["A1"],
+    Sheet { lines: &[&["set A1 =IF(B1<B2,C1+C2,B3)+B4", "set B4 =B4"], FIVE], seeds: &["A1"],
         demanded: 6, steps: [9, 9, 9],
         sees: &[("A1", Sight::Loops), ("C2", Sight::Number(5)), ("B3", Sight::NotDemanded)] },
     // a reference that loops is the last that is demanded
-    Sheet { lines: &[&["set A1 =B1+B2+B3+B4"], &FOUR], seeds: &["A1"], demanded: 4,
-        steps: [4, 4, 4], sees: &TO_THE_THIRD },
+    Sheet { lines: &[&["set A1 =B1+B2+B3+B4"], FOUR], seeds: &["A1"], demanded: 4,
+        steps: [4, 4, 4], sees: TO_THE_THIRD },
     // a range in a copy, and the round of the copy
     Sheet { lines: &[&["set A1 =VIEW(UPDATE(SHEET(B1:C3),B1,5),C1)", "set B1 1", "set B2 =B1+1",
         "set B3 =B1+2", "set C1 =SUM(B1:B3)"]], seeds: &["A1"], demanded: 5, steps: [8, 8, 8],
@@ -85,13 +85,13 @@ const SHEETS: [Sheet; 16] = [
     Sheet { lines: &[&["set A1 1", "set B1 =C1+A1", "set C1 =G(A1:B1,A1,5)"]], seeds: &["B1", "C1"],
         demanded: 4, steps: [4, 4, 4], sees: &[("B1", Sight::Loops), ("C1", Sight::Loops)] },
     // recursion by copies, up to the greatest rank and beyond
-    Sheet { lines: &[&SUM_BY_COPIES, &["set D1 =VIEW(UPDATE(SHEET(A1:B1),A1,63),B1)"]],
+    Sheet { lines: &[SUM_BY_COPIES, &["set D1 =VIEW(UPDATE(SHEET(A1:B1),A1,63),B1)"]],
         seeds: &["D1"], demanded: 129, steps: [257, 257, 257],
         sees: &[("D1", Sight::Number(2016)), ("B1", Sight::NotDemanded)] },
-    Sheet { lines: &[&SUM_BY_COPIES, &["set D1 =VIEW(UPDATE(SHEET(A1:B1),A1,95),B1)"]],
+    Sheet { lines: &[SUM_BY_COPIES, &["set D1 =VIEW(UPDATE(SHEET(A1:B1),A1,95),B1)"]],
         seeds: &["D1"], demanded: 193, steps: [385, 385, 385],
         sees: &[("D1", Sight::Number(4560))] },
-    Sheet { lines: &[&SUM_BY_COPIES, &["set D1 =VIEW(UPDATE(SHEET(A1:B1),A1,96),B1)"]],
+    Sheet { lines: &[SUM_BY_COPIES, &["set D1 =VIEW(UPDATE(SHEET(A1:B1),A1,96),B1)"]],
         seeds: &["D1"], demanded: 193, steps: [385, 385, 385], sees: &[("D1", Sight::Depth)] },
     // 1,024 copies without further copies
     Sheet { lines: &[&["set A1 1",
@@ -164,5 +164,5 @@ pub fn assert_sheets(
 
 #[test]
 fn sheets_by_each_rule(rt: HostRuntime) -> Result<(), Fail> {
-    assert_sheets(&rt, rt.alloc(), None, &SHEETS)
+    assert_sheets(&rt, rt.alloc(), None, SHEETS)
 }

@@ -28,11 +28,11 @@ fn counts(at: Setting<'_>) -> Result<(usize, u64, u64), Fail> {
 
 /// Lengths of chains, and how many steps the walks take: at least one for each cell, and at most two
 /// for each but the last.
-const LENGTHS: [(usize, u64); 5] = [(1, 1), (2, 3), (3, 5), (50, 99), (3_000, 5_999)];
+const LENGTHS: &[(usize, u64)] = &[(1, 1), (2, 3), (3, 5), (50, 99), (3_000, 5_999)];
 
 #[test]
 fn chains_are_explained(rt: HostRuntime) -> Result<(), Fail> {
-    for (length, steps) in &LENGTHS {
+    for (length, steps) in LENGTHS {
         let alloc = rt.alloc();
         let cells = chain(alloc, *length)?;
         let w = Oracle::new(alloc);

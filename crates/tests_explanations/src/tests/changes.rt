@@ -21,7 +21,7 @@ type Change = (
 
 /// Of two notes: of an array, and of a sum that reads its second element.
 #[rattlefmt::skip]
-const CHANGED_NOTES: [Change; 11] = [
+const CHANGED_NOTES: &[Change] = &[
     (&[(0, Own), (1, Own)], &[], None, Verdict::Accepted),
     (&[(0, Own), (1, Number(4))], &[], None, Verdict::Note { at: 1 }),
     (&[(0, Number(1)), (1, Own)], &[], None, Verdict::Note { at: 0 }),
@@ -38,11 +38,11 @@ const CHANGED_NOTES: [Change; 11] = [
 
 /// A cell that views a copy.
 #[rattlefmt::skip]
-const COPY: [&str; 3] = ["set A1 1", "set B1 =A1+1", "set C1 =VIEW(UPDATE(SHEET(A1:B1),A1,5),B1)"];
+const COPY: &[&str] = &["set A1 1", "set B1 =A1+1", "set C1 =VIEW(UPDATE(SHEET(A1:B1),A1,5),B1)"];
 
 /// Of three notes: of a cell of a copy, of the copy, and of a cell that views it.
 #[rattlefmt::skip]
-const CHANGED_COPIES: [Change; 5] = [
+const CHANGED_COPIES: &[Change] = &[
     (&[(0, Own), (1, Own), (2, Own)], &[], None, Verdict::Accepted),
     (&[(0, Own), (1, Of(0)), (2, Own)], &[], None, Verdict::Note { at: 1 }),
     (&[(0, Of(1)), (1, Own), (2, Own)], &[], None, Verdict::Note { at: 0 }),
@@ -52,13 +52,13 @@ const CHANGED_COPIES: [Change; 5] = [
 
 /// Two circles, a formula that reads one of them, and one that loops not.
 #[rattlefmt::skip]
-const LOOPS: [&str; 6] = [
+const LOOPS: &[&str] = &[
     "set A1 =B1", "set B1 =A1", "set C1 =IFERROR(A1,7)", "set D1 =E1", "set E1 =D1", "set F1 =1",
 ];
 
 /// Of three loops: of a formula that reads the second, which waits for the third, and that for it.
 #[rattlefmt::skip]
-const CHANGED_LOOPS: [Change; 13] = [
+const CHANGED_LOOPS: &[Change] = &[
     (&[], &["C1", "A1", "B1"], None, Verdict::Accepted),
     (&[], &["C1", "A1"], None, Verdict::Loop { at: 1 }),
     (&[], &["C1", "B1"], None, Verdict::Loop { at: 0 }),
@@ -113,24 +113,24 @@ fn assert_said(
 fn changed_notes(rt: HostRuntime) -> Result<(), Fail> {
     let lines = ["set A1 =SEQUENCE(2,1)", "set B1 =A2+1"];
     let w = one_entry(rt.alloc(), "A1", 2, 1, Permit::Permitted)?;
-    assert_said(&rt, rt.alloc(), &lines, &w, "B1", &CHANGED_NOTES)
+    assert_said(&rt, rt.alloc(), &lines, &w, "B1", CHANGED_NOTES)
 }
 
 #[test]
 fn changed_copies(rt: HostRuntime) -> Result<(), Fail> {
     let w = Oracle::new(rt.alloc());
-    assert_said(&rt, rt.alloc(), &COPY, &w, "C1", &CHANGED_COPIES)
+    assert_said(&rt, rt.alloc(), COPY, &w, "C1", CHANGED_COPIES)
 }
 
 #[test]
 fn changed_loops(rt: HostRuntime) -> Result<(), Fail> {
     let w = Oracle::new(rt.alloc());
-    assert_said(&rt, rt.alloc(), &LOOPS, &w, "C1", &CHANGED_LOOPS)
+    assert_said(&rt, rt.alloc(), LOOPS, &w, "C1", CHANGED_LOOPS)
 }
 
 /// Of two notes, and of a loop that reads both.
 #[rattlefmt::skip]
-const CHANGED_BOTH: [Change; 6] = [
+const CHANGED_BOTH: &[Change] = &[
     (&[(0, Own), (1, Own)], &["C1"], None, Verdict::Accepted),
     (&[(0, Own)], &["C1"], None, Verdict::Loop { at: 0 }),
     (&[], &["C1"], None, Verdict::Loop { at: 0 }),
@@ -143,7 +143,7 @@ const CHANGED_BOTH: [Change; 6] = [
 fn changed_notes_and_loops(rt: HostRuntime) -> Result<(), Fail> {
     let lines = ["set A1 =1+1", "set B1 =A1+1", "set C1 =IF(B1=3,A1+C1,0)"];
     let w = Oracle::new(rt.alloc());
-    assert_said(&rt, rt.alloc(), &lines, &w, "C1", &CHANGED_BOTH)
+    assert_said(&rt, rt.alloc(), &lines, &w, "C1", CHANGED_BOTH)
 }
 
 #[test]

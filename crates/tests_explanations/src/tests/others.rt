@@ -12,7 +12,7 @@ use tests_common::{Setting, one_entry, setting_of, sheet_of};
 type Other = (&'static [&'static str], Permit, Verdict);
 
 #[rattlefmt::skip]
-const OTHERS: [Other; 6] = [
+const OTHERS: &[Other] = &[
     (&["set A1 =SEQUENCE(2,1)", "set B1 =A2+1"], Permit::Permitted, Verdict::Accepted),
     (&["set A1 =SEQUENCE(2,1)", "set B1 =A2+1", "set C1 =7"], Permit::Permitted, Verdict::Accepted),
     (&["set A1 =SEQUENCE(2,1)", "set B1 =A2+2"], Permit::Permitted, Verdict::Note { at: 1 }),

@@ -21,28 +21,28 @@ type Row = (
     &'static str,
 );
 
-const COLUMN: [&str; 4] = [
+const COLUMN: &[&str] = &[
     "set A1 =SEQUENCE(2,1)",
     "set B1 =A2+1",
     "set C1 5",
     "set D1 =SUM(A1:C1)",
 ];
 
-const CIRCLE: [&str; 3] = ["set A1 =B1", "set B1 =A1", "set C1 =IFERROR(A1,7)"];
+const CIRCLE: &[&str] = &["set A1 =B1", "set B1 =A1", "set C1 =IFERROR(A1,7)"];
 
 const ROWS: [Row; 11] = [
-    (&COLUMN, Permit::Permitted, "A1", (1, 0, 1), "1"),
-    (&COLUMN, Permit::Permitted, "A2", (1, 0, 1), "2"),
-    (&COLUMN, Permit::Permitted, "B1", (2, 0, 3), "3"),
-    (&COLUMN, Permit::Permitted, "C1", (0, 0, 0), "5"),
-    (&COLUMN, Permit::Permitted, "D1", (3, 0, 4), "9"),
-    (&COLUMN, Permit::Permitted, "Z9", (0, 0, 0), "."),
-    (&COLUMN, Permit::Refused, "A1", (1, 0, 1), "#SPILL!"),
-    (&COLUMN, Permit::Refused, "A2", (0, 0, 0), "."),
-    (&CIRCLE, Permit::Refused, "C1", (0, 3, 3), "#CYCLE!"),
-    (&CIRCLE, Permit::Refused, "A1", (0, 2, 2), "#CYCLE!"),
+    (COLUMN, Permit::Permitted, "A1", (1, 0, 1), "1"),
+    (COLUMN, Permit::Permitted, "A2", (1, 0, 1), "2"),
+    (COLUMN, Permit::Permitted, "B1", (2, 0, 3), "3"),
+    (COLUMN, Permit::Permitted, "C1", (0, 0, 0), "5"),
+    (COLUMN, Permit::Permitted, "D1", (3, 0, 4), "9"),
+    (COLUMN, Permit::Permitted, "Z9", (0, 0, 0), "."),
+    (COLUMN, Permit::Refused, "A1", (1, 0, 1), "#SPILL!"),
+    (COLUMN, Permit::Refused, "A2", (0, 0, 0), "."),
+    (CIRCLE, Permit::Refused, "C1", (0, 3, 3), "#CYCLE!"),
+    (CIRCLE, Permit::Refused, "A1", (0, 2, 2), "#CYCLE!"),
     // a root that loops spills nothing
-    (&CIRCLE, Permit::Permitted, "A2", (0, 2, 2), "."),
+    (CIRCLE, Permit::Permitted, "A2", (0, 2, 2), "."),
 ];
 
 /// The certificate of the row's address is as the row says, and it is accepted.
@@ -73,7 +73,7 @@ fn what_is_found_is_accepted(rt: HostRuntime) -> Result<(), Fail> {
 }
 
 /// Copies of copies, down to a number of them.
-const DEEP: [&str; 4] = [
+const DEEP: &[&str] = &[
     "set A1 0",
     "set B1 =IF(A1=0,0,A1+VIEW(UPDATE(SHEET(A1:B1),A1,A1-1),B1))",
     "set D1 =VIEW(UPDATE(SHEET(A1:B1),A1,95),B1)",
@@ -81,7 +81,7 @@ const DEEP: [&str; 4] = [
 ];
 
 /// A copy that never settles, and what reads it.
-const TURNING: [&str; 6] = [
+const TURNING: &[&str] = &[
     "set D1 0",
     "set A2 =SEQUENCE(1,3)",
     "set B1 =IF(D1=0,1,IF(ISERROR(ROWS(A2#)),1,SEQUENCE(3,1)))",
@@ -91,12 +91,12 @@ const TURNING: [&str; 6] = [
 ];
 
 /// A sheet, an address, and the budget that explains it, if one does.
-const BUDGETS: [(&[&str], &str, Option<Budget>); 5] = [
-    (&DEEP, "D1", None),
-    (&DEEP, "E1", Some(Budget::Depth)),
-    (&TURNING, "F1", Some(Budget::CopyRounds)),
-    (&TURNING, "F9", Some(Budget::CopyRounds)),
-    (&TURNING, "G9", None),
+const BUDGETS: &[(&[&str], &str, Option<Budget>)] = &[
+    (DEEP, "D1", None),
+    (DEEP, "E1", Some(Budget::Depth)),
+    (TURNING, "F1", Some(Budget::CopyRounds)),
+    (TURNING, "F9", Some(Budget::CopyRounds)),
+    (TURNING, "G9", None),
 ];
 
 /// The budget that explains an address, if one does.
@@ -110,7 +110,7 @@ fn spent(at: Setting<'_>, name: &str) -> Result<Option<Budget>, Fail> {
 
 #[test]
 fn copies_that_spend_a_budget(rt: HostRuntime) -> Result<(), Fail> {
-    for (lines, name, budget) in &BUDGETS {
+    for (lines, name, budget) in BUDGETS {
         let alloc = rt.alloc();
         let cells = sheet_of(alloc, lines)?;
         let w = Oracle::new(alloc);
@@ -121,7 +121,7 @@ fn copies_that_spend_a_budget(rt: HostRuntime) -> Result<(), Fail> {
 }
 
 /// Copies that each make two, 1,023 times.
-const TREE: [&str; 2] = [
+const TREE: &[&str] = &[
     "set A1 1",
     "set B1 =IF(A1>=1024,1,VIEW(UPDATE(SHEET(A1:B1),A1,2*A1),B1)+VIEW(UPDATE(SHEET(A1:B1),A1,2*A1+1),B1))",
 ];
@@ -129,7 +129,7 @@ const TREE: [&str; 2] = [
 #[test]
 fn copies_that_each_make_two(rt: HostRuntime) -> Result<(), Fail> {
     let alloc = rt.alloc();
-    let cells = sheet_of(alloc, &TREE)?;
+    let cells = sheet_of(alloc, TREE)?;
     let w = Oracle::new(alloc);
     let at = setting_of(alloc, &cells, &w);
     let mut steps = Steps::new(Silent);

@@ -13,7 +13,7 @@ struct Large {
 
 /// As many formulas as a sheet may have.
 #[rattlefmt::skip]
-const FULL: [Large; 2] = [
+const FULL: &[Large] = &[
     // all but one read as many cells as a range may have, a tenth of them under the area of that one
     Large {
         lines: &["set A1 =SEQUENCE(100,10)"],
@@ -57,7 +57,7 @@ fn a_full_sheet_of_arrays(rt: HostRuntime) -> Result<(), Fail> {
 
 /// Whole columns of cells that read the one above or below.
 #[rattlefmt::skip]
-const CHAINS: [Large; 2] = [
+const CHAINS: &[Large] = &[
     Large { lines: &["set A1 =1"], told: Told::Yes(0),
         columns: &[Column { name: "A", first: 2, last: 9999, form: Form::Above("", "+1") }] },
     Large { lines: &["set A9999 =1"], told: Told::Yes(0),

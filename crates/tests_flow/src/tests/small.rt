@@ -7,7 +7,7 @@ use tests_common::sheet_of;
 /// The lines of a sheet, and its forecast.
 type Row = (&'static [&'static str], Told);
 
-const ROWS: [Row; 14] = [
+const ROWS: &[Row] = &[
     (&[], Told::Yes(0)),
     (&["set A1 =SEQUENCE(2,1)"], Told::Yes(1)),
     (&["set A1 =SEQUENCE(3,1)", "set B1 =A1#*2"], Told::Yes(2)),

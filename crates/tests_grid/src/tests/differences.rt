@@ -19,7 +19,7 @@ struct Pair {
 }
 
 #[rattlefmt::skip]
-const PAIRS: [Pair; 12] = [
+const PAIRS: &[Pair] = &[
     Pair { before: ("F6", &[("A1", 1, 2), ("B2", 2, 2)]),
         after: ("F6", &[("A1", 1, 2), ("B2", 2, 2)]), ranges: 0 },
     // a new entry that spills, one that doesn't, and one before an equal one

@@ -20,7 +20,7 @@ struct Row {
 }
 
 /// The reads of nine bytes are five, and one more tells the end; those of one byte are 41.
-const ROWS: [Row; 10] = [
+const ROWS: &[Row] = &[
     // the write of the first reply fails: the first read brought its line
     Row {
         read_step: 9,

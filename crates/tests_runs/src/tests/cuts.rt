@@ -7,7 +7,7 @@ use std::test::Fail;
 /// A script as its items, each with its reply.
 type Items = &'static [(&'static [u8], &'static [u8])];
 
-const SCRIPTS: [Items; 3] = [
+const SCRIPTS: &[Items] = &[
     &[
         (b"set A1 2\n", b"ok\n"),
         (b"set B1 40\n", b"ok\n"),

@@ -12,7 +12,7 @@ const NARROW: &[u8] =
     b"1,1,1,1,1,1,1,1,1,1,1,1,1,1,1,1,1,1,1,1,1,1,1,1,1,1,1,1,1,1,1,1,1,1,1,1,1,1,1,1,1,1,1,1,1,1,1,1\n";
 
 #[rattlefmt::skip]
-const EDITS: [Long; 3] = [
+const EDITS: &[Long] = &[
     // of 257 steps the latest 256 are taken back, and done again
     (
         &[
@@ -55,5 +55,5 @@ const EDITS: [Long; 3] = [
 /// By each pick rule the edits have the replies that they must have.
 #[test]
 fn edits_at_their_limits(rt: HostRuntime) -> Result<(), Fail> {
-    assert_long(&rt, rt.alloc(), &EDITS)
+    assert_long(&rt, rt.alloc(), EDITS)
 }

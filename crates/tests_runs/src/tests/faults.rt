@@ -160,7 +160,7 @@ struct Row {
     whole: bool,
 }
 
-const ROWS: [Row; 7] = [
+const ROWS: &[Row] = &[
     Row {
         reads: &[],
         writes: &[],

@@ -19,7 +19,7 @@ pub enum Part {
 pub type Long = (&'static [Part], &'static [Part], Status);
 
 #[rattlefmt::skip]
-const LINES: [Long; 10] = [
+const LINES: &[Long] = &[
     (&[Part::Times(b"", b"a", 32769, b"\n")], &[Part::Once(b"error line\n")], REFUSED),
     (&[Part::Times(b"", b";", 32768, b"\n")], &[], DONE),
     (
@@ -61,12 +61,12 @@ const LINES: [Long; 10] = [
 
 #[test]
 fn lines(rt: HostRuntime) -> Result<(), Fail> {
-    assert_long(&rt, rt.alloc(), &LINES)
+    assert_long(&rt, rt.alloc(), LINES)
 }
 
 /// Texts at their limits, and sheets of many formulas.
 #[rattlefmt::skip]
-const TEXTS_AND_SHEETS: [Long; 7] = [
+const TEXTS_AND_SHEETS: &[Long] = &[
     (
         &[
             Part::Times(b"set A1 ", b"a", 4096, b"\n"),
@@ -140,7 +140,7 @@ const TEXTS_AND_SHEETS: [Long; 7] = [
 
 #[test]
 fn texts_and_sheets(rt: HostRuntime) -> Result<(), Fail> {
-    assert_long(&rt, rt.alloc(), &TEXTS_AND_SHEETS)
+    assert_long(&rt, rt.alloc(), TEXTS_AND_SHEETS)
 }
 
 fn add_times(out: &mut Vec<u8>, bytes: &[u8], count: usize) -> Result<(), NoMemory> {

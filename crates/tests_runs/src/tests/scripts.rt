@@ -5,7 +5,7 @@ use std::alloc::Global;
 use std::test::Fail;
 
 /// Scripts, their replies, and how they end.
-const ROWS: [(&[u8], &[u8], Status); 14] = [
+const ROWS: &[(&[u8], &[u8], Status)] = &[
     (b"", b"", DONE),
     (
         b"set A1 2\nset B1 40\nset C1 =A1+B1\nshow C1\n",
@@ -69,7 +69,7 @@ const ROWS: [(&[u8], &[u8], Status); 14] = [
 
 #[test]
 fn scripts_are_answered(rt: HostRuntime) -> Result<(), Fail> {
-    for (script, replies, status) in &ROWS {
+    for (script, replies, status) in ROWS {
         assert!(rt;
             is_answered(rt.alloc(), script, &cut_at(4096), replies, *status)?,
             "{script:?}"

@@ -11,7 +11,7 @@ use std::test::Fail;
 type Foretold = (&'static [&'static str], usize, [usize; 2]);
 
 #[rattlefmt::skip]
-const FORETOLD: [Foretold; 16] = [
+const FORETOLD: &[Foretold] = &[
     (&[], 0, [1, 1]),
     (&["A1 =1+1", "B1 =A1*C1", "D1 =SUM(A1:C9)"], 0, [1, 1]),
     (&["A1 =SEQUENCE(2,1)"], 1, [2, 2]),

@@ -88,7 +88,7 @@ struct Row {
     first: u64,
 }
 
-const ROWS: [Row; 5] = [
+const ROWS: &[Row] = &[
     Row {
         lines: "calc\ncalc\n",
         replies: "settled 3\nsettled 3\n",

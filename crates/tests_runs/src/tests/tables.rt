@@ -4,7 +4,7 @@ use std::test::Fail;
 
 /// Operators and functions.
 #[rattlefmt::skip]
-const FUNCTIONS: [Row<'static>; 15] = [
+const FUNCTIONS: &[Row<'static>] = &[
     (b"set A1 =MOD(-7,3)\nshow A1\n", b"ok\n2\n", DONE),
     (b"set A1 =\"a\"&1&TRUE\nshow A1\nset A1 =1=\"1\"\nshow A1\nset A1 =-7/2\nshow A1\nset A1 =1/0\nshow A1\n", b"ok\n\"a1TRUE\"\nok\nFALSE\nok\n-3\nok\n#DIV/0!\n", DONE),
     (b"import A1 12\n1,x\n2,y\n1,z\nset D1 =FILTER(A1:B3,A1:A3=1)\nset G1 =UNIQUE(A1:A3)\nset I1 =LOOKUP(2,A1:A3,B1:B3)\nview D1:E2\nview G1:G2\nshow I1\n", b"ok\nok\nok\nok\n1 \"x\"\n1 \"z\"\n1\n2\n\"y\"\n", DONE),
@@ -24,12 +24,12 @@ const FUNCTIONS: [Row<'static>; 15] = [
 
 #[test]
 fn functions(rt: HostRuntime) -> Result<(), Fail> {
-    assert_rows(&rt, rt.alloc(), &FUNCTIONS)
+    assert_rows(&rt, rt.alloc(), FUNCTIONS)
 }
 
 /// More functions, and both versions.
 #[rattlefmt::skip]
-const MORE_FUNCTIONS: [Row<'static>; 16] = [
+const MORE_FUNCTIONS: &[Row<'static>] = &[
     (b"set H1 =H1#\nshow H1\n", b"ok\n#REF!\n", DONE),
     (b"set H1 =SUM(1,\"a\",TRUE,2)\nshow H1\n", b"ok\n3\n", DONE),
     (b"set H1 =TAKE(SEQUENCE(3,3),2,-1)\nview H1:H2\n", b"ok\n3\n6\n", DONE),
@@ -50,12 +50,12 @@ const MORE_FUNCTIONS: [Row<'static>; 16] = [
 
 #[test]
 fn more_functions(rt: HostRuntime) -> Result<(), Fail> {
-    assert_rows(&rt, rt.alloc(), &MORE_FUNCTIONS)
+    assert_rows(&rt, rt.alloc(), MORE_FUNCTIONS)
 }
 
 /// Sheets of constants, formulas, ranges and spills.
 #[rattlefmt::skip]
-const SHEETS: [Row<'static>; 16] = [
+const SHEETS: &[Row<'static>] = &[
     (b"", b"", DONE),
     (b"set A1 2\nset B1 40\nset C1 =A1+B1\nshow C1\n", b"ok\nok\nok\n42\n", DONE),
     (b"set A1 =9223372036854775807+1\nshow A1\nset A1 =9223372036854775808\nget A1\n", b"ok\n#NUM!\nerror number\n=9223372036854775807+1\n", REFUSED),
@@ -76,12 +76,12 @@ const SHEETS: [Row<'static>; 16] = [
 
 #[test]
 fn sheets(rt: HostRuntime) -> Result<(), Fail> {
-    assert_rows(&rt, rt.alloc(), &SHEETS)
+    assert_rows(&rt, rt.alloc(), SHEETS)
 }
 
 /// Cycles, copies of sheets, and what they spend.
 #[rattlefmt::skip]
-const COPIES: [Row<'static>; 16] = [
+const COPIES: &[Row<'static>] = &[
     (b"set A1 =B1\nset B1 =A1\nset C1 =IFERROR(A1,7)\nshow A1\nshow B1\nshow C1\n", b"ok\nok\nok\n#CYCLE!\n#CYCLE!\n#CYCLE!\n", DONE),
     (b"set A1 =IF(TRUE,1,B1)\nset B1 =A1\nshow A1\nshow B1\n", b"ok\nok\n1\n1\n", DONE),
     (b"set A1 3\nset B1 4\nset C1 =A1*A1+B1*B1\nset E1 =G(A1:C1,A1,6)\nview E1:G1\nshow C1\n", b"ok\nok\nok\nok\n6 4 52\n25\n", DONE),
@@ -102,12 +102,12 @@ const COPIES: [Row<'static>; 16] = [
 
 #[test]
 fn copies(rt: HostRuntime) -> Result<(), Fail> {
-    assert_rows(&rt, rt.alloc(), &COPIES)
+    assert_rows(&rt, rt.alloc(), COPIES)
 }
 
 /// What a calculation shows one by one, and the budgets that it spends.
 #[rattlefmt::skip]
-const BUDGETS: [Row<'static>; 4] = [
+const BUDGETS: &[Row<'static>] = &[
     (b"set A1 =SEQUENCE(3,1)\nset B1 =A1#*2\ncalc\noracle\nshow A1\nshow B1\nshow A2\nshow B2\nshow A3\nshow B3\n", b"ok\nok\nsettled 3\noracle 2\nA1 3x1 permitted\nB1 3x1 permitted\n1\n2\n2\n4\n3\n6\n", DONE),
     (b"set A1 =IF(C1=0,SEQUENCE(1,3),5)\ncalc\nshow A1\noracle\nget A1\n", b"ok\nspent rounds A1\nspent rounds A1\nspent rounds A1\n=IF(C1=0,SEQUENCE(1,3),5)\n", DONE),
     (b"set A1 0\nset B1 =IF(A1=0,0,A1+VIEW(UPDATE(SHEET(A1:B1),A1,A1-1),B1))\nset D1 =VIEW(UPDATE(SHEET(A1:B1),A1,64),B1)\nshow D1\n", b"ok\nok\nok\n2080\n", DONE),
@@ -116,12 +116,12 @@ const BUDGETS: [Row<'static>; 4] = [
 
 #[test]
 fn budgets(rt: HostRuntime) -> Result<(), Fail> {
-    assert_rows(&rt, rt.alloc(), &BUDGETS)
+    assert_rows(&rt, rt.alloc(), BUDGETS)
 }
 
 /// Refused commands.
 #[rattlefmt::skip]
-const REFUSALS: [Row<'static>; 17] = [
+const REFUSALS: &[Row<'static>] = &[
     (b"show \xff\n", b"error utf8\n", REFUSED),
     (b"foo\nset A1\nlist x\nimport A1 07\n", b"error command\nerror command\nerror command\nerror command\n", REFUSED),
     (b"import A1 1048577\n", b"error payload\n", REFUSED),
@@ -143,12 +143,12 @@ const REFUSALS: [Row<'static>; 17] = [
 
 #[test]
 fn refused_commands(rt: HostRuntime) -> Result<(), Fail> {
-    assert_rows(&rt, rt.alloc(), &REFUSALS)
+    assert_rows(&rt, rt.alloc(), REFUSALS)
 }
 
 /// Hostile lines.
 #[rattlefmt::skip]
-const HOSTILE: [Row<'static>; 10] = [
+const HOSTILE: &[Row<'static>] = &[
     (b"\r\n\r\r\n\r", b"error command\n", REFUSED),
     (b"import A1 1\n\xfflist\n", b"error utf8\nlist 0\n", REFUSED),
     (b"set A1 =--------1\nshow A1\nset A1 =---------1\nset A1 =1--------1\nshow A1\nset A1 =1---------1\n", b"ok\n1\nerror deep\nok\n2\nerror deep\n", REFUSED),
@@ -163,12 +163,12 @@ const HOSTILE: [Row<'static>; 10] = [
 
 #[test]
 fn hostile_lines(rt: HostRuntime) -> Result<(), Fail> {
-    assert_rows(&rt, rt.alloc(), &HOSTILE)
+    assert_rows(&rt, rt.alloc(), HOSTILE)
 }
 
 /// Scripts with forecasts.
 #[rattlefmt::skip]
-const FORECASTS: [Row<'static>; 20] = [
+const FORECASTS: &[Row<'static>] = &[
     // nothing is there
     (b"flow\n", b"yes 0\n", DONE),
     // arrays over arrays
@@ -213,12 +213,12 @@ const FORECASTS: [Row<'static>; 20] = [
 
 #[test]
 fn forecasts(rt: HostRuntime) -> Result<(), Fail> {
-    assert_rows(&rt, rt.alloc(), &FORECASTS)
+    assert_rows(&rt, rt.alloc(), FORECASTS)
 }
 
 /// Scripts with arrays whose shapes are told by their formulas.
 #[rattlefmt::skip]
-const SHAPES: [Row<'static>; 13] = [
+const SHAPES: &[Row<'static>] = &[
     // integers as they are written
     (b"set A1 =SEQUENCE(2,3)+D1\nflow\nset A1 =SEQUENCE(2,3)+C2\nflow\nset A1 =SEQUENCE((2),3)+D1\nflow\nset A1 =SEQUENCE((2),3)+C2\nflow\nset A1 =SEQUENCE(-1,2)+C1\nflow\nset A1 =SEQUENCE(1+1,3)+D1\nflow\nset A1 =SEQUENCE(0,1)+B1\nflow\nset A1 =SEQUENCE(10000,1)+B1\nflow\nset A1 =SEQUENCE(10001,1)+B1\nflow\nset A1 =SEQUENCE(1,1)+A2\nflow\n", b"ok\nyes 1\nok\ncircle A1\nok\nyes 1\nok\ncircle A1\nok\ncircle A1\nok\ncircle A1\nok\ncircle A1\nok\nyes 1\nok\ncircle A1\nok\nyes 1\n", DONE),
     // side by side, and one under the other
@@ -249,12 +249,12 @@ const SHAPES: [Row<'static>; 13] = [
 
 #[test]
 fn shapes(rt: HostRuntime) -> Result<(), Fail> {
-    assert_rows(&rt, rt.alloc(), &SHAPES)
+    assert_rows(&rt, rt.alloc(), SHAPES)
 }
 
 /// Scripts of replicas, and of steps that are undone and done again.
 #[rattlefmt::skip]
-const REPLICAS: [Row<'static>; 14] = [
+const REPLICAS: &[Row<'static>] = &[
     // a replica takes the edits of others, and exports its registers
     (b"site 2\nset A1 7\nedit 2 1 A1 6\nshow A1\nset B1 =A1\nexport\n", b"ok\nok\nok\n6\nok\nexport 2\nedit 2 1 A1 6\nedit 3 2 B1 =A1\n", DONE),
     // in whatever order they come
@@ -284,12 +284,12 @@ const REPLICAS: [Row<'static>; 14] = [
 
 #[test]
 fn replicas_and_undo(rt: HostRuntime) -> Result<(), Fail> {
-    assert_rows(&rt, rt.alloc(), &REPLICAS)
+    assert_rows(&rt, rt.alloc(), REPLICAS)
 }
 
 /// Scripts with explanations.
 #[rattlefmt::skip]
-const EXPLANATIONS: [Row<'static>; 20] = [
+const EXPLANATIONS: &[Row<'static>] = &[
     // arrays and what is read of them; an address that no key decides
     (b"set A1 =SEQUENCE(2,1)\nset B1 =A2+1\nexplain B1\nexplain Z9\n", b"ok\nok\nexplain 2 0\nA1 2x1\nB1 3\nshown 3\naccepted\nexplain 0 0\nshown .\naccepted\n", DONE),
     // a circle
@@ -333,27 +333,27 @@ const EXPLANATIONS: [Row<'static>; 20] = [
 
 #[test]
 fn explanations(rt: HostRuntime) -> Result<(), Fail> {
-    assert_rows(&rt, rt.alloc(), &EXPLANATIONS)
+    assert_rows(&rt, rt.alloc(), EXPLANATIONS)
 }
 
 /// As many demanded keys as may be known, and one more; and twice as many.
 #[rattlefmt::skip]
-const WORK: [Row<'static>; 2] = [
+const WORK: &[Row<'static>] = &[
     (b"set A1 1\nset B1 =IF(A1>=125000,1,VIEW(UPDATE(SHEET(A1:B1),A1,2*A1),B1)+VIEW(UPDATE(SHEET(A1:B1),A1,2*A1+1),B1))\nset C1 =1\nset D1 =1\nset E1 =1\nshow B1\nset F1 =1\nshow B1\n", b"ok\nok\nok\nok\nok\n125000\nok\nspent work\n", DONE),
     (b"set A1 1\nset B1 =IF(A1>=262144,1,VIEW(UPDATE(SHEET(A1:B1),A1,2*A1),B1)+VIEW(UPDATE(SHEET(A1:B1),A1,2*A1+1),B1))\nshow B1\n", b"ok\nok\nspent work\n", DONE),
 ];
 
 #[test]
 fn work_by_the_first(rt: HostRuntime) -> Result<(), Fail> {
-    assert_rows_by(&rt, rt.alloc(), &WORK, "first")
+    assert_rows_by(&rt, rt.alloc(), WORK, "first")
 }
 
 #[test]
 fn work_by_the_last(rt: HostRuntime) -> Result<(), Fail> {
-    assert_rows_by(&rt, rt.alloc(), &WORK, "last")
+    assert_rows_by(&rt, rt.alloc(), WORK, "last")
 }
 
 #[test]
 fn work_by_turns(rt: HostRuntime) -> Result<(), Fail> {
-    assert_rows_by(&rt, rt.alloc(), &WORK, "turn")
+    assert_rows_by(&rt, rt.alloc(), WORK, "turn")
 }

@@ -13,7 +13,7 @@ use std::test::Fail;
 const LARGEST: &[u8] = b"ok\nok\nok\nok\nok\nok\nsettled 2\n61485922\n256\n61486921\nbye\n";
 
 /// The words of calls over a script of one line, the replies, and how they end.
-const CALLS: [(&[&str], &[u8], Status); 18] = [
+const CALLS: &[(&[&str], &[u8], Status)] = &[
     (
         &["--gen", "3"],
         b"ok\nok\nok\nok\nok\nok\nsettled 2\n36\n256\n1035\nbye\n",
@@ -55,7 +55,7 @@ fn is_taken(alloc: Global, words: &[&str], replies: &[u8], status: Status) -> Re
 
 #[test]
 fn words_of_calls(rt: HostRuntime) -> Result<(), Fail> {
-    for (words, replies, status) in &CALLS {
+    for (words, replies, status) in CALLS {
         assert!(rt; is_taken(rt.alloc(), words, replies, *status)?, "{words:?}");
     }
     Ok(())
@@ -95,7 +95,7 @@ fn asks_for(alloc: Global, words: &[&str], kind: u8) -> Result<bool, Fail> {
 }
 
 /// Words, and the kind of rule that they name: the first without a word.
-const KINDS: [(&[&str], u8); 4] = [
+const KINDS: &[(&[&str], u8)] = &[
     (&[], 0),
     (&["--order", "first"], 0),
     (&["--order", "last"], 1),
@@ -104,7 +104,7 @@ const KINDS: [(&[&str], u8); 4] = [
 
 #[test]
 fn the_words_name_the_kind(rt: HostRuntime) -> Result<(), Fail> {
-    for (words, kind) in &KINDS {
+    for (words, kind) in KINDS {
         assert!(rt; asks_for(rt.alloc(), words, *kind)?, "{words:?}");
     }
     Ok(())

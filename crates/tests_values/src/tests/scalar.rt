@@ -39,7 +39,7 @@ fn beside(alloc: Global, op: Op, x: &str, others: &[&str]) -> Result<String, Fai
 
 /// What operators give at a first operand and each of the plain ones: without a number none computes.
 #[rattlefmt::skip]
-const AT_EACH_KIND: [(Op, &str, &str); 20] = [
+const AT_EACH_KIND: &[(Op, &str, &str)] = &[
     (Op::Add, ".", "0 7 #VALUE! #VALUE!"),
     (Op::Add, "7", "7 14 #VALUE! #VALUE!"),
     (Op::Sub, ".", "0 -7 #VALUE! #VALUE!"),
@@ -64,7 +64,7 @@ const AT_EACH_KIND: [(Op, &str, &str); 20] = [
 
 #[test]
 fn operators_at_each_kind(rt: HostRuntime) -> Result<(), Fail> {
-    for (op, x, want) in &AT_EACH_KIND {
+    for (op, x, want) in AT_EACH_KIND {
         assert_eq!(rt;
             beside(rt.alloc(), *op, x, &PLAIN)?.as_str(),
             *want,
@@ -175,7 +175,7 @@ fn the_sign_of_every_kind(rt: HostRuntime) -> Result<(), Fail> {
 
 /// Operators on numbers at their limits, and on texts.
 #[rattlefmt::skip]
-const NUMBERS_AND_TEXTS: [(Op, &str, &str, &str); 20] = [
+const NUMBERS_AND_TEXTS: &[(Op, &str, &str, &str)] = &[
     (Op::Add, "9223372036854775807", "1", "#NUM!"),
     (Op::Add, "9223372036854775807", "0", "9223372036854775807"),
     (Op::Sub, "-9223372036854775808", "1", "#NUM!"),
@@ -200,7 +200,7 @@ const NUMBERS_AND_TEXTS: [(Op, &str, &str, &str); 20] = [
 
 #[test]
 fn numbers_at_their_limits_and_texts(rt: HostRuntime) -> Result<(), Fail> {
-    for (op, x, y, want) in &NUMBERS_AND_TEXTS {
+    for (op, x, y, want) in NUMBERS_AND_TEXTS {
         assert_eq!(rt;
             told(rt.alloc(), *op, x, y)?.as_str(),
             *want,

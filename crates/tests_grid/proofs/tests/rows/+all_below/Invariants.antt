@@ -1,5 +1,0 @@
-use Rattle.std.proofs.Common.{length}
-use Rattle.tests_grid.proofs.tests.rows.+all_below.Given as goal
-
-abbrev pub decreases-all_below : goal.decreases-all_below
-decreases-all_below l = length l.numbers.now

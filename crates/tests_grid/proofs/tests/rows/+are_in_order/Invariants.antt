@@ -1,5 +1,0 @@
-use Rattle.std.proofs.Common.{length}
-use Rattle.tests_grid.proofs.tests.rows.+are_in_order.Given as goal
-
-abbrev pub decreases-are_in_order : goal.decreases-are_in_order
-decreases-are_in_order l = length l.rows.now
