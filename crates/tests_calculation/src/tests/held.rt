@@ -72,7 +72,7 @@ fn versions_differ(alloc: Global, kind: u8) -> Result<bool, Fail>
     requires { kind ≤ 2 }
 {
     let mut calc = Calc::new(alloc);
-    let [one, two] = IN_ONE_AND_TWO;
+    let [one, two] = &IN_ONE_AND_TWO;
     Ok(
         goes_on(alloc, &mut calc, one, kind, Version::One)?
             && goes_on(alloc, &mut calc, two, kind, Version::Two)?,
