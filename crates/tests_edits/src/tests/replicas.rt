@@ -118,49 +118,68 @@ fn replicas_agree(rt: HostRuntime) -> Result<(), Fail> {
     Ok(())
 }
 
+/// The time and the site of an edit, its line, and what it is to the registers.
+type Row = (u64, u16, &'static str, Judged);
+
+/// Edits that a replica takes one after the other.
+const EDITS: &[Row] = &[
+    (3, 1, "set A1 =1+2", Judged::Wins),
+    (3, 1, "set A1 = 1 + 2", Judged::Same),
+    (3, 1, "set A1 =(1+2)", Judged::Same),
+    (3, 1, "set A1 =2+1", Judged::Conflict),
+    (3, 1, "set A1 3", Judged::Conflict),
+    (3, 0, "set A1 9", Judged::Loses),
+    (2, 7, "set A1 9", Judged::Loses),
+    (3, 2, "set A1 9", Judged::Wins),
+    (4, 1, "set A1 9", Judged::Wins),
+    (4, 1, "set A1 \"9\"", Judged::Conflict),
+    (1, 1, "set B1 9", Judged::Wins),
+];
+
+/// The replica takes the edit as the row says.
+fn is_judged(alloc: Global, replica: &mut Replica, row: &Row) -> Result<bool, Fail> {
+    let (time, site, line, want) = row;
+    Ok(take(replica, setting(alloc, *time, *site, line)?)? == *want)
+}
+
+/// The replica takes the removal of A1 at a time as this.
+fn is_removed(replica: &mut Replica, time: u64, want: Judged) -> Result<bool, Fail> {
+    Ok(take(replica, removal(time, 1, "A1")?)? == want)
+}
+
 #[test]
 fn edits_are_judged(rt: HostRuntime) -> Result<(), Fail> {
-    let alloc = rt.alloc();
-    let mut replica = Replica::new(alloc, 5);
-    for (time, site, line, want) in [
-        (3, 1, "set A1 =1+2", Judged::Wins),
-        (3, 1, "set A1 = 1 + 2", Judged::Same),
-        (3, 1, "set A1 =(1+2)", Judged::Same),
-        (3, 1, "set A1 =2+1", Judged::Conflict),
-        (3, 1, "set A1 3", Judged::Conflict),
-        (3, 0, "set A1 9", Judged::Loses),
-        (2, 7, "set A1 9", Judged::Loses),
-        (3, 2, "set A1 9", Judged::Wins),
-        (4, 1, "set A1 9", Judged::Wins),
-        (4, 1, "set A1 \"9\"", Judged::Conflict),
-        (1, 1, "set B1 9", Judged::Wins),
-    ] {
-        assert_eq!(rt;
-            take(&mut replica, setting(alloc, time, site, line)?)?,
-            want,
-            "{line}"
-        );
+    let mut replica = Replica::new(rt.alloc(), 5);
+    for row in EDITS {
+        assert!(rt; is_judged(rt.alloc(), &mut replica, row)?, "{}", row.2);
     }
-    assert_eq!(rt; take(&mut replica, removal(4, 1, "A1")?)?, Judged::Conflict);
-    assert_eq!(rt; take(&mut replica, removal(7, 1, "A1")?)?, Judged::Wins);
-    assert_eq!(rt; take(&mut replica, removal(7, 1, "A1")?)?, Judged::Same);
-    assert_eq!(rt; registers(alloc, &replica)?.as_str(), "7 1 1,1;1 1 2,1 9;");
+    assert!(rt; is_removed(&mut replica, 4, Judged::Conflict)?);
+    assert!(rt; is_removed(&mut replica, 7, Judged::Wins)?);
+    assert!(rt; is_removed(&mut replica, 7, Judged::Same)?);
+    assert!(rt; registers(rt.alloc(), &replica)?.as_str() == "7 1 1,1;1 1 2,1 9;");
     Ok(())
+}
+
+/// The next stamp behind an edit of this time and site.
+fn next_after(
+    alloc: Global,
+    replica: &mut Replica,
+    time: u64,
+    site: u16,
+) -> Result<Option<Stamp>, Fail> {
+    let _ = take(replica, setting(alloc, time, site, "set A1 5")?)?;
+    Ok(replica.next())
 }
 
 #[test]
 fn times_within_the_limit(rt: HostRuntime) -> Result<(), Fail> {
-    assert_eq!(rt; Stamp::new(0, 1), None);
-    assert_eq!(rt; Stamp::new(MAX_TIME + 1, 1), None);
+    assert!(rt; Stamp::new(0, 1).is_none());
+    assert!(rt; Stamp::new(MAX_TIME + 1, 1).is_none());
     let mut replica = Replica::new(rt.alloc(), 1);
-    assert_eq!(rt; replica.next(), Stamp::new(1, 1));
-    let _ = take(
-        &mut replica,
-        setting(rt.alloc(), MAX_TIME - 1, 2, "set A1 5")?,
-    )?;
-    assert_eq!(rt; replica.next(), Stamp::new(MAX_TIME, 1));
-    let _ = take(&mut replica, setting(rt.alloc(), MAX_TIME, 0, "set A1 5")?)?;
-    assert_eq!(rt; replica.next(), None);
+    assert!(rt; replica.next() == Stamp::new(1, 1));
+    let last = next_after(rt.alloc(), &mut replica, MAX_TIME - 1, 2)?;
+    assert!(rt; last == Stamp::new(MAX_TIME, 1));
+    assert!(rt; next_after(rt.alloc(), &mut replica, MAX_TIME, 0)?.is_none());
     Ok(())
 }
 

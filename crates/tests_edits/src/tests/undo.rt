@@ -12,13 +12,10 @@ use std::alloc::Global;
 use std::test::Fail;
 use tests_common::{address, content_of, scalar_text};
 
-/// Whether there are changes: then each address gets its content, or loses it.
-fn apply(cells: &mut Cells, changes: Option<Vec<(Addr, Option<Content>)>>) -> Result<bool, Fail>
-    requires { IfSome changes (λ list. AreProperChanges list.items) }
+/// Each address gets its content, or loses it.
+fn apply(cells: &mut Cells, list: Vec<(Addr, Option<Content>)>) -> Result<(), Fail>
+    requires { AreProperChanges list.items }
 {
-    let Some(list) = changes else {
-        return Ok(false);
-    };
     for (place, content) in list {
         match content {
             Some(c) => cells.put(place, c)?,
@@ -27,7 +24,7 @@ fn apply(cells: &mut Cells, changes: Option<Vec<(Addr, Option<Content>)>>) -> Re
             }
         }
     }
-    Ok(true)
+    Ok(())
 }
 
 /// The address gets this content, as a step.
@@ -66,20 +63,26 @@ fn clear(alloc: Global, cells: &mut Cells, history: &mut History, place: Addr) -
 
 /// Whether a step was left to undo.
 fn undo(alloc: Global, cells: &mut Cells, history: &mut History) -> Result<bool, Fail> {
-    let changes = history.back(alloc)?;
-    if changes.is_some() {
-        history.moved_back();
+    match history.back(alloc)? {
+        None => Ok(false),
+        Some(list) => {
+            apply(cells, list)?;
+            history.moved_back();
+            Ok(true)
+        }
     }
-    apply(cells, changes)
 }
 
 /// Whether a step was left to redo.
 fn redo(alloc: Global, cells: &mut Cells, history: &mut History) -> Result<bool, Fail> {
-    let changes = history.forward(alloc)?;
-    if changes.is_some() {
-        history.moved_forward();
+    match history.forward(alloc)? {
+        None => Ok(false),
+        Some(list) => {
+            apply(cells, list)?;
+            history.moved_forward();
+            Ok(true)
+        }
     }
-    apply(cells, changes)
 }
 
 /// The content of an address, `=` for a formula, and `-` for none.
@@ -91,26 +94,53 @@ fn told(alloc: Global, cells: &Cells, place: &str) -> Result<String, Fail> {
     }
 }
 
+/// What A1 is told as is this.
+fn is_told(alloc: Global, cells: &Cells, want: &str) -> Result<bool, Fail> {
+    Ok(told(alloc, cells, "A1")?.as_str() == want)
+}
+
+/// Each step back leaves one of these in A1, and no step is left then.
+fn goes_back(
+    alloc: Global,
+    cells: &mut Cells,
+    history: &mut History,
+    contents: &[&str],
+) -> Result<bool, Fail> {
+    for want in contents {
+        if !undo(alloc, cells, history)? || !is_told(alloc, cells, want)? {
+            return Ok(false);
+        }
+    }
+    Ok(!undo(alloc, cells, history)?)
+}
+
+/// Each step forward leaves one of these in A1, and no step is left then.
+fn goes_forward(
+    alloc: Global,
+    cells: &mut Cells,
+    history: &mut History,
+    contents: &[&str],
+) -> Result<bool, Fail> {
+    for want in contents {
+        if !redo(alloc, cells, history)? || !is_told(alloc, cells, want)? {
+            return Ok(false);
+        }
+    }
+    Ok(!redo(alloc, cells, history)?)
+}
+
 #[test]
 fn steps_back_and_forth(rt: HostRuntime) -> Result<(), Fail> {
     let alloc = rt.alloc();
     let mut cells = Cells::new(alloc);
     let mut history = History::new(alloc)?;
-    for line in ["set A1 1", "set A1 =B1"] {
+    for line in &["set A1 1", "set A1 =B1"] {
         set(alloc, &mut cells, &mut history, line)?;
     }
     clear(alloc, &mut cells, &mut history, address("A1")?)?;
-    assert_eq!(rt; told(alloc, &cells, "A1")?.as_str(), "-");
-    for want in ["=", "1", "-"] {
-        assert!(rt; undo(alloc, &mut cells, &mut history)?);
-        assert_eq!(rt; told(alloc, &cells, "A1")?.as_str(), want);
-    }
-    assert!(rt; !undo(alloc, &mut cells, &mut history)?);
-    for want in ["1", "=", "-"] {
-        assert!(rt; redo(alloc, &mut cells, &mut history)?);
-        assert_eq!(rt; told(alloc, &cells, "A1")?.as_str(), want);
-    }
-    assert!(rt; !redo(alloc, &mut cells, &mut history)?);
+    assert!(rt; is_told(alloc, &cells, "-")?);
+    assert!(rt; goes_back(alloc, &mut cells, &mut history, &["=", "1", "-"])?);
+    assert!(rt; goes_forward(alloc, &mut cells, &mut history, &["1", "=", "-"])?);
     Ok(())
 }
 
@@ -125,7 +155,7 @@ fn a_new_step_ends_what_can_be_redone(rt: HostRuntime) -> Result<(), Fail> {
     assert!(rt; !redo(alloc, &mut cells, &mut history)?);
     history.clear();
     assert!(rt; !undo(alloc, &mut cells, &mut history)?);
-    assert_eq!(rt; told(alloc, &cells, "A1")?.as_str(), "2");
+    assert!(rt; is_told(alloc, &cells, "2")?);
     Ok(())
 }
 
