@@ -1,17 +1,20 @@
 //! The calculator.
 ghost use Rattle.std.specs.Prelude.{◌≡◌, ◌≤◌, ◌+◌, ◌++◌, ◌∷◌, [], None, length, map, option_map};
 ghost use Rattle.std.specs.Prelude.{IfOk, OnOk, OnErr};
-ghost use Rattle.std.specs.Option.{option_copied};
+ghost use Rattle.std.specs.{Coded.codes, Option.option_copied};
 ghost use Rattle.gl_calculus.specs.{Calculation.why, Formula.One, Memory.tables_for};
-ghost use Rattle.gl_calculus.specs.{Memory.AreTables};
+ghost use Rattle.gl_calculus.specs.{Memory.AreTables, Codes.coded_table};
 ghost use Rattle.gl_language.specs.Content.{IsProperContent};
 ghost use Rattle.gl_protocol.specs.Commands.{with_content, with_contents, without, places_in};
 ghost use Rattle.gl_ast.specs.View.{version_tree};
+ghost use Rattle.gl_ast.specs.contracts.Formula as formula;
+ghost use Rattle.gl_value.specs.contracts.Scalar as scalar;
 ghost use Rattle.gl_cells.specs.{Content.content_tree, Sheet.sheet, Sheet.AreProper};
 ghost use Rattle.gl_cells.specs.Sheet as cells;
 ghost use Rattle.gl_order.specs.Rule.{PicksBelow, rule_of};
 ghost use Rattle.gl_calc.specs.Answers.{Answers, Takes, IsShownBy};
-ghost use Rattle.gl_calc.specs.{View.sheet_of, View.memory_of, Why.why_tree};
+ghost use Rattle.gl_calc.specs.{View.View, View.sheet_of, View.memory_of, Why.why_tree};
+ghost use Rattle.gl_calc.specs.{Held.answer_of, Held.IsCalc};
 
 use crate::calculating::calculate;
 use crate::ending::Answered;
@@ -20,7 +23,7 @@ use crate::marking::{mark_all, mark_in, places_of};
 use crate::reasons::why_at;
 use crate::showing::shown_at;
 use crate::table::Table;
-use crate::{Answer, Why};
+use crate::{Answer, Engine, Why};
 use gl_ast::Version;
 use gl_cells::{Cells, Content, PutFault};
 use gl_demand::{Steps, Watch};
@@ -60,14 +63,6 @@ impl Drop for Calc {
 }
 
 impl Model for Calc {
-    ghost use Rattle.std.specs.Coded.{codes};
-    ghost use Rattle.gl_ast.specs.View.{version_tree};
-    ghost use Rattle.gl_ast.specs.contracts.Formula as formula;
-    ghost use Rattle.gl_value.specs.contracts.Scalar as scalar;
-    ghost use Rattle.gl_calculus.specs.Codes.{coded_table};
-    ghost use Rattle.gl_cells.specs.Sheet.{sheet};
-    ghost use Rattle.gl_calc.specs.{View.View, Held.answer_of, Held.IsCalc};
-
     ghost Value = { View };
 
     ghost coded = { Prim.hlevel (codes, scalar.the_row.coded, formula.the_row.coded, coded_table) };
@@ -230,16 +225,8 @@ impl Calc {
         let tables = mem::replace(&mut self.tables, Vec::new(alloc));
         let tables = earlier_tables(alloc, tables, is_same);
         self.ended = None;
-        let ended = calculate(
-            alloc,
-            &self.cells,
-            version,
-            tables,
-            &self.touched,
-            order,
-            kind,
-            steps,
-        )?;
+        let engine = Engine { alloc, order, kind };
+        let ended = calculate(&engine, &self.cells, version, tables, &self.touched, steps)?;
         let answer = ended.answer();
         self.ended = Some(ended.answer());
         let held = self.held.take();

@@ -1,11 +1,12 @@
 //! One round over the whole sheet.
 ghost use Rattle.std.specs.Prelude.{◌≡◌, [], IfOk, IfErr, Err, ◌⊎◌};
 ghost use Rattle.gl_query.specs.InOrder.{AreOrdered};
-ghost use Rattle.gl_calculus.specs.Formula.{Version as PlainVersion, Cells as Sheet, IsSheet};
+ghost use Rattle.gl_calculus.specs.Formula.{Version as PlainVersion, Cells as Sheet};
 ghost use Rattle.gl_calculus.specs.Formula.{formula_addresses};
 ghost use Rattle.gl_calculus.specs.{Value.Oracle as Permits, Grid.AreInOrder};
 ghost use Rattle.gl_core.specs.State.{notes_in, IsFor};
 ghost use Rattle.gl_calc.specs.{Kept.IsKeptBy, Starting.IsEvaluated, Round.Gives, Round.Fails};
+ghost use Rattle.gl_calc.specs.{Engine.rule_in};
 
 use crate::collecting::collected;
 use crate::ending::RoundFault;
@@ -13,11 +14,11 @@ use crate::keeping::begun;
 use crate::starting::evaluated;
 use crate::table::Table;
 use crate::tables::Tables;
+use crate::Engine;
 use gl_ast::Version;
 use gl_cells::Cells;
 use gl_core::Quiet;
-use gl_demand::{Steps, Watch};
-use gl_order::Order;
+use gl_demand::{Evaluator, Steps, Watch};
 use gl_plane::{Addr, NoMemory, Oracle, Range, Sizes};
 use gl_rounds::Round;
 use std::alloc::Global;
@@ -27,11 +28,9 @@ use std::marker::PhantomData;
 /// before holds for it, and its own table is kept.
 #[derive(Drop)]
 pub struct TopRound<'a, F, L> {
-    pub alloc: Global,
+    pub engine: &'a Engine<'a, F>,
     pub cells: &'a Cells,
     pub version: Version,
-    pub order: &'a Order<F>,
-    pub kind: u8,
     // the formulas of the sheet
     pub places: &'a [Addr],
     // what was touched since the tables from before were made, and the same as ranges
@@ -88,11 +87,11 @@ fn finished(
 }
 
 impl<F: Fn(u8, u64, u64) -> u64, L: Watch> Round for TopRound<'_, F, L> {
-    ghost use Rattle.std.specs.Prelude.{◌≡◌, ◌≤◌};
+    ghost use Rattle.std.specs.Prelude.{◌≡◌};
     ghost use Rattle.gl_ast.specs.View.{version_tree};
     ghost use Rattle.gl_cells.specs.Sheet.{sheet};
     ghost use Rattle.gl_calculus.specs.{Formula.formula_addresses, Differences.AreApart};
-    ghost use Rattle.gl_order.specs.Rule.{PicksBelow, rule_of};
+    ghost use Rattle.gl_order.specs.Rule.{PicksBelow};
     ghost use Rattle.gl_calc.specs.Round.{Gives, Fails, Calls};
     ghost use Rattle.gl_calc.specs.{Kept.IsSet, Single.one_arrays};
 
@@ -101,8 +100,7 @@ impl<F: Fn(u8, u64, u64) -> u64, L: Watch> Round for TopRound<'_, F, L> {
     type Count = Steps<L>;
 
     ghost can = { λ s.
-        PicksBelow (F.pre (rule_of s.order.now)) (F.post (rule_of s.order.now))
-        × (s.kind ≤ 2)
+        PicksBelow (F.pre (rule_in s.engine.now)) (F.post (rule_in s.engine.now))
         × IsSet (version_tree s.version) (sheet s.cells.now) s.places.now s.touched.now s.ranges.now
         s.tables };
 
@@ -120,21 +118,19 @@ impl<F: Fn(u8, u64, u64) -> u64, L: Watch> Round for TopRound<'_, F, L> {
         d };
 
     fn sizes(&mut self, w: &Oracle, steps: &mut Steps<L>) -> Result<Sizes, RoundFault> {
-        match begun(self.alloc, &mut self.tables, self.ranges, w) {
-            Ok(results) => match evaluated(
-                self.alloc,
-                self.places,
-                results,
-                self.cells,
-                w,
-                self.version,
-                self.order,
-                self.kind,
-                steps,
-            ) {
-                Ok(quiet) => finished(self.alloc, &mut self.tables, self.places, quiet, w),
-                Err(fault) => Err(fault),
-            },
+        match begun(self.engine.alloc, &mut self.tables, self.ranges, w) {
+            Ok(results) => {
+                let evaluator = Evaluator {
+                    alloc: self.engine.alloc,
+                    cells: self.cells,
+                    oracle: w,
+                    version: self.version,
+                };
+                match evaluated(&evaluator, self.engine, self.places, results, steps) {
+                    Ok(quiet) => finished(evaluator.alloc, &mut self.tables, self.places, quiet, w),
+                    Err(fault) => Err(fault),
+                }
+            }
             Err(NoMemory) => Err(RoundFault::NoMemory),
         }
     }

@@ -1,6 +1,6 @@
 //! The check of a certificate.
-ghost use Rattle.std.specs.Prelude.{◌≡◌, ◌≤◌, ◌+◌, [], None, length, map, option_map, IfOk};
-ghost use Rattle.gl_calculus.specs.{Calculation.IsShown, Evaluation.program, Key.same_key};
+ghost use Rattle.std.specs.Prelude.{◌≡◌, ◌≤◌, ◌+◌, None, length, map, option_map, IfOk};
+ghost use Rattle.gl_calculus.specs.{Calculation.IsShown, Key.same_key};
 ghost use Rattle.gl_calculus.specs.{SameOutcome.same_outcome};
 ghost use Rattle.gl_explanation.specs.Certificate.{verdict, judged, says_so, says, is_proper};
 ghost use Rattle.gl_explanation.specs.Walk.{first_free};
@@ -8,7 +8,7 @@ ghost use Rattle.gl_explanation.specs.Certificate as E;
 ghost use Rattle.gl_value.specs.Made.{shown_tree};
 ghost use Rattle.gl_ast.specs.View.{version_tree};
 ghost use Rattle.gl_cells.specs.Sheet.{sheet};
-ghost use Rattle.gl_demand.specs.{Sound.AreSoundKeys, View.key_tree};
+ghost use Rattle.gl_demand.specs.{Sound.AreSoundKeys, View.key_tree, Evaluators.program_of};
 ghost use Rattle.gl_cert.specs.{Notes.claims, View.cert_tree, View.verdict_tree};
 
 use crate::loops::{first_free, key_set};
@@ -16,7 +16,7 @@ use crate::straying::first_stray;
 use crate::{Cert, Notes, Verdict, says};
 use gl_ast::Version;
 use gl_cells::Cells;
-use gl_demand::{Key, Steps, Watch};
+use gl_demand::{Evaluator, Key, Steps, Watch};
 use gl_plane::{Addr, NoMemory, Oracle};
 use gl_value::Shown;
 use indexmap::IndexSet;
@@ -58,56 +58,28 @@ fn check_shown(
 
 /// The verdict on the loops and on what is shown, where all notes are right.
 fn check_loops<L: Watch>(
-    alloc: Global,
-    cells: &Cells,
-    w: &Oracle,
-    a: Addr,
+    evaluator: &Evaluator,
     c: &Cert,
+    a: Addr,
     notes: &Notes,
-    version: Version,
     steps: &mut Steps<L>,
 ) -> Result<Verdict, NoMemory>
     requires noted { claims notes.now ≡ (cert_tree c.now).notes }
     requires loops { AreSoundKeys (cert_tree c.now).loops }
     ensures verdict { IfOk result (λ v. verdict_tree v ≡ judged None
-        (first_free same_key same_outcome (is_proper (sheet cells.now))
-        (program (version_tree version) (sheet cells.now) w.now)
+        (first_free same_key same_outcome (is_proper (sheet evaluator.now.cells.now))
+        (program_of evaluator.now)
         (cert_tree c.now).notes (cert_tree c.now).loops (cert_tree c.now).loops)
         (says_so (cert_tree c.now).shown
-        (says (sheet cells.now) w.now a (cert_tree c.now).notes (cert_tree c.now).loops))) }
+        (says (sheet evaluator.now.cells.now) evaluator.now.oracle.now a (cert_tree c.now).notes
+        (cert_tree c.now).loops))) }
     ensures steps { steps.new ≤ steps.old + length (cert_tree c.now).loops }
     ensures later { steps.old ≤ steps.new }
 {
-    let loops = key_set(alloc, &c.loops)?;
-    match first_free(alloc, cells, w, &c.loops, &loops, notes, version, steps) {
-        Ok(None) => check_shown(cells, w, a, c, notes, &loops),
+    let loops = key_set(evaluator.alloc, &c.loops)?;
+    match first_free(evaluator, &c.loops, &loops, notes, steps) {
+        Ok(None) => check_shown(evaluator.cells, evaluator.oracle, a, c, notes, &loops),
         Ok(Some(at)) => Ok(Verdict::Loop { at }),
-        Err(NoMemory) => Err(NoMemory),
-    }
-}
-
-/// The verdict on a certificate.
-fn verdict_on<L: Watch>(
-    alloc: Global,
-    cells: &Cells,
-    w: &Oracle,
-    a: Addr,
-    c: &Cert,
-    version: Version,
-    steps: &mut Steps<L>,
-) -> Result<Verdict, NoMemory>
-    requires keys { AreSoundKeys (map (λ n. n.0) (cert_tree c.now).notes) }
-    requires loops { AreSoundKeys (cert_tree c.now).loops }
-    ensures verdict { IfOk result (λ v. verdict_tree v
-        ≡ verdict (version_tree version) (sheet cells.now) w.now a (cert_tree c.now)) }
-    ensures steps { steps.new ≤ steps.old
-        + length (cert_tree c.now).notes + length (cert_tree c.now).loops }
-    ensures later { steps.old ≤ steps.new }
-{
-    let mut notes = Notes::new(alloc);
-    match first_stray(alloc, cells, w, &c.notes, &mut notes, version, steps) {
-        Ok(None) => check_loops(alloc, cells, w, a, c, &notes, version, steps),
-        Ok(Some(at)) => Ok(Verdict::Note { at }),
         Err(NoMemory) => Err(NoMemory),
     }
 }
@@ -136,5 +108,16 @@ pub fn check<L: Watch>(
         + length (cert_tree c.now).notes + length (cert_tree c.now).loops }
     ensures later { steps.old ≤ steps.new }
 {
-    verdict_on(alloc, cells, w, a, c, version, steps)
+    let evaluator = Evaluator {
+        alloc,
+        cells,
+        oracle: w,
+        version,
+    };
+    let mut notes = Notes::new(alloc);
+    match first_stray(&evaluator, &c.notes, &mut notes, steps) {
+        Ok(None) => check_loops(&evaluator, c, a, &notes, steps),
+        Ok(Some(at)) => Ok(Verdict::Note { at }),
+        Err(NoMemory) => Err(NoMemory),
+    }
 }

@@ -1,22 +1,20 @@
 //! Which loops of a certificate wait for one of them.
 ghost use Rattle.std.specs.Prelude.{◌≡◌, ◌≤◌, ◌<◌, ◌+◌, ◌^◌, true, cond, length, map, IsTrue, IfOk};
 ghost use Rattle.gl_query.specs.Lists.{has_member};
-ghost use Rattle.gl_calculus.specs.{Evaluation.program, Key.same_key, SameOutcome.same_outcome};
+ghost use Rattle.gl_calculus.specs.{Key.same_key, SameOutcome.same_outcome};
 ghost use Rattle.gl_calculus.specs.{Sound.is_sound_key};
 ghost use Rattle.gl_calculus.specs.Key as K;
 ghost use Rattle.gl_explanation.specs.Walk.{waits_among, waits, first_free};
 ghost use Rattle.gl_explanation.specs.Certificate.{is_proper};
-ghost use Rattle.gl_ast.specs.View.{version_tree};
 ghost use Rattle.gl_cells.specs.Sheet.{sheet};
 ghost use Rattle.gl_demand.specs.{Sound.AreSoundKeys, View.key_tree, View.found_tree};
+ghost use Rattle.gl_demand.specs.{Evaluators.program_of};
 ghost use Rattle.gl_cert.specs.Notes.{claims};
 
 use crate::Notes;
 use crate::stepping::{is_proper, level};
-use gl_ast::Version;
-use gl_cells::Cells;
-use gl_demand::{Found, Key, Steps, Watch};
-use gl_plane::{NoMemory, Oracle, Share};
+use gl_demand::{Evaluator, Found, Key, Steps, Watch};
+use gl_plane::{NoMemory, Share};
 use indexmap::IndexSet;
 use std::alloc::Global;
 
@@ -64,26 +62,23 @@ fn lacks_one(loops: &IndexSet<Key>, found: &Found) -> bool
 
 /// Whether a key waits for one of the loops, over the notes. It takes one step at most.
 fn key_waits<L: Watch>(
-    alloc: Global,
-    cells: &Cells,
-    w: &Oracle,
+    evaluator: &Evaluator,
     key: &Key,
     loops: &IndexSet<Key>,
     notes: &Notes,
-    version: Version,
     steps: &mut Steps<L>,
 ) -> Result<bool, NoMemory>
     requires sound { IsTrue (is_sound_key (key_tree key.now)) }
-    ensures waits { IfOk result (λ b. b ≡ waits same_key same_outcome (is_proper (sheet cells.now))
-        (program (version_tree version) (sheet cells.now) w.now)
+    ensures waits { IfOk result (λ b. b ≡ waits same_key same_outcome
+        (is_proper (sheet evaluator.now.cells.now)) (program_of evaluator.now)
         (claims notes.now) (map key_tree loops.now.keys) (key_tree key.now)) }
     ensures steps { steps.new ≤ steps.old + 1 }
     ensures later { steps.old ≤ steps.new }
 {
-    if !is_proper(cells, key) {
+    if !is_proper(evaluator.cells, key) {
         return Ok(false);
     }
-    match level(alloc, cells, w, key, notes, version, steps) {
+    match level(evaluator, key, notes, steps) {
         Ok(found) => Ok(lacks_one(loops, &found)),
         Err(NoMemory) => Err(NoMemory),
     }
@@ -92,26 +87,23 @@ fn key_waits<L: Watch>(
 /// The number of the first of these keys that doesn't wait for one of the loops, over the notes. It
 /// takes one step at most for each key.
 pub fn first_free<L: Watch>(
-    alloc: Global,
-    cells: &Cells,
-    w: &Oracle,
+    evaluator: &Evaluator,
     list: &[Key],
     loops: &IndexSet<Key>,
     notes: &Notes,
-    version: Version,
     steps: &mut Steps<L>,
 ) -> Result<Option<u32>, NoMemory>
     requires few { length list.now < 2 ^ 32 }
     requires sound { AreSoundKeys (map key_tree list.now) }
     ensures free { IfOk result (λ r. r
-        ≡ first_free same_key same_outcome (is_proper (sheet cells.now))
-        (program (version_tree version) (sheet cells.now) w.now)
+        ≡ first_free same_key same_outcome (is_proper (sheet evaluator.now.cells.now))
+        (program_of evaluator.now)
         (claims notes.now) (map key_tree loops.now.keys) (map key_tree list.now)) }
     ensures steps { steps.new ≤ steps.old + length list.now }
     ensures later { steps.old ≤ steps.new }
 {
     for i in 0..list.len() {
-        match key_waits(alloc, cells, w, &list[i], loops, notes, version, steps) {
+        match key_waits(evaluator, &list[i], loops, notes, steps) {
             Ok(true) => {}
             Ok(false) => return Ok(Some(i as u32)),
             Err(NoMemory) => return Err(NoMemory),

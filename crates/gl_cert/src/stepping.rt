@@ -1,21 +1,18 @@
 //! Keys that may be evaluated, and one level of evaluation over notes.
 ghost use Rattle.std.specs.Prelude.{◌≡◌, IsTrue, IfOk};
 ghost use Rattle.gl_query.specs.Query.{found};
-ghost use Rattle.gl_calculus.specs.{Evaluation.program, Key.same_key, Sound.is_sound_key};
+ghost use Rattle.gl_calculus.specs.{Key.same_key, Sound.is_sound_key};
 ghost use Rattle.gl_calculus.specs.{Sound.IsProperKey};
 ghost use Rattle.gl_explanation.specs.{Certificate.is_proper, Walk.noted};
-ghost use Rattle.gl_ast.specs.View.{version_tree};
 ghost use Rattle.gl_cells.specs.Sheet.{sheet};
 ghost use Rattle.gl_demand.specs.{Sound.IsSoundFound, Steps.one_more, View.key_tree};
-ghost use Rattle.gl_demand.specs.{View.found_tree};
+ghost use Rattle.gl_demand.specs.{View.found_tree, Evaluators.program_of};
 ghost use Rattle.gl_cert.specs.Notes.{claims};
 
 use crate::Notes;
-use gl_ast::Version;
 use gl_cells::Cells;
-use gl_demand::{Found, Key, Steps, Turn, Watch, proper, step};
-use gl_plane::{NoMemory, Oracle};
-use std::alloc::Global;
+use gl_demand::{Evaluator, Found, Key, Steps, Turn, Watch, proper, step};
+use gl_plane::NoMemory;
 
 /// Whether a key is proper in a sheet.
 pub fn is_proper(cells: &Cells, key: &Key) -> bool
@@ -29,22 +26,19 @@ pub fn is_proper(cells: &Cells, key: &Key) -> bool
 /// What one level over the notes finds of a key: its outcome, or the first key that it demands
 /// without note. Each call counts as one step, also where it answers `NoMemory`.
 pub fn level<L: Watch>(
-    alloc: Global,
-    cells: &Cells,
-    w: &Oracle,
+    evaluator: &Evaluator,
     key: &Key,
     notes: &Notes,
-    version: Version,
     steps: &mut Steps<L>,
 ) -> Result<Found, NoMemory>
     requires sound { IsTrue (is_sound_key (key_tree key.now)) }
-    requires proper { IsProperKey (sheet cells.now) (key_tree key.now) }
+    requires proper { IsProperKey (sheet evaluator.now.cells.now) (key_tree key.now) }
     ensures found { IfOk result (λ f. found_tree f ≡ found (noted same_key (claims notes.now))
-        (program (version_tree version) (sheet cells.now) w.now (key_tree key.now))) }
+        (program_of evaluator.now (key_tree key.now))) }
     ensures sound { IfOk result (λ f. IsSoundFound (key_tree key.now) (found_tree f)) }
     ensures counted { steps.new ≡ one_more steps.old }
 {
-    match step(alloc, cells, w, key, notes, version, steps) {
+    match evaluator.step(key, notes, steps) {
         Ok(turn) => Ok(found_of(turn)),
         Err(NoMemory) => Err(NoMemory),
     }

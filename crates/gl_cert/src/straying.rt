@@ -2,23 +2,20 @@
 ghost use Rattle.std.specs.Prelude.{◌≡◌, ◌≤◌, ◌<◌, ◌+◌, ◌^◌, [], ◌∷◌, ◌++◌, true, None, length};
 ghost use Rattle.std.specs.Prelude.{map, IsTrue, IfOk};
 ghost use Rattle.gl_query.specs.Query.{Ready};
-ghost use Rattle.gl_calculus.specs.{Evaluation.program, Key.same_key, SameOutcome.same_outcome};
+ghost use Rattle.gl_calculus.specs.{Key.same_key, SameOutcome.same_outcome};
 ghost use Rattle.gl_calculus.specs.{Sound.is_sound_key};
 ghost use Rattle.gl_explanation.specs.Walk.{noted, comes_to, follows, first_stray};
 ghost use Rattle.gl_explanation.specs.Certificate.{is_proper};
-ghost use Rattle.gl_ast.specs.View.{version_tree};
 ghost use Rattle.gl_cells.specs.Sheet.{sheet};
 ghost use Rattle.gl_demand.specs.View.{key_tree, outcome_tree, found_tree};
 ghost use Rattle.gl_demand.specs.Sound.{IsSoundFound, AreSoundKeys};
+ghost use Rattle.gl_demand.specs.{Evaluators.program_of};
 ghost use Rattle.gl_cert.specs.{Notes.claims, Claims.claim_trees};
 
 use crate::Notes;
 use crate::stepping::{is_proper, level};
-use gl_ast::Version;
-use gl_cells::Cells;
-use gl_demand::{Found, Key, Outcome, Steps, Watch};
-use gl_plane::{NoMemory, Oracle, Share};
-use std::alloc::Global;
+use gl_demand::{Evaluator, Found, Key, Outcome, Steps, Watch};
+use gl_plane::{NoMemory, Share};
 
 /// Notes an outcome of a key, which is right.
 fn note_right(key: &Key, outcome: Outcome, notes: &mut Notes) -> Result<bool, NoMemory>
@@ -62,33 +59,30 @@ fn note_found(
 /// Whether a note follows from those in the table; then it is put into it. It takes one step at
 /// most.
 fn note_follows<L: Watch>(
-    alloc: Global,
-    cells: &Cells,
-    w: &Oracle,
+    evaluator: &Evaluator,
     key: &Key,
     outcome: &Outcome,
     notes: &mut Notes,
-    version: Version,
     steps: &mut Steps<L>,
 ) -> Result<bool, NoMemory>
     requires sound { IsTrue (is_sound_key (key_tree key.now)) }
     ensures follows { IfOk result (λ b.
         b
-        ≡ follows same_key same_outcome (is_proper (sheet cells.now))
-        (program (version_tree version) (sheet cells.now) w.now) (claims notes.old)
+        ≡ follows same_key same_outcome (is_proper (sheet evaluator.now.cells.now))
+        (program_of evaluator.now) (claims notes.old)
         (key_tree key.now, outcome_tree outcome.now)) }
     ensures noted { IfOk result (λ b. b ≡ true → claims notes.new
         ≡ claims notes.old ++ (key_tree key.now, outcome_tree outcome.now) ∷ []) }
     ensures steps { steps.new ≤ steps.old + 1 }
     ensures later { steps.old ≤ steps.new }
 {
-    if !is_proper(cells, key) {
+    if !is_proper(evaluator.cells, key) {
         return Ok(false);
     }
     if notes.outcome(key).is_some() {
         return Ok(false);
     }
-    match level(alloc, cells, w, key, notes, version, steps) {
+    match level(evaluator, key, notes, steps) {
         Ok(found) => note_found(key, outcome, found, notes),
         Err(NoMemory) => Err(NoMemory),
     }
@@ -97,27 +91,24 @@ fn note_follows<L: Watch>(
 /// The number of the first note that doesn't follow from those before it. Those before it are put
 /// into the table, which has none yet. It takes one step at most for each note.
 pub fn first_stray<L: Watch>(
-    alloc: Global,
-    cells: &Cells,
-    w: &Oracle,
+    evaluator: &Evaluator,
     list: &[(Key, Outcome)],
     notes: &mut Notes,
-    version: Version,
     steps: &mut Steps<L>,
 ) -> Result<Option<u32>, NoMemory>
     requires few { length list.now < 2 ^ 32 }
     requires sound { AreSoundKeys (map (λ n. n.0) (claim_trees list.now)) }
     requires none { claims notes.old ≡ [] }
     ensures stray { IfOk result (λ r. r
-        ≡ first_stray same_key same_outcome (is_proper (sheet cells.now))
-        (program (version_tree version) (sheet cells.now) w.now) [] (claim_trees list.now)) }
+        ≡ first_stray same_key same_outcome (is_proper (sheet evaluator.now.cells.now))
+        (program_of evaluator.now) [] (claim_trees list.now)) }
     ensures noted { IfOk result (λ r. r ≡ None → claims notes.new ≡ claim_trees list.now) }
     ensures steps { steps.new ≤ steps.old + length list.now }
     ensures later { steps.old ≤ steps.new }
 {
     for i in 0..list.len() {
         let (key, outcome) = &list[i];
-        match note_follows(alloc, cells, w, key, outcome, notes, version, steps) {
+        match note_follows(evaluator, key, outcome, notes, steps) {
             Ok(true) => {}
             Ok(false) => return Ok(Some(i as u32)),
             Err(NoMemory) => return Err(NoMemory),

@@ -1,9 +1,12 @@
 //! Keys by numbers.
-ghost use Rattle.std.specs.Prelude.{◌≡◌, ◌<◌, ◌^◌, [], Some, None, IsTrue, length, slice_get};
-ghost use Rattle.gl_calculus.specs.Sound.{is_sound_key};
+ghost use Rattle.std.specs.Prelude.{◌≡◌, ◌<◌, ◌^◌, [], Some, None, IsTrue, List, length, slice_get};
+ghost use Rattle.std.specs.Coded.{codes};
+ghost use Rattle.gl_calculus.specs.{Codes.coded_key, Sound.is_sound_key};
+ghost use Rattle.gl_calculus.specs.Key as K;
+ghost use Rattle.gl_intern.specs.Numbered.{seconds};
 ghost use Rattle.gl_demand.specs.View.{key_tree};
 ghost use Rattle.gl_core.specs.Numbers.{IsNumber, AreBooked, GetsNumber};
-ghost use Rattle.gl_core.specs.Words.{key_word};
+ghost use Rattle.gl_core.specs.{Shorts.key_pairs, Shorts.IsShort, Words.HasWords, Words.key_word};
 
 use crate::guesses::{
     copy_word, guess, guessed_parent, own_word, remember, remember_frame, replace,
@@ -43,13 +46,6 @@ impl Drop for Book {
 }
 
 impl Model for Book {
-    ghost use Rattle.std.specs.Prelude.{List};
-    ghost use Rattle.std.specs.Coded.{codes};
-    ghost use Rattle.gl_calculus.specs.Codes.{coded_key};
-    ghost use Rattle.gl_calculus.specs.Key as K;
-    ghost use Rattle.gl_intern.specs.Numbered.{seconds};
-    ghost use Rattle.gl_core.specs.{Shorts.key_pairs, Shorts.IsShort, Words.HasWords};
-
     ghost Value = { List K.Key };
 
     ghost coded = { Prim.hlevel (codes, coded_key) };

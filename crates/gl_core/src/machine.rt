@@ -1,6 +1,7 @@
 //! The core: known keys, each idle, waiting for another or resolved, and what a pick does.
 ghost use Rattle.std.specs.Prelude.{[], true, false, ◌≡◌, ◌≤◌, ◌<◌, ◌+◌, ◌-◌, ◌^◌, ℕ, length, map};
 ghost use Rattle.std.specs.Prelude.{slice_index, OnOk, OnErr, IfOk, IfErr, vec_len};
+ghost use Rattle.std.specs.Coded.{codes};
 ghost use Rattle.gl_query.specs.Lists.{Member, AreDistinct, MoreThan};
 ghost use Rattle.gl_query.specs.Machine.{Demanded, idle_keys, nth};
 ghost use Rattle.gl_query.specs.{Laws.IsQuiet, Costs.answer_at, Costs.settled, Remembered.AreTrue};
@@ -8,6 +9,7 @@ ghost use Rattle.gl_query.specs.{InOrder.AreOrdered, InOrder.note_keys};
 ghost use Rattle.gl_query.specs.Machine as Machine;
 ghost use Rattle.gl_calculus.specs.{Limits.max_demanded, Key.same_key, Evaluation.program};
 ghost use Rattle.gl_calculus.specs.{Sound.IsProperKey};
+ghost use Rattle.gl_calculus.specs.Codes.{coded_key, coded_outcome, coded_note};
 ghost use Rattle.gl_calculus.specs.Value as V;
 ghost use Rattle.gl_calculus.specs.Key as K;
 ghost use Rattle.gl_ast.specs.View.{version_tree};
@@ -15,11 +17,12 @@ ghost use Rattle.gl_cells.specs.Sheet.{sheet};
 ghost use Rattle.gl_order.specs.Rule.{PicksBelow, rule_of};
 ghost use Rattle.gl_memo.specs.Notes.{notes_of};
 ghost use Rattle.gl_demand.specs.{View.key_tree, Sound.AreSoundKeys, Marks.mark_trees};
-ghost use Rattle.gl_demand.specs.{Steps.AllowsDemanded};
+ghost use Rattle.gl_demand.specs.{Steps.AllowsDemanded, Evaluators.program_of};
 ghost use Rattle.gl_core.specs.State.{state_of, seeds_of, notes_in, note_trees, is_noted};
 ghost use Rattle.gl_core.specs.State.{noted_after, HaveSoundParts, IsFor};
 ghost use Rattle.gl_core.specs.Answers.{picked_tree, counted, AtMostCounted, AllowsKnown};
-ghost use Rattle.gl_core.specs.{Table.IsTable, Table.AreIdle, Marks.TellNothing};
+ghost use Rattle.gl_core.specs.{Table.IsTable, Table.AreIdle, Table.IsCore, Table.held};
+ghost use Rattle.gl_core.specs.{Held.Held, Marks.TellNothing, Marks.coded_mark};
 
 use crate::answers::{CoreFault, Picked};
 use crate::converting::ledger_of;
@@ -31,7 +34,7 @@ use crate::results::Results;
 use crate::resuming::resumed;
 use gl_ast::Version;
 use gl_cells::Cells;
-use gl_demand::{Key, Outcome, Steps, Watch};
+use gl_demand::{Evaluator, Key, Outcome, Steps, Watch};
 use gl_memo::Memo;
 use gl_order::Order;
 use gl_plane::{Addr, NoMemory, Oracle, Range};
@@ -62,10 +65,6 @@ impl Drop for Core {
 }
 
 impl Model for Core {
-    ghost use Rattle.std.specs.Coded.{codes};
-    ghost use Rattle.gl_calculus.specs.Codes.{coded_key, coded_outcome, coded_note};
-    ghost use Rattle.gl_core.specs.{Held.Held, Marks.coded_mark, Table.held, Table.IsCore};
-
     ghost Value = { Held };
 
     ghost coded = { Prim.hlevel (codes, coded_key, coded_outcome, coded_note, coded_mark) };
@@ -153,33 +152,30 @@ impl Core {
 
     /// The cells at these places of the sheet as seeds, with the results that are kept for them.
     pub fn resume(
-        alloc: Global,
+        evaluator: &Evaluator,
         places: &[Addr],
         results: Results,
-        cells: &Cells,
-        w: &Oracle,
-        version: Version,
     ) -> Result<Core, CoreFault>
         requires few { length places.now ≤ max_demanded }
         requires apart { AreDistinct (map (K.Cell V.Top) places.now) }
         requires proper { (k : K.Key)
             → Member k (map (K.Cell V.Top) places.now)
-            → IsProperKey (sheet cells.now) k }
+            → IsProperKey (sheet evaluator.now.cells.now) k }
         requires true_notes { AreTrue same_key
-            (program (version_tree version) (sheet cells.now) w.now) results }
+            (program_of evaluator.now) results }
         ensures seeds { IfOk result (λ core. seeds_of core ≡ map (K.Cell V.Top) places.now) }
         ensures notes { IfOk result (λ core. notes_in core ≡ results) }
         ensures ordered { IfOk result (λ core. AreOrdered [] (notes_in core)) }
         ensures for_it { IfOk result (λ core.
-            IsFor (version_tree version) (sheet cells.now) w.now core) }
+            IsFor (version_tree evaluator.now.version) (sheet evaluator.now.cells.now)
+            evaluator.now.oracle.now core) }
         ensures work { IfErr result (λ e.
             e ≡ CoreFault.Work
             → MoreThan max_demanded
-            (Demanded (program (version_tree version) (sheet cells.now) w.now)
-            (map (K.Cell V.Top) places.now))) }
+            (Demanded (program_of evaluator.now) (map (K.Cell V.Top) places.now))) }
     {
         let mut ledger = results.into_ledger();
-        match resumed(alloc, places, &mut ledger) {
+        match resumed(evaluator.alloc, places, &mut ledger) {
             Ok(entries) => Ok(Core {
                 entries,
                 seeds: places.len(),
@@ -239,16 +235,13 @@ impl Core {
             steps.old) }
     {
         let p = self.entries.statuses.idle_place(i as u32);
-        pick_at(
+        let evaluator = Evaluator {
             alloc,
-            &mut self.entries,
-            &mut self.ledger,
-            p,
             cells,
-            w,
+            oracle: w,
             version,
-            steps,
-        )
+        };
+        pick_at(&mut self.entries, &mut self.ledger, p, &evaluator, steps)
     }
 
     /// Picks by the rule until nothing is idle, whatever the rule answers. `Work` comes exactly

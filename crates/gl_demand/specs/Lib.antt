@@ -25,3 +25,4 @@ pub mod Filling
 pub mod Worlds
 pub mod Calls
 pub mod Outline
+pub mod Evaluators

@@ -9,7 +9,7 @@ ghost use Rattle.gl_funs.specs.Elements.{AreSound};
 ghost use Rattle.gl_value.specs.View.{value_tree};
 ghost use Rattle.gl_demand.specs.{Arity.takes_any, declared.trail.Halt.Halt};
 
-use crate::trail::Halt;
+use crate::trail::{Eval, Halt};
 use gl_arrays::{
     drop_part, extent_columns, extent_rows, filter, hstack, index, lookup, sequence, take,
     transpose, unique, vstack,
@@ -30,7 +30,7 @@ const MAX_ARGUMENTS: usize = 16;
 ///
 /// A number of arguments that the grammar allows to none is `#VALUE!`. More arguments than a well
 /// formed formula has, and stacks of no value, are refused.
-pub fn apply(alloc: Global, fun: Fun, values: &[Value]) -> Result<Value, Halt>
+pub fn apply(alloc: Global, fun: Fun, values: &[Value]) -> Eval<Value>
     requires sound { AreSound values.now }
     ensures value { IfOk result (λ v.
         value_tree v ≡ F.apply (fun_tree fun) (map value_tree values.now)) }

@@ -15,7 +15,7 @@ use crate::context::Context;
 use crate::formulas::eval;
 use crate::making::{sheet_of, this, updated, written_address};
 use crate::scope::Scope;
-use crate::trail::{Halt, Trail};
+use crate::trail::{Eval, Halt, Trail};
 use crate::viewing::viewed;
 use gl_ast::{Formula, Fun};
 use gl_value::{Scalar, Value};
@@ -29,7 +29,7 @@ pub fn call<K: Known>(
     fun: Fun,
     xs: &[Formula],
     trail: &mut Trail,
-) -> Result<Value, Halt>
+) -> Eval<Value>
     ensures walk { Walks (world_of ctx.now)
         (call_in ctx.now scope.now (fun_tree fun) xs.now)
         value_tree trail.old result trail.new }
@@ -55,7 +55,7 @@ fn call_if<K: Known>(
     scope: &Scope,
     xs: &[Formula],
     trail: &mut Trail,
-) -> Result<Value, Halt>
+) -> Eval<Value>
     ensures walk { Walks (world_of ctx.now)
         (call_in ctx.now scope.now F.Fun.If xs.now)
         value_tree trail.old result trail.new }
@@ -89,7 +89,7 @@ fn call_if_error<K: Known>(
     scope: &Scope,
     xs: &[Formula],
     trail: &mut Trail,
-) -> Result<Value, Halt>
+) -> Eval<Value>
     ensures walk { Walks (world_of ctx.now)
         (call_in ctx.now scope.now F.Fun.IfError xs.now)
         value_tree trail.old result trail.new }
@@ -119,7 +119,7 @@ fn call_sheet<K: Known>(
     scope: &Scope,
     xs: &[Formula],
     trail: &mut Trail,
-) -> Result<Value, Halt>
+) -> Eval<Value>
     ensures walk { Walks (world_of ctx.now)
         (call_in ctx.now scope.now F.Fun.Sheet xs.now)
         value_tree trail.old result trail.new }
@@ -139,7 +139,7 @@ fn call_update<K: Known>(
     scope: &Scope,
     xs: &[Formula],
     trail: &mut Trail,
-) -> Result<Value, Halt>
+) -> Eval<Value>
     ensures walk { Walks (world_of ctx.now)
         (call_in ctx.now scope.now F.Fun.Update xs.now)
         value_tree trail.old result trail.new }
@@ -165,7 +165,7 @@ fn call_view<K: Known>(
     scope: &Scope,
     xs: &[Formula],
     trail: &mut Trail,
-) -> Result<Value, Halt>
+) -> Eval<Value>
     ensures walk { Walks (world_of ctx.now)
         (call_in ctx.now scope.now F.Fun.View xs.now)
         value_tree trail.old result trail.new }
@@ -188,7 +188,7 @@ fn call_group<K: Known>(
     scope: &Scope,
     xs: &[Formula],
     trail: &mut Trail,
-) -> Result<Value, Halt>
+) -> Eval<Value>
     ensures walk { Walks (world_of ctx.now)
         (call_in ctx.now scope.now F.Fun.G xs.now)
         value_tree trail.old result trail.new }
@@ -225,7 +225,7 @@ fn call_this<K: Known>(
     scope: &Scope,
     xs: &[Formula],
     trail: &mut Trail,
-) -> Result<Value, Halt>
+) -> Eval<Value>
     ensures walk { Walks (world_of ctx.now)
         (call_in ctx.now scope.now F.Fun.This xs.now)
         value_tree trail.old result trail.new }
@@ -246,7 +246,7 @@ fn applied<K: Known>(
     fun: Fun,
     xs: &[Formula],
     trail: &mut Trail,
-) -> Result<Value, Halt>
+) -> Eval<Value>
     ensures walk { Walks (world_of ctx.now)
         (plain_call (fun_tree fun)
         (E.arguments (version_tree ctx.now.version) (frame_tree ctx.now.env.now)

@@ -9,7 +9,7 @@ ghost use Rattle.gl_value.specs.View.{scalar_tree, value_tree};
 ghost use Rattle.gl_demand.specs.{Choices.by_choice, Choices.by_replacement};
 ghost use Rattle.gl_demand.specs.{declared.trail.Halt.Halt};
 
-use crate::trail::Halt;
+use crate::trail::{Eval, Halt};
 use gl_ast::Version;
 use gl_lift::{lift2, lift3};
 use gl_plane::{NoMemory, Share};
@@ -140,7 +140,7 @@ fn pick(c: &Scalar, x: &Scalar, y: &Scalar) -> Result<Scalar, NoMemory>
 
 /// The choice at each element of a condition.
 #[tactic(auto, using(gl_value::specs::Forms::trees))]
-pub fn chosen(alloc: Global, c: &Value, u: &Value, v: &Value) -> Result<Value, Halt>
+pub fn chosen(alloc: Global, c: &Value, u: &Value, v: &Value) -> Eval<Value>
     requires condition { IsTrue (is_sound_value (value_tree c.now)) }
     requires first { IsTrue (is_sound_value (value_tree u.now)) }
     requires second { IsTrue (is_sound_value (value_tree v.now)) }
@@ -182,7 +182,7 @@ fn in_place(x: &Scalar, y: &Scalar) -> Result<Scalar, NoMemory>
 
 /// The second value in place of each error of the first.
 #[tactic(auto, using(gl_value::specs::Forms::trees))]
-pub fn replaced(alloc: Global, u: &Value, v: &Value) -> Result<Value, Halt>
+pub fn replaced(alloc: Global, u: &Value, v: &Value) -> Eval<Value>
     requires first { IsTrue (is_sound_value (value_tree u.now)) }
     requires second { IsTrue (is_sound_value (value_tree v.now)) }
     ensures value { IfOk result (λ x.

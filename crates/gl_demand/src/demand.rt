@@ -12,18 +12,14 @@ ghost use Rattle.gl_demand.specs.{Held.held_tree, Held.IsSoundHeld, Walks.Walks}
 
 use crate::context::Context;
 use crate::held::{Held, held_at};
-use crate::trail::{Halt, Trail};
+use crate::trail::{Eval, Halt, Trail};
 use crate::{Ahead, Key, Known, Outcome};
 use gl_plane::{Addr, NoMemory, Share};
 use gl_value::{Env, Value};
 
 /// The known outcome of a key, which is noted as read.
 #[tactic(auto, using(gl_value::specs::Forms::trees))]
-pub fn demand<'a, K: Known>(
-    ctx: &Context<'a, K>,
-    key: Key,
-    trail: &mut Trail,
-) -> Result<&'a Outcome, Halt>
+pub fn demand<'a, K: Known>(ctx: &Context<'a, K>, key: Key, trail: &mut Trail) -> Eval<&'a Outcome>
     requires { IsTrue (is_sound_key (key_tree key)) }
     ensures walk { Walks (world_of ctx.now)
         (Demand (key_tree key) give) (λ o. outcome_tree o.now) trail.old result trail.new }
@@ -44,7 +40,7 @@ pub fn demand<'a, K: Known>(
 
 /// The value that an outcome of a cell is.
 #[tactic(auto, using(gl_value::specs::Forms::trees))]
-fn value_in(outcome: &Outcome, trail: &Trail) -> Result<Option<Value>, Halt>
+fn value_in(outcome: &Outcome, trail: &Trail) -> Eval<Option<Value>>
     requires { IsTrue (is_sound_outcome (outcome_tree outcome.now)) }
     ensures walk { (w : World)
         → Walks w (own_value (outcome_tree outcome.now)) (option_map value_tree) trail.now result
@@ -68,7 +64,7 @@ fn demanded<K: Known>(
     env: &Env,
     a: Addr,
     trail: &mut Trail,
-) -> Result<Option<Value>, Halt>
+) -> Eval<Option<Value>>
     requires frame { IsTrue (is_sound_frame (frame_tree env.now)) }
     ensures walk { Walks (world_of ctx.now)
         (Demand (Cell (frame_tree env.now) a) own_value) (option_map value_tree) trail.old result
@@ -86,7 +82,7 @@ fn demanded<K: Known>(
 
 /// The key of a cell.
 #[tactic(auto, using(gl_value::specs::Forms::trees))]
-fn cell_key(env: &Env, a: Addr) -> Result<Key, Halt>
+fn cell_key(env: &Env, a: Addr) -> Eval<Key>
     requires frame { IsTrue (is_sound_frame (frame_tree env.now)) }
     ensures value { IfOk result (λ k. key_tree k ≡ Cell (frame_tree env.now) a) }
     ensures err { IfErr result (λ h. h ≡ Halt.NoMemory) }
@@ -100,12 +96,7 @@ fn cell_key(env: &Env, a: Addr) -> Result<Key, Halt>
 
 /// The own value of an address: its override's, its constant's, or that of its formula.
 #[tactic(auto, using(gl_value::specs::Forms::trees))]
-pub fn own<K: Known>(
-    ctx: &Context<K>,
-    env: &Env,
-    a: Addr,
-    trail: &mut Trail,
-) -> Result<Option<Value>, Halt>
+pub fn own<K: Known>(ctx: &Context<K>, env: &Env, a: Addr, trail: &mut Trail) -> Eval<Option<Value>>
     requires frame { IsTrue (is_sound_frame (frame_tree env.now)) }
     ensures walk { Walks (world_of ctx.now)
         (own (frame_tree env.now) (fact (sheet ctx.now.cells.now) ctx.now.w.now a))
@@ -126,7 +117,7 @@ fn value_of<K: Known>(
     a: Addr,
     held: &Held,
     trail: &mut Trail,
-) -> Result<Option<Value>, Halt>
+) -> Eval<Option<Value>>
     requires frame { IsTrue (is_sound_frame (frame_tree env.now)) }
     requires held { IsSoundHeld (held_tree held.now) }
     ensures walk { Walks (world_of ctx.now)

@@ -7,34 +7,12 @@ ghost use Rattle.gl_value.specs.View.{scalar_tree, value_tree};
 ghost use Rattle.gl_demand.specs.declared.trail.Halt.{Halt};
 
 use crate::shows;
-use crate::trail::Halt;
-use gl_plane::{NoMemory, Permit, Share};
+use crate::trail::{Eval, Halt};
+use gl_plane::{NoMemory, Permit};
 use gl_value::{ErrKind, Scalar, Value};
 
-/// A scalar once more.
-pub fn share_scalar(x: &Scalar) -> Result<Scalar, Halt>
-    ensures value { IfOk result (λ y. scalar_tree y ≡ scalar_tree x.now) }
-    ensures err { IfErr result (λ h. h ≡ Halt.NoMemory) }
-{
-    match x.share() {
-        Ok(y) => Ok(y),
-        Err(NoMemory) => Err(Halt::NoMemory),
-    }
-}
-
-/// A value once more.
-pub fn share_value(x: &Value) -> Result<Value, Halt>
-    ensures value { IfOk result (λ y. value_tree y ≡ value_tree x.now) }
-    ensures err { IfErr result (λ h. h ≡ Halt.NoMemory) }
-{
-    match x.share() {
-        Ok(y) => Ok(y),
-        Err(NoMemory) => Err(Halt::NoMemory),
-    }
-}
-
 /// What an address with content shows: an array its corner, unless it is refused.
-pub fn shown(permit: Option<Permit>, v: &Value) -> Result<Scalar, Halt>
+pub fn shown(permit: Option<Permit>, v: &Value) -> Eval<Scalar>
     requires { IsTrue (is_sound_value (value_tree v.now)) }
     ensures value { IfOk result (λ x.
         scalar_tree x ≡ shown (option_map permit_tree permit) (value_tree v.now)) }
@@ -49,7 +27,7 @@ pub fn shown(permit: Option<Permit>, v: &Value) -> Result<Scalar, Halt>
 
 /// The element at an offset of a root's own value; a blank where there is none.
 #[tactic(auto, using(gl_value::specs::Forms::trees))]
-pub fn spilled(v: &Option<Value>, i: u16, j: u16) -> Result<Scalar, Halt>
+pub fn spilled(v: &Option<Value>, i: u16, j: u16) -> Eval<Scalar>
     requires { IfSome v.now (λ x. IsTrue (is_sound_value (value_tree x))) }
     ensures value { IfOk result (λ x. scalar_tree x ≡ spilled (option_map value_tree v.now) i j) }
     ensures err { IfErr result (λ h. h ≡ Halt.NoMemory) }
@@ -62,7 +40,7 @@ pub fn spilled(v: &Option<Value>, i: u16, j: u16) -> Result<Scalar, Halt>
 }
 
 /// The same of a value that is there.
-fn spilled_from(v: &Value, i: u16, j: u16) -> Result<Scalar, Halt>
+fn spilled_from(v: &Value, i: u16, j: u16) -> Eval<Scalar>
     requires { IsTrue (is_sound_value (value_tree v.now)) }
     ensures value { IfOk result (λ x. scalar_tree x ≡ spilled (Some (value_tree v.now)) i j) }
     ensures err { IfErr result (λ h. h ≡ Halt.NoMemory) }

@@ -16,17 +16,15 @@ ghost use Rattle.gl_demand.specs.{Stopped.IsStopped};
 ghost use Rattle.gl_ahead.specs.Reading.{Own};
 
 use crate::context::Context;
-use crate::elements::{share_scalar, share_value};
 use crate::formulas::eval;
 use crate::held::{Held, held_at};
 use crate::own_reads::{Lookup, lacked_in_formula};
 use crate::reading::look_at;
 use crate::scope::Scope;
 use crate::settle::settle;
-use crate::trail::{Halt, Trail};
-use crate::{Ahead, Found, Key, Known, Outcome, Place};
-use gl_ast::{Formula, Version};
-use gl_cells::Cells;
+use crate::trail::{Eval, Halt, Trail};
+use crate::{Ahead, Evaluator, Found, Key, Known, Outcome, Place};
+use gl_ast::Formula;
 use gl_plane::{Addr, NoMemory, Oracle, Share};
 use gl_value::{Env, Scalar, SheetVal, Value};
 use std::alloc::Global;
@@ -34,7 +32,7 @@ use std::rc::Rc;
 
 /// The value of an address that holds this.
 #[tactic(auto, using(gl_value::specs::Forms::trees), unfolding(gl_calculus::specs::Evaluation::cell_value))]
-fn content_value<K: Known>(ctx: &Context<K>, held: &Held, trail: &mut Trail) -> Result<Value, Halt>
+fn content_value<K: Known>(ctx: &Context<K>, held: &Held, trail: &mut Trail) -> Eval<Value>
     requires held { IsSoundHeld (held_tree held.now) }
     ensures walk { Walks (world_of ctx.now)
         (E.cell_value (version_tree ctx.now.version) (frame_tree ctx.now.env.now)
@@ -42,11 +40,8 @@ fn content_value<K: Known>(ctx: &Context<K>, held: &Held, trail: &mut Trail) -> 
     ensures sound { IfOk result (λ v. IsTrue (is_sound_value (value_tree v))) }
 {
     match held {
-        Held::Value(v) => share_value(v),
-        Held::Scalar(x) => match share_scalar(x) {
-            Ok(x) => Ok(Value::One(x)),
-            Err(halt) => Err(halt),
-        },
+        Held::Value(v) => Ok(v.share()?),
+        Held::Scalar(x) => Ok(Value::One(x.share()?)),
         Held::Formula(f) => {
             let scope = Scope {
                 bindings: Vec::new(ctx.alloc),
@@ -58,7 +53,7 @@ fn content_value<K: Known>(ctx: &Context<K>, held: &Held, trail: &mut Trail) -> 
 
 /// The value of a cell, which looks at its own address first.
 #[tactic(auto, using(gl_value::specs::Forms::trees), unfolding(gl_calculus::specs::Evaluation::cell_value))]
-fn cell_at<K: Known>(ctx: &Context<K>, a: Addr, trail: &mut Trail) -> Result<Value, Halt>
+fn cell_at<K: Known>(ctx: &Context<K>, a: Addr, trail: &mut Trail) -> Eval<Value>
     ensures walk { Walks (world_of ctx.now)
         (looked_cell (version_tree ctx.now.version) (frame_tree ctx.now.env.now)
         (own_content (content (sheet ctx.now.cells.now) a) (frame_tree ctx.now.env.now) a) a)
@@ -238,33 +233,31 @@ fn evaluate_copy<K: Known>(
 
 /// How the evaluation of a key ends.
 pub fn evaluate<K: Known>(
-    alloc: Global,
-    cells: &Cells,
-    w: &Oracle,
+    evaluator: &Evaluator,
     key: &Key,
     known: &K,
-    version: Version,
     trail: &mut Trail,
 ) -> Result<Ended, NoMemory>
     requires key { IsTrue (is_sound_key (key_tree key.now)) }
     requires known { IsSoundTable (K.outcomes known.now) }
     ensures walk { IfOk result (λ x.
-        walk (world (sheet cells.now) w.now (K.outcomes known.now))
-        (E.evaluation (version_tree version) (key_tree key.now)) (trail_tree trail.old)
-        ≡ (found_tree x.found, trail_tree trail.new)) }
+        walk (world (sheet evaluator.now.cells.now) evaluator.now.oracle.now (K.outcomes known.now))
+        (E.evaluation (version_tree evaluator.now.version) (key_tree key.now))
+        (trail_tree trail.old) ≡ (found_tree x.found, trail_tree trail.new)) }
     ensures ahead { IfOk result (λ x.
-        IsAheadOf (world (sheet cells.now) w.now (K.outcomes known.now))
-        (E.evaluation (version_tree version) (key_tree key.now)) x.ahead) }
+        IsAheadOf (world (sheet evaluator.now.cells.now) evaluator.now.oracle.now
+        (K.outcomes known.now))
+        (E.evaluation (version_tree evaluator.now.version) (key_tree key.now)) x.ahead) }
     ensures sound { IfOk result (λ x. IsSoundFound (key_tree key.now) (found_tree x.found)) }
 {
     match key {
         Key::Cell(env, a) => {
             let ctx = Context {
-                alloc,
-                cells,
-                w,
+                alloc: evaluator.alloc,
+                cells: evaluator.cells,
+                w: evaluator.oracle,
                 known,
-                version,
+                version: evaluator.version,
                 env,
             };
             evaluate_cell(&ctx, *a, trail)
@@ -272,11 +265,11 @@ pub fn evaluate<K: Known>(
         Key::Settle(s) => {
             let top = Env::Top;
             let ctx = Context {
-                alloc,
-                cells,
-                w,
+                alloc: evaluator.alloc,
+                cells: evaluator.cells,
+                w: evaluator.oracle,
                 known,
-                version,
+                version: evaluator.version,
                 env: &top,
             };
             evaluate_copy(&ctx, s, trail)

@@ -15,7 +15,7 @@ use crate::reading::at_address;
 use crate::scope::Scope;
 use crate::scoping::{bind, bound};
 use crate::spills::spill_of;
-use crate::trail::{Halt, Trail};
+use crate::trail::{Eval, Trail};
 use gl_ast::Formula;
 use gl_value::{Scalar, Value};
 
@@ -27,7 +27,7 @@ pub fn eval<K: Known>(
     scope: &Scope,
     f: &Formula,
     trail: &mut Trail,
-) -> Result<Value, Halt>
+) -> Eval<Value>
     ensures walk { Walks (world_of ctx.now)
         (E.eval (version_tree ctx.now.version) (frame_tree ctx.now.env.now)
         (bindings_of scope.now.bindings.items) (formula_tree f.now)) value_tree trail.old result

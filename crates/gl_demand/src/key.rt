@@ -1,7 +1,8 @@
 //! Keys: what is evaluated.
-ghost use Rattle.std.specs.Prelude.{◌≡◌, IfOk};
+ghost use Rattle.std.specs.Prelude.{◌≡◌};
 ghost use Rattle.gl_calculus.specs.Sound.{is_sound_key};
-ghost use Rattle.gl_demand.specs.View.{key_tree};
+ghost use Rattle.gl_demand.specs.{View.key_tree, Equal.key_equal};
+ghost use Rattle.std.proofs.Common.{ap, sym};
 
 use crate::outline::key_outline;
 use gl_plane::{Addr, NoMemory, Share};
@@ -27,9 +28,8 @@ impl Drop for Key {
 }
 
 impl Hash for Key {
-    ghost use Rattle.gl_demand.specs.{View.key_tree, Equal.key_equal, Outline.key_outline};
+    ghost use Rattle.gl_demand.specs.Outline.{key_outline};
     ghost use Rattle.std.specs.Hash as fed;
-    ghost use Rattle.std.proofs.Common.{ap};
 
     ghost hash_input = { λ k. fed.u64 (key_outline (key_tree k)) };
 
@@ -54,24 +54,14 @@ impl Key {
 }
 
 impl Share for Key {
-    ghost use Rattle.gl_demand.specs.{View.key_tree, Equal.key_equal};
-    ghost use Rattle.std.specs.Prelude.{◌≡◌};
-    ghost use Rattle.std.proofs.Common.{sym};
-
     ghost shares = { λ x y. key_tree y ≡ key_tree x };
 
     ghost alike = { λ x y h. (key_equal x y).1 (sym h) };
 
     fn share(&self) -> Result<Key, NoMemory> {
-        share_key(self)
-    }
-}
-
-fn share_key(key: &Key) -> Result<Key, NoMemory>
-    ensures { IfOk result (λ x. key_tree x ≡ key_tree key.now) }
-{
-    match key {
-        Key::Cell(e, a) => Ok(Key::Cell(e.share()?, *a)),
-        Key::Settle(s) => Ok(Key::Settle(s.clone()?)),
+        match self {
+            Key::Cell(e, a) => Ok(Key::Cell(e.share()?, *a)),
+            Key::Settle(s) => Ok(Key::Settle(s.clone()?)),
+        }
     }
 }

@@ -15,7 +15,7 @@ ghost use Rattle.gl_demand.specs.{Lacking.IsPassing, Lacking.IsNext};
 use crate::ahead::{Ahead, Reference};
 use crate::filling::{is_past, next_held};
 use crate::held::{Held, cover_in, held_at};
-use crate::own_reads::lacked_in_own;
+use crate::own_reads::{Lookup, lacked_in_own};
 use crate::reading::sound_home;
 use crate::{Key, Known, Outcome};
 use gl_cells::Cells;
@@ -284,6 +284,18 @@ pub fn next_lacked<K: Known>(
         Ahead::Nothing => Ok(None),
         Ahead::Area(x) => lacked_in_area(cells, w, x, from, known),
         Ahead::Round(x) => lacked_in_round(cells, x, from, known),
-        Ahead::Own(x) => lacked_in_own(cells, w, x, from, known),
+        Ahead::Own(x) => {
+            let env = &x.env;
+            lacked_in_own(
+                &Lookup {
+                    cells,
+                    w,
+                    env,
+                    known,
+                },
+                x.address,
+                from,
+            )
+        }
     }
 }

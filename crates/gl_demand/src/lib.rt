@@ -10,6 +10,7 @@ mod context;
 mod demand;
 mod elements;
 mod evaluating;
+mod evaluator;
 mod filling;
 mod formulas;
 mod held;
@@ -40,6 +41,7 @@ mod viewing;
 
 pub use ahead::{Ahead, Place, Reference};
 pub use blocks::{CopyBlocks, TopBlocks};
+pub use evaluator::Evaluator;
 pub use key::Key;
 pub use known::{Found, Known, Turn};
 pub use lacking::{Lacked, next_lacked};
@@ -49,7 +51,7 @@ pub use outcome::{Budget, Outcome};
 pub use outline::{level_word, oracle_word};
 pub use properness::proper;
 pub use shows::{shown, spilled};
-pub use stepping::step;
+pub use stepping::{in_order, step};
 pub use steps::{Silent, Steps, Watch};
 
 /// The most keys that one calculation, or one walk that explains an address, goes through.

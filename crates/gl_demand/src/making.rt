@@ -11,7 +11,7 @@ ghost use Rattle.gl_demand.specs.{Walk.World, Walks.Walks, declared.trail.Halt.H
 ghost use Rattle.gl_demand.specs.{declared.trail.Trail.Trail};
 
 use crate::context::Context;
-use crate::trail::Halt;
+use crate::trail::{Eval, Halt};
 use crate::{Budget, Known};
 use gl_ast::Formula;
 use gl_plane::{Addr, NoMemory, Range};
@@ -19,7 +19,7 @@ use gl_value::{Env, ErrKind, Made, Scalar, Value, sheet, update};
 
 /// What was made as a value. A sheet value above the limit of rank spends the evaluation.
 #[tactic(auto, using(gl_value::specs::Forms::trees))]
-fn made_value(made: Made) -> Result<Value, Halt>
+fn made_value(made: Made) -> Eval<Value>
     requires { IsTrue (is_sound_made (made_tree made)) }
     ensures walk { (w : World) (t : Trail)
         → Walks w (E.made (made_tree made)) value_tree t result t }
@@ -35,7 +35,7 @@ fn made_value(made: Made) -> Result<Value, Halt>
 
 /// The sheet value of a place as it is written, made in the frame of the evaluation.
 #[tactic(auto, using(gl_value::specs::Forms::trees))]
-pub fn sheet_of<K: Known>(ctx: &Context<K>, place: &Formula) -> Result<Value, Halt>
+pub fn sheet_of<K: Known>(ctx: &Context<K>, place: &Formula) -> Eval<Value>
     ensures walk { (w : World) (t : Trail)
         → Walks w
         (E.made (S.sheet (frame_tree ctx.now.env.now) (E.written_range (formula_tree place.now))))
@@ -50,7 +50,7 @@ pub fn sheet_of<K: Known>(ctx: &Context<K>, place: &Formula) -> Result<Value, Ha
 
 /// The sheet value with one value more. An error passes, and any other value is `#VALUE!`.
 #[tactic(auto, using(gl_value::specs::Forms::trees))]
-pub fn updated<K: Known>(ctx: &Context<K>, u: &Value, a: Addr, v: Value) -> Result<Value, Halt>
+pub fn updated<K: Known>(ctx: &Context<K>, u: &Value, a: Addr, v: Value) -> Eval<Value>
     requires first { IsTrue (is_sound_value (value_tree u.now)) }
     requires second { IsTrue (is_sound_value (value_tree v)) }
     ensures walk { (w : World) (t : Trail)
@@ -67,7 +67,7 @@ pub fn updated<K: Known>(ctx: &Context<K>, u: &Value, a: Addr, v: Value) -> Resu
 
 /// The same where the sheet value is expected in a scalar.
 #[tactic(auto, using(gl_value::specs::Forms::trees))]
-fn updated_scalar<K: Known>(ctx: &Context<K>, x: &Scalar, a: Addr, v: Value) -> Result<Value, Halt>
+fn updated_scalar<K: Known>(ctx: &Context<K>, x: &Scalar, a: Addr, v: Value) -> Eval<Value>
     requires first { IsTrue (is_sound_value (V.One (scalar_tree x.now))) }
     requires second { IsTrue (is_sound_value (value_tree v)) }
     ensures walk { (w : World) (t : Trail)
@@ -82,16 +82,15 @@ fn updated_scalar<K: Known>(ctx: &Context<K>, x: &Scalar, a: Addr, v: Value) -> 
             Err(NoMemory) => Err(Halt::NoMemory),
         },
         Scalar::Err(k) => Ok(Value::One(Scalar::Err(*k))),
-        Scalar::Blank => Ok(Value::One(Scalar::Err(ErrKind::Value))),
-        Scalar::Int(_) => Ok(Value::One(Scalar::Err(ErrKind::Value))),
-        Scalar::Bool(_) => Ok(Value::One(Scalar::Err(ErrKind::Value))),
-        Scalar::Text(_) => Ok(Value::One(Scalar::Err(ErrKind::Value))),
+        Scalar::Blank | Scalar::Int(_) | Scalar::Bool(_) | Scalar::Text(_) => {
+            Ok(Value::One(Scalar::Err(ErrKind::Value)))
+        }
     }
 }
 
 /// The sheet value of the frame; `#REF!` at the top.
 #[tactic(auto, using(gl_value::specs::Forms::trees))]
-pub fn this<K: Known>(ctx: &Context<K>) -> Result<Value, Halt>
+pub fn this<K: Known>(ctx: &Context<K>) -> Eval<Value>
     ensures value { IfOk result (λ v. value_tree v ≡ E.this (frame_tree ctx.now.env.now)) }
     ensures err { IfErr result (λ h. h ≡ Halt.NoMemory) }
     ensures sound { IfOk result (λ v. IsTrue (is_sound_value (value_tree v))) }

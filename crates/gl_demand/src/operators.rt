@@ -9,7 +9,7 @@ ghost use Rattle.gl_calculus.specs.Operators as O;
 ghost use Rattle.gl_value.specs.View.{scalar_tree, value_tree};
 ghost use Rattle.gl_demand.specs.declared.trail.Halt.{Halt};
 
-use crate::trail::Halt;
+use crate::trail::{Eval, Halt};
 use gl_ast::Op;
 use gl_lift::{lift1, lift2};
 use gl_plane::NoMemory;
@@ -20,7 +20,7 @@ use std::rc::RcStr;
 
 /// A text literal. One longer than `MAX_TEXT` bytes, which no well formed formula has, is refused.
 #[tactic(auto, using(gl_value::specs::Forms::trees))]
-pub fn text(t: &RcStr) -> Result<Value, Halt>
+pub fn text(t: &RcStr) -> Eval<Value>
     ensures value { IfOk result (λ v.
         value_tree v ≡ V.Value.One (V.Scalar.Text (rc_str_bytes t.now))) }
     ensures err { IfErr result (λ h. h ≡ Halt.NoMemory) }
@@ -33,7 +33,7 @@ pub fn text(t: &RcStr) -> Result<Value, Halt>
 }
 
 /// The value, if it is sound.
-fn sound_alone(v: Value) -> Result<Value, Halt>
+fn sound_alone(v: Value) -> Eval<Value>
     ensures value { IfOk result (λ x. value_tree x ≡ value_tree v) }
     ensures err { IfErr result (λ h. h ≡ Halt.NoMemory) }
     ensures sound { IfOk result (λ x. IsTrue (is_sound_value (value_tree x))) }
@@ -47,7 +47,7 @@ fn sound_alone(v: Value) -> Result<Value, Halt>
 
 /// The minus sign, element by element.
 #[tactic(auto, using(gl_value::specs::Forms::trees))]
-pub fn negated(alloc: Global, v: &Value) -> Result<Value, Halt>
+pub fn negated(alloc: Global, v: &Value) -> Eval<Value>
     requires { IsTrue (is_sound_value (value_tree v.now)) }
     ensures value { IfOk result (λ x. value_tree x ≡ lift1 O.negate (value_tree v.now)) }
     ensures err { IfErr result (λ h. h ≡ Halt.NoMemory) }
@@ -61,7 +61,7 @@ pub fn negated(alloc: Global, v: &Value) -> Result<Value, Halt>
 
 /// A comparison, element by element.
 #[tactic(auto, using(gl_value::specs::Forms::trees))]
-pub fn compared(alloc: Global, op: Op, u: &Value, v: &Value) -> Result<Value, Halt>
+pub fn compared(alloc: Global, op: Op, u: &Value, v: &Value) -> Eval<Value>
     requires first { IsTrue (is_sound_value (value_tree u.now)) }
     requires second { IsTrue (is_sound_value (value_tree v.now)) }
     ensures value { IfOk result (λ x.
@@ -98,7 +98,7 @@ fn operate(alloc: Global, op: Op, x: &Scalar, y: &Scalar) -> Result<Scalar, NoMe
 
 /// An operator of a chain, element by element.
 #[tactic(auto, using(gl_value::specs::Forms::trees))]
-pub fn operated(alloc: Global, op: Op, u: &Value, v: &Value) -> Result<Value, Halt>
+pub fn operated(alloc: Global, op: Op, u: &Value, v: &Value) -> Eval<Value>
     requires first { IsTrue (is_sound_value (value_tree u.now)) }
     requires second { IsTrue (is_sound_value (value_tree v.now)) }
     ensures value { IfOk result (λ x.

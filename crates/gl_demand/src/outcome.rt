@@ -1,7 +1,8 @@
 //! What keys come to.
-ghost use Rattle.std.specs.Prelude.{◌≡◌, IfOk};
+ghost use Rattle.std.specs.Prelude.{◌≡◌};
 ghost use Rattle.gl_calculus.specs.Sound.{is_sound_outcome};
-ghost use Rattle.gl_demand.specs.View.{outcome_tree};
+ghost use Rattle.gl_demand.specs.{View.outcome_tree, Equal.outcome_equal};
+ghost use Rattle.std.proofs.Common.{sym};
 
 use gl_plane::{NoMemory, Oracle, Share};
 use gl_value::Value;
@@ -47,25 +48,15 @@ impl Outcome {
 }
 
 impl Share for Outcome {
-    ghost use Rattle.gl_demand.specs.{View.outcome_tree, Equal.outcome_equal};
-    ghost use Rattle.std.specs.Prelude.{◌≡◌};
-    ghost use Rattle.std.proofs.Common.{sym};
-
     ghost shares = { λ x y. outcome_tree y ≡ outcome_tree x };
 
     ghost alike = { λ x y h. (outcome_equal x y).1 (sym h) };
 
     fn share(&self) -> Result<Outcome, NoMemory> {
-        share_outcome(self)
-    }
-}
-
-fn share_outcome(outcome: &Outcome) -> Result<Outcome, NoMemory>
-    ensures { IfOk result (λ x. outcome_tree x ≡ outcome_tree outcome.now) }
-{
-    match outcome {
-        Outcome::Value(v) => Ok(Outcome::Value(v.share()?)),
-        Outcome::Settled(w) => Ok(Outcome::Settled(w.clone()?)),
-        Outcome::Abort(b) => Ok(Outcome::Abort(*b)),
+        match self {
+            Outcome::Value(v) => Ok(Outcome::Value(v.share()?)),
+            Outcome::Settled(w) => Ok(Outcome::Settled(w.clone()?)),
+            Outcome::Abort(b) => Ok(Outcome::Abort(*b)),
+        }
     }
 }

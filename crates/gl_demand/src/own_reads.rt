@@ -1,6 +1,6 @@
 //! Which key is needed next by what a formula surely reads first, one reference after another.
 ghost use Rattle.std.specs.Prelude.{◌≡◌, ◌+◌, ◌≤◌, ◌<◌, ◌++◌, List, [], Ok, IsTrue, IfOk};
-ghost use Rattle.gl_calculus.specs.{Grid.Addr, Grid.addresses, Sound.is_sound_frame};
+ghost use Rattle.gl_calculus.specs.{Grid.Addr as PlainAddr, Grid.addresses, Sound.is_sound_frame};
 ghost use Rattle.gl_cells.specs.Sheet.{sheet};
 ghost use Rattle.gl_ast.specs.View.{fun_tree, formula_tree, argument_trees, operand_trees};
 ghost use Rattle.gl_value.specs.View.{frame_tree};
@@ -11,12 +11,11 @@ ghost use Rattle.gl_demand.specs.{Lacking.IsNext, Passing.Passes, Passing.own_ke
 ghost use Rattle.gl_demand.specs.{Walk.world, declared.own_reads.Way.Way};
 
 use crate::Known;
-use crate::ahead::Place;
 use crate::held::{Held, held_at};
 use crate::lacking::{Lacked, Passing, pass_address};
 use gl_ast::{Formula, Fun, Op};
 use gl_cells::Cells;
-use gl_plane::{NoMemory, Oracle, Range};
+use gl_plane::{Addr, NoMemory, Oracle, Range};
 use gl_value::Env;
 
 /// Where keys are looked for: the sheet, the oracle of the top, a frame, which is sound, and the
@@ -127,7 +126,7 @@ fn pass_behind<K: Known>(
     f: &Formula,
     way: &mut Way,
 ) -> Result<Passing, NoMemory>
-    ensures { (reads : List Addr → List Addr) (start : Way)
+    ensures { (reads : List PlainAddr → List PlainAddr) (start : Way)
         → Passes (world (sheet x.now.cells.now) x.now.w.now (K.outcomes x.now.known.now))
         (frame_tree x.now.env.now) reads start (Ok before) way.old
         → Passes (world (sheet x.now.cells.now) x.now.w.now (K.outcomes x.now.known.now))
@@ -258,31 +257,17 @@ pub fn lacked_in_formula<K: Known>(
 
 /// The first key without outcome of what the formula of an address reads first, from a place on.
 pub fn lacked_in_own<K: Known>(
-    cells: &Cells,
-    w: &Oracle,
-    x: &Place,
+    x: &Lookup<K>,
+    a: Addr,
     from: u32,
-    known: &K,
 ) -> Result<Option<Lacked>, NoMemory>
     ensures { IfOk result
-        (IsNext (K.outcomes known.now)
-        (keys_from (sheet cells.now) w.now (Own (frame_tree x.now.env) x.now.address)) from) }
+        (IsNext (K.outcomes x.now.known.now)
+        (keys_from (sheet x.now.cells.now) x.now.w.now (Own (frame_tree x.now.env.now) a)) from) }
 {
-    match held_at(cells, &x.env, x.address) {
+    match held_at(x.cells, x.env, a) {
         Some(held) => match held {
-            Held::Formula(f) => {
-                let env = &x.env;
-                lacked_in_formula(
-                    &Lookup {
-                        cells,
-                        w,
-                        env,
-                        known,
-                    },
-                    f,
-                    from,
-                )
-            }
+            Held::Formula(f) => lacked_in_formula(x, f, from),
             Held::Value(_) => Ok(None),
             Held::Scalar(_) => Ok(None),
         },

@@ -13,7 +13,7 @@ ghost use Rattle.gl_ahead.specs.Reading.{Area};
 
 use crate::context::Context;
 use crate::reading::deref;
-use crate::trail::{Halt, Trail};
+use crate::trail::{Eval, Halt, Trail};
 use crate::{Ahead, Known, Reference};
 use gl_plane::{NoMemory, Range, Share, Size};
 use gl_value::{Array, Env, Scalar, Value};
@@ -27,7 +27,7 @@ fn read_range<K: Known>(
     env: &Env,
     r: &Range,
     trail: &mut Trail,
-) -> Result<Vec<Scalar>, Halt>
+) -> Eval<Vec<Scalar>>
     requires frame { IsTrue (is_sound_frame (frame_tree env.now)) }
     ensures walk { EndsWalk (world_of ctx.now)
         (R.deref_all (frame_tree env.now) [] (facts (sheet ctx.now.cells.now) ctx.now.w.now r.now))
@@ -60,7 +60,7 @@ fn size_of(r: &Range) -> Option<Size>
 
 /// The array of these scalars, which are in row-major order.
 #[tactic(auto, using(gl_value::specs::Forms::trees))]
-fn array_of(alloc: Global, size: Size, items: Vec<Scalar>) -> Result<Value, Halt>
+fn array_of(alloc: Global, size: Size, items: Vec<Scalar>) -> Eval<Value>
     requires size { IsTrue (is_size size) }
     requires sound { IsTrue (are_sound (item_trees items.items)) }
     requires count { vec_len items ≡ size.rows * size.cols }
@@ -92,12 +92,7 @@ fn in_area(env: &Env, r: &Range, halt: Halt) -> Halt
 
 /// A range as a value. One of more than 10,000 addresses, which no well formed formula has, is
 /// refused.
-pub fn at_range<K: Known>(
-    ctx: &Context<K>,
-    env: &Env,
-    r: &Range,
-    trail: &mut Trail,
-) -> Result<Value, Halt>
+pub fn at_range<K: Known>(ctx: &Context<K>, env: &Env, r: &Range, trail: &mut Trail) -> Eval<Value>
     requires frame { IsTrue (is_sound_frame (frame_tree env.now)) }
     ensures walk { Walks (world_of ctx.now)
         (R.at_range (frame_tree env.now) r.now) value_tree trail.old result trail.new }

@@ -16,13 +16,13 @@ use crate::context::Context;
 use crate::demand::own;
 use crate::elements::{shown, spilled};
 use crate::held::{cover_in, home, status_in};
-use crate::trail::{Halt, Trail};
+use crate::trail::{Eval, Halt, Trail};
 use gl_plane::{Addr, NoMemory, Range};
 use gl_value::{Env, Scalar, Value};
 use indexmap::IndexSet;
 
 /// Looks at an address.
-pub fn look_at(a: Addr, trail: &mut Trail) -> Result<(), Halt>
+pub fn look_at(a: Addr, trail: &mut Trail) -> Eval<()>
     ensures ok { OnOk result (trail_tree trail.new ≡ looking (single a) (trail_tree trail.old)) }
     ensures err { IfErr result (λ h. h ≡ Halt.NoMemory) }
 {
@@ -33,7 +33,7 @@ pub fn look_at(a: Addr, trail: &mut Trail) -> Result<(), Halt>
 }
 
 /// Looks at a root, unless the reference has looked at it.
-fn look_once(seen: &mut IndexSet<Addr>, root: Addr, trail: &mut Trail) -> Result<(), Halt>
+fn look_once(seen: &mut IndexSet<Addr>, root: Addr, trail: &mut Trail) -> Eval<()>
     ensures walk { (w : World) (s : List Fact)
         → AreSeen w seen.old.keys s
         → Walks w (R.seen_or_looked root (find_fact s root)) (λ u. fact w.cells w.oracle root)
@@ -58,7 +58,7 @@ fn covered_by<K: Known>(
     cover: (Addr, u16, u16),
     seen: &mut IndexSet<Addr>,
     trail: &mut Trail,
-) -> Result<Scalar, Halt>
+) -> Eval<Scalar>
     requires frame { IsTrue (is_sound_frame (frame_tree env.now)) }
     ensures read { (s : List Fact)
         → AreSeen (world_of ctx.now)
@@ -85,7 +85,7 @@ fn covered<K: Known>(
     a: Addr,
     seen: &mut IndexSet<Addr>,
     trail: &mut Trail,
-) -> Result<Scalar, Halt>
+) -> Eval<Scalar>
     requires frame { IsTrue (is_sound_frame (frame_tree env.now)) }
     ensures read { (s : List Fact)
         → AreSeen (world_of ctx.now)
@@ -110,7 +110,7 @@ fn shown_by<K: Known>(
     own: &Option<Value>,
     seen: &mut IndexSet<Addr>,
     trail: &mut Trail,
-) -> Result<Scalar, Halt>
+) -> Eval<Scalar>
     requires frame { IsTrue (is_sound_frame (frame_tree env.now)) }
     requires own { IfSome own.now (λ x. IsTrue (is_sound_value (value_tree x))) }
     ensures read { (s : List Fact)
@@ -134,7 +134,7 @@ fn deref_home<K: Known>(
     a: Addr,
     seen: &mut IndexSet<Addr>,
     trail: &mut Trail,
-) -> Result<Scalar, Halt>
+) -> Eval<Scalar>
     requires frame { IsTrue (is_sound_frame (frame_tree env.now)) }
     ensures read { (s : List Fact)
         → AreSeen (world_of ctx.now)
@@ -157,7 +157,7 @@ pub fn deref<K: Known>(
     a: Addr,
     seen: &mut IndexSet<Addr>,
     trail: &mut Trail,
-) -> Result<Scalar, Halt>
+) -> Eval<Scalar>
     requires frame { IsTrue (is_sound_frame (frame_tree env.now)) }
     ensures read { (s : List Fact)
         → AreSeen (world_of ctx.now)
@@ -180,12 +180,7 @@ pub fn sound_home(env: &Env, a: Addr) -> &Env
 }
 
 /// The scalar at an address, in a reference of its own.
-fn deref_alone<K: Known>(
-    ctx: &Context<K>,
-    env: &Env,
-    a: Addr,
-    trail: &mut Trail,
-) -> Result<Scalar, Halt>
+fn deref_alone<K: Known>(ctx: &Context<K>, env: &Env, a: Addr, trail: &mut Trail) -> Eval<Scalar>
     requires frame { IsTrue (is_sound_frame (frame_tree env.now)) }
     ensures read { ReadsAlone (world_of ctx.now)
         (R.deref (frame_tree env.now) [] (fact (sheet ctx.now.cells.now) ctx.now.w.now a)) trail.old
@@ -198,12 +193,7 @@ fn deref_alone<K: Known>(
 
 /// An address as a value.
 #[tactic(auto, using(gl_value::specs::Forms::trees))]
-pub fn at_address<K: Known>(
-    ctx: &Context<K>,
-    env: &Env,
-    a: Addr,
-    trail: &mut Trail,
-) -> Result<Value, Halt>
+pub fn at_address<K: Known>(ctx: &Context<K>, env: &Env, a: Addr, trail: &mut Trail) -> Eval<Value>
     requires frame { IsTrue (is_sound_frame (frame_tree env.now)) }
     ensures walk { Walks (world_of ctx.now)
         (R.at_address (frame_tree env.now) a) value_tree trail.old result trail.new }

@@ -6,9 +6,8 @@ ghost use Rattle.gl_calculus.specs.Evaluation as E;
 ghost use Rattle.gl_value.specs.View.{value_tree};
 ghost use Rattle.gl_demand.specs.{Scope.bindings_of, declared.trail.Halt.Halt};
 
-use crate::elements::share_value;
 use crate::scope::Scope;
-use crate::trail::Halt;
+use crate::trail::{Eval, Halt};
 use gl_plane::{NoMemory, Share};
 use gl_value::{Scalar, Value};
 use std::alloc::Global;
@@ -23,7 +22,7 @@ fn same_name(x: &RcStr, y: &RcStr) -> bool
 
 /// The value of a variable; a blank where it is not bound, which no well formed formula has.
 #[tactic(auto, using(gl_value::specs::Forms::trees))]
-pub fn bound(scope: &Scope, name: &RcStr) -> Result<Value, Halt>
+pub fn bound(scope: &Scope, name: &RcStr) -> Eval<Value>
     ensures value { IfOk result (λ v.
         value_tree v ≡ E.bound (bindings_of scope.now.bindings.items) (rc_str_bytes name.now)) }
     ensures err { IfErr result (λ h. h ≡ Halt.NoMemory) }
@@ -31,7 +30,7 @@ pub fn bound(scope: &Scope, name: &RcStr) -> Result<Value, Halt>
 {
     for (x, v) in &scope.bindings {
         if same_name(x, name) {
-            return share_value(v);
+            return Ok(v.share()?);
         }
     }
     Ok(Value::One(Scalar::Blank))
@@ -87,7 +86,7 @@ fn extended(
 
 /// The variables with one more, which is the innermost.
 #[tactic(auto, using(crate::proofs::Bindings::sound_more))]
-pub fn bind(alloc: Global, scope: &Scope, name: &RcStr, value: Value) -> Result<Scope, Halt>
+pub fn bind(alloc: Global, scope: &Scope, name: &RcStr, value: Value) -> Eval<Scope>
     requires { IsTrue (is_sound_value (value_tree value)) }
     ensures value { IfOk result (λ s.
         bindings_of s.bindings.items

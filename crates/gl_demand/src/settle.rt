@@ -22,7 +22,7 @@ use crate::context::Context;
 use crate::demand::own;
 use crate::held::Held;
 use crate::places::{held_in, places};
-use crate::trail::{Halt, Trail};
+use crate::trail::{Eval, Halt, Trail};
 use crate::{Ahead, Budget, Known, Reference};
 use gl_cells::Cells;
 use gl_plane::{Addr, NoMemory, Oracle, Range, Sizes};
@@ -34,11 +34,7 @@ use std::rc::Rc;
 /// Settles a sheet value, which is sound: it looks at the region, and goes through the rounds from
 /// the empty oracle to the first that is its own next one. `Halt::Spent` where there is none within
 /// one round for each formula and each array override of the region, and eight more.
-pub fn settle<K: Known>(
-    ctx: &Context<K>,
-    s: &Rc<SheetVal>,
-    trail: &mut Trail,
-) -> Result<Oracle, Halt>
+pub fn settle<K: Known>(ctx: &Context<K>, s: &Rc<SheetVal>, trail: &mut Trail) -> Eval<Oracle>
     requires { IsTrue (is_sound_sheet (sheet_tree s.now.value)) }
     ensures { Walks (world_of ctx.now)
         (LookAt (region (sheet_tree s.now.value)) (λ xs.
@@ -52,11 +48,7 @@ pub fn settle<K: Known>(
 }
 
 /// The rounds, once the region is looked at.
-fn settle_region<K: Known>(
-    ctx: &Context<K>,
-    s: &Rc<SheetVal>,
-    trail: &mut Trail,
-) -> Result<Oracle, Halt>
+fn settle_region<K: Known>(ctx: &Context<K>, s: &Rc<SheetVal>, trail: &mut Trail) -> Eval<Oracle>
     requires { IsTrue (is_sound_sheet (sheet_tree s.now.value)) }
     ensures { Walks (world_of ctx.now)
         (all_rounds (world_of ctx.now)
@@ -74,7 +66,7 @@ fn settle_places<K: Known>(
     s: &Rc<SheetVal>,
     places: &[Addr],
     trail: &mut Trail,
-) -> Result<Oracle, Halt>
+) -> Eval<Oracle>
     requires sound { IsTrue (is_sound_sheet (sheet_tree s.now.value)) }
     requires all { places.now ≡ filled_places (sheet ctx.now.cells.now) (sheet_tree s.now.value) }
     requires few { length places.now ≤ grid_rows * grid_cols }
@@ -178,7 +170,7 @@ impl<K: Known> Round for CopyRound<'_, '_, K> {
         (world_of s.ctx.now)
         (sheet_tree s.copy.now.value) w) (λ zs. zs) c r d };
 
-    fn sizes(&mut self, w: &Oracle, trail: &mut Trail) -> Result<Sizes, Halt> {
+    fn sizes(&mut self, w: &Oracle, trail: &mut Trail) -> Eval<Sizes> {
         match frame(self.ctx.alloc, self.copy, w) {
             Ok(env) => match arrays_at(self.ctx, &env, self.places, trail) {
                 Ok(sizes) => Ok(sizes),
@@ -218,7 +210,7 @@ fn arrays_at<K: Known>(
     env: &Env,
     places: &[Addr],
     trail: &mut Trail,
-) -> Result<Sizes, Halt>
+) -> Eval<Sizes>
     requires frame { IsTrue (is_sound_frame (frame_tree env.now)) }
     requires ordered { AreInOrder places.now }
     ensures { EndsWalk (world_of ctx.now)
@@ -243,7 +235,7 @@ fn visit<K: Known>(
     a: Addr,
     sizes: &mut Sizes,
     trail: &mut Trail,
-) -> Result<(), Halt>
+) -> Eval<()>
     requires frame { IsTrue (is_sound_frame (frame_tree env.now)) }
     requires last { (z : PlainSize) → AreSizes (sizes.old ++ (a, z) ∷ []) }
     ensures walk { Visits (world_of ctx.now)
@@ -261,7 +253,7 @@ fn visit<K: Known>(
 
 /// Appends the size of a value, if it is an array.
 #[tactic(auto, using(gl_value::specs::Forms::trees))]
-fn add_array(sizes: &mut Sizes, a: Addr, v: Option<Value>) -> Result<(), Halt>
+fn add_array(sizes: &mut Sizes, a: Addr, v: Option<Value>) -> Eval<()>
     requires { (z : PlainSize) → AreSizes (sizes.old ++ (a, z) ∷ []) }
     ensures ok { OnOk result (sizes.new ≡ sizes.old ++ array_at a (option_map value_tree v)) }
     ensures err { IfErr result (λ h. h ≡ Halt.NoMemory) }

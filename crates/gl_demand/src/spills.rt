@@ -14,17 +14,12 @@ use crate::demand::own;
 use crate::elements::spilling;
 use crate::held::{held_at, status_in};
 use crate::reading::{look_at, sound_home};
-use crate::trail::{Halt, Trail};
+use crate::trail::{Eval, Trail};
 use gl_plane::{Addr, Permit};
 use gl_value::{Env, ErrKind, Scalar, Value};
 
 /// The array of a permitted root.
-fn permitted<K: Known>(
-    ctx: &Context<K>,
-    env: &Env,
-    a: Addr,
-    trail: &mut Trail,
-) -> Result<Value, Halt>
+fn permitted<K: Known>(ctx: &Context<K>, env: &Env, a: Addr, trail: &mut Trail) -> Eval<Value>
     requires frame { IsTrue (is_sound_frame (frame_tree env.now)) }
     ensures walk { (h : R.Held)
         → Walks (world_of ctx.now)
@@ -46,7 +41,7 @@ fn by_permit<K: Known>(
     a: Addr,
     permit: Permit,
     trail: &mut Trail,
-) -> Result<Value, Halt>
+) -> Eval<Value>
     requires frame { IsTrue (is_sound_frame (frame_tree env.now)) }
     ensures walk { (h : R.Held)
         → Walks (world_of ctx.now)
@@ -68,7 +63,7 @@ fn whole_by<K: Known>(
     a: Addr,
     permit: Option<Permit>,
     trail: &mut Trail,
-) -> Result<Value, Halt>
+) -> Eval<Value>
     requires frame { IsTrue (is_sound_frame (frame_tree env.now)) }
     ensures walk { (h : R.Held)
         → Walks (world_of ctx.now)
@@ -84,7 +79,7 @@ fn whole_by<K: Known>(
 
 /// The array that spills from an address of the frame's region.
 #[tactic(auto, using(gl_value::specs::Forms::trees))]
-fn whole<K: Known>(ctx: &Context<K>, env: &Env, a: Addr, trail: &mut Trail) -> Result<Value, Halt>
+fn whole<K: Known>(ctx: &Context<K>, env: &Env, a: Addr, trail: &mut Trail) -> Eval<Value>
     requires frame { IsTrue (is_sound_frame (frame_tree env.now)) }
     ensures walk { Walks (world_of ctx.now)
         (R.whole (frame_tree env.now) (fact (sheet ctx.now.cells.now) ctx.now.w.now a)
@@ -101,12 +96,7 @@ fn whole<K: Known>(ctx: &Context<K>, env: &Env, a: Addr, trail: &mut Trail) -> R
 
 /// The array that spills from an address: `#REF!` without content or permit, `#SPILL!` where it is
 /// refused.
-pub fn spill_of<K: Known>(
-    ctx: &Context<K>,
-    env: &Env,
-    a: Addr,
-    trail: &mut Trail,
-) -> Result<Value, Halt>
+pub fn spill_of<K: Known>(ctx: &Context<K>, env: &Env, a: Addr, trail: &mut Trail) -> Eval<Value>
     requires frame { IsTrue (is_sound_frame (frame_tree env.now)) }
     ensures walk { Walks (world_of ctx.now)
         (R.spill_of (frame_tree env.now) a) value_tree trail.old result trail.new }

@@ -9,11 +9,11 @@ ghost use Rattle.gl_ast.specs.View.{version_tree};
 ghost use Rattle.gl_cells.specs.Sheet.{sheet};
 ghost use Rattle.gl_demand.specs.Sound.{IsSoundTable, IsSoundFound, AreSoundKeys};
 ghost use Rattle.gl_demand.specs.{View.key_tree, View.found_tree, Reading.ahead_tree};
-ghost use Rattle.gl_demand.specs.{Steps.one_more};
+ghost use Rattle.gl_demand.specs.{Steps.one_more, Evaluators.program_of};
 
 use crate::evaluating::{Ended, evaluate};
 use crate::trail::Trail;
-use crate::{Key, Known, Steps, Turn, Watch};
+use crate::{Evaluator, Key, Known, Steps, Turn, Watch};
 use gl_ast::Version;
 use gl_cells::Cells;
 use gl_plane::{NoMemory, Oracle};
@@ -59,11 +59,48 @@ pub fn step<K: Known, L: Watch>(
     ensures sound_reads { IfOk result (λ t. AreSoundKeys (map key_tree t.reads.items)) }
     ensures counted { steps.new ≡ one_more steps.old }
 {
-    steps.count(key);
-    let mut trail = Trail::new(alloc);
-    match evaluate(alloc, cells, w, key, known, version, &mut trail) {
-        Ok(ended) => turn(alloc, ended, trail),
-        Err(NoMemory) => Err(NoMemory),
+    let evaluator = Evaluator {
+        alloc,
+        cells,
+        oracle: w,
+        version,
+    };
+    evaluator.step(key, known, steps)
+}
+
+impl Evaluator<'_> {
+    /// Evaluates a key for one level against the known outcomes: one step.
+    pub fn step<K, L>(&self, key: &Key, known: &K, steps: &mut Steps<L>) -> Result<Turn, NoMemory>
+    where
+        K: Known,
+        L: Watch,
+        requires sound { IsTrue (is_sound_key (key_tree key.now)) }
+        requires proper { IsProperKey (sheet self.now.cells.now) (key_tree key.now) }
+        requires known { IsSoundTable (K.outcomes known.now) }
+        ensures found { IfOk result (λ t.
+            found_tree t.found
+            ≡ found (K.outcomes known.now) (program_of self.now (key_tree key.now))) }
+        ensures reads { IfOk result (λ t.
+            map key_tree t.reads.items
+            ≡ distinct same_key
+            (asked (K.outcomes known.now) (program_of self.now (key_tree key.now)))) }
+        ensures looked { IfOk result (λ t.
+            t.looked.items
+            ≡ looked (K.outcomes known.now) (program_of self.now (key_tree key.now))) }
+        ensures ahead { IfOk result (λ t.
+            IsAhead is_value (program_of self.now (key_tree key.now)) (K.outcomes known.now)
+            (keys_from (sheet self.now.cells.now) self.now.oracle.now (ahead_tree t.ahead) 0)) }
+        ensures sound_found { IfOk result (λ t.
+            IsSoundFound (key_tree key.now) (found_tree t.found)) }
+        ensures sound_reads { IfOk result (λ t. AreSoundKeys (map key_tree t.reads.items)) }
+        ensures counted { steps.new ≡ one_more steps.old }
+    {
+        steps.count(key);
+        let mut trail = Trail::new(self.alloc);
+        match evaluate(self, key, known, &mut trail) {
+            Ok(ended) => turn(self.alloc, ended, trail),
+            Err(NoMemory) => Err(NoMemory),
+        }
     }
 }
 
@@ -88,7 +125,7 @@ fn turn(alloc: Global, ended: Ended, trail: Trail) -> Result<Turn, NoMemory>
 }
 
 /// The keys of a set in their order.
-fn in_order(alloc: Global, keys: IndexSet<Key>) -> Result<Vec<Key>, NoMemory>
+pub fn in_order(alloc: Global, keys: IndexSet<Key>) -> Result<Vec<Key>, NoMemory>
     ensures { IfOk result (λ v. v.items ≡ keys.keys) }
 {
     match keys.into_iter().collect(alloc) {

@@ -24,6 +24,9 @@ pub enum Halt {
     NoMemory,
 }
 
+/// What an evaluation comes to, or why it stops.
+pub type Eval<T> = Result<T, Halt>;
+
 impl From<NoMemory> for Halt {
     ghost use Rattle.std.specs.Prelude.{◌≡◌};
     ghost use Rattle.gl_demand.specs.declared.trail.Halt.{Halt};

@@ -15,7 +15,7 @@ use crate::context::Context;
 use crate::demand::demand;
 use crate::ranges::at_range;
 use crate::reading::at_address;
-use crate::trail::{Halt, Trail};
+use crate::trail::{Eval, Halt, Trail};
 use crate::{Key, Known, Outcome};
 use gl_ast::Formula;
 use gl_plane::Oracle;
@@ -31,7 +31,7 @@ pub fn at_written<K: Known>(
     env: &Env,
     f: &Formula,
     trail: &mut Trail,
-) -> Result<Value, Halt>
+) -> Eval<Value>
     requires frame { IsTrue (is_sound_frame (frame_tree env.now)) }
     ensures walk { Walks (world_of ctx.now)
         (E.at_written (frame_tree env.now) (formula_tree f.now)) value_tree trail.old result
@@ -46,7 +46,7 @@ pub fn at_written<K: Known>(
 }
 
 /// An oracle to be shared.
-fn shared(alloc: Global, oracle: Oracle) -> Result<Rc<Oracle>, Halt>
+fn shared(alloc: Global, oracle: Oracle) -> Eval<Rc<Oracle>>
     ensures value { IfOk result (λ o. o.value ≡ oracle) }
     ensures err { IfErr result (λ h. h ≡ Halt.NoMemory) }
 {
@@ -57,7 +57,7 @@ fn shared(alloc: Global, oracle: Oracle) -> Result<Rc<Oracle>, Halt>
 }
 
 /// The oracle that a settling comes to, which is never a value.
-fn oracle_in(alloc: Global, outcome: &Outcome, trail: &Trail) -> Result<Rc<Oracle>, Halt>
+fn oracle_in(alloc: Global, outcome: &Outcome, trail: &Trail) -> Eval<Rc<Oracle>>
     ensures { (w : World)
         → Walks w (settled_oracle (outcome_tree outcome.now)) (λ o. o.value) trail.now result
         trail.now }
@@ -73,7 +73,7 @@ fn oracle_in(alloc: Global, outcome: &Outcome, trail: &Trail) -> Result<Rc<Oracl
 }
 
 /// The key of a settling.
-fn settle_key(s: &Rc<SheetVal>) -> Result<Key, Halt>
+fn settle_key(s: &Rc<SheetVal>) -> Eval<Key>
     ensures value { IfOk result (λ k. key_tree k ≡ Settle (sheet_tree s.now.value)) }
     ensures err { IfErr result (λ h. h ≡ Halt.NoMemory) }
 {
@@ -84,11 +84,7 @@ fn settle_key(s: &Rc<SheetVal>) -> Result<Key, Halt>
 }
 
 /// The oracle to which a sheet value settles, which is demanded.
-fn settled<K: Known>(
-    ctx: &Context<K>,
-    s: &Rc<SheetVal>,
-    trail: &mut Trail,
-) -> Result<Rc<Oracle>, Halt>
+fn settled<K: Known>(ctx: &Context<K>, s: &Rc<SheetVal>, trail: &mut Trail) -> Eval<Rc<Oracle>>
     requires { IsTrue (is_sound_sheet (sheet_tree s.now.value)) }
     ensures { Walks (world_of ctx.now)
         (settling (sheet_tree s.now.value)) (λ o. o.value) trail.old result trail.new }
@@ -104,7 +100,7 @@ fn settled<K: Known>(
 
 /// The frame of a sheet value under an oracle.
 #[tactic(auto, using(gl_value::specs::Forms::trees))]
-fn frame(s: &Rc<SheetVal>, oracle: Rc<Oracle>) -> Result<Env, Halt>
+fn frame(s: &Rc<SheetVal>, oracle: Rc<Oracle>) -> Eval<Env>
     ensures value { IfOk result (λ e. frame_tree e ≡ In (sheet_tree s.now.value) oracle.value) }
     ensures err { IfErr result (λ h. h ≡ Halt.NoMemory) }
 {
@@ -121,7 +117,7 @@ fn read_under<K: Known>(
     oracle: Rc<Oracle>,
     f: &Formula,
     trail: &mut Trail,
-) -> Result<Value, Halt>
+) -> Eval<Value>
     requires { IsTrue (is_sound_sheet (sheet_tree s.now.value)) }
     ensures walk { Walks (world_of ctx.now)
         (E.at_written (In (sheet_tree s.now.value) oracle.value) (formula_tree f.now)) value_tree
@@ -140,7 +136,7 @@ fn read_in<K: Known>(
     s: &Rc<SheetVal>,
     f: &Formula,
     trail: &mut Trail,
-) -> Result<Value, Halt>
+) -> Eval<Value>
     requires { IsTrue (is_sound_sheet (sheet_tree s.now.value)) }
     ensures walk { Walks (world_of ctx.now)
         (read_in (formula_tree f.now) (sheet_tree s.now.value)) value_tree trail.old result
@@ -155,12 +151,7 @@ fn read_in<K: Known>(
 
 /// The same of a scalar that is to be a sheet value.
 #[tactic(auto, using(gl_value::specs::Forms::trees))]
-fn viewed_one<K: Known>(
-    ctx: &Context<K>,
-    x: &Scalar,
-    f: &Formula,
-    trail: &mut Trail,
-) -> Result<Value, Halt>
+fn viewed_one<K: Known>(ctx: &Context<K>, x: &Scalar, f: &Formula, trail: &mut Trail) -> Eval<Value>
     requires { IsTrue (is_sound_scalar (scalar_tree x.now)) }
     ensures walk { Walks (world_of ctx.now)
         (E.on_sheet (read_in (formula_tree f.now)) (V.Value.One (scalar_tree x.now))) value_tree
@@ -170,22 +161,16 @@ fn viewed_one<K: Known>(
     match x {
         Scalar::Sheet(s) => read_in(ctx, s, f, trail),
         Scalar::Err(k) => Ok(Value::One(Scalar::Err(*k))),
-        Scalar::Blank => Ok(Value::One(Scalar::Err(ErrKind::Value))),
-        Scalar::Int(_) => Ok(Value::One(Scalar::Err(ErrKind::Value))),
-        Scalar::Bool(_) => Ok(Value::One(Scalar::Err(ErrKind::Value))),
-        Scalar::Text(_) => Ok(Value::One(Scalar::Err(ErrKind::Value))),
+        Scalar::Blank | Scalar::Int(_) | Scalar::Bool(_) | Scalar::Text(_) => {
+            Ok(Value::One(Scalar::Err(ErrKind::Value)))
+        }
     }
 }
 
 /// The sheet value is settled, and the place read in it. An error passes, and any other value is
 /// `#VALUE!`.
 #[tactic(auto, using(gl_value::specs::Forms::trees))]
-pub fn viewed<K: Known>(
-    ctx: &Context<K>,
-    u: &Value,
-    f: &Formula,
-    trail: &mut Trail,
-) -> Result<Value, Halt>
+pub fn viewed<K: Known>(ctx: &Context<K>, u: &Value, f: &Formula, trail: &mut Trail) -> Eval<Value>
     requires sound { IsTrue (is_sound_value (value_tree u.now)) }
     ensures walk { Walks (world_of ctx.now)
         (E.on_sheet (read_in (formula_tree f.now)) (value_tree u.now)) value_tree trail.old result

@@ -10,11 +10,10 @@ ghost use Rattle.gl_cert.specs.{Notes.claims, View.cert_tree};
 
 use gl_cells::Cells;
 use gl_cert::{Cert, Notes, says};
-use gl_demand::{Budget, Key, Outcome};
+use gl_demand::{Budget, Evaluator, Key, Outcome, in_order};
 use gl_plane::{Addr, NoMemory, Oracle};
 use gl_value::Shown;
 use indexmap::IndexSet;
-use std::alloc::Global;
 
 /// The budget that a key spends, if that is its outcome.
 pub fn spent(notes: &Notes, key: &Key) -> Option<Budget>
@@ -55,37 +54,25 @@ fn said(
     }
 }
 
-/// The keys of a set in their order.
-fn listed(alloc: Global, keys: IndexSet<Key>) -> Result<Vec<Key>, NoMemory>
-    ensures { IfOk result (λ v. v.items ≡ keys.keys) }
-{
-    match keys.into_iter().collect(alloc) {
-        Ok(list) => Ok(list),
-        Err(_) => Err(NoMemory),
-    }
-}
-
 /// The certificate of a walk that has ended, where its notes and loops say what is shown.
 pub fn made(
-    alloc: Global,
-    cells: &Cells,
-    w: &Oracle,
+    evaluator: &Evaluator,
     a: Addr,
     notes: Notes,
     loops: IndexSet<Key>,
 ) -> Result<Cert, NoMemory>
-    requires said { says (sheet cells.now) w.now a (claims notes) (map key_tree loops.keys) ≡ None
-        → ⊥ }
+    requires said { says (sheet evaluator.now.cells.now) evaluator.now.oracle.now a (claims notes)
+        (map key_tree loops.keys) ≡ None → ⊥ }
     requires few_notes { length (claims notes) < 2 ^ 32 }
     requires few_loops { length loops.keys < 2 ^ 32 }
     ensures notes { IfOk result (λ c. (cert_tree c).notes ≡ claims notes) }
     ensures loops { IfOk result (λ c. (cert_tree c).loops ≡ map key_tree loops.keys) }
     ensures shown { IfOk result (λ c.
-        says (sheet cells.now) w.now a (claims notes) (map key_tree loops.keys)
-        ≡ Some (cert_tree c).shown) }
+        says (sheet evaluator.now.cells.now) evaluator.now.oracle.now a (claims notes)
+        (map key_tree loops.keys) ≡ Some (cert_tree c).shown) }
 {
-    let shown = said(cells, w, a, &notes, &loops)?;
-    let notes = notes.into_list(alloc)?;
-    let loops = listed(alloc, loops)?;
+    let shown = said(evaluator.cells, evaluator.oracle, a, &notes, &loops)?;
+    let notes = notes.into_list(evaluator.alloc)?;
+    let loops = in_order(evaluator.alloc, loops)?;
     Ok(Cert::new(notes, loops, shown))
 }

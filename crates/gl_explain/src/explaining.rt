@@ -18,37 +18,37 @@ use crate::walking::{Walked, walk};
 use gl_ast::Version;
 use gl_cells::Cells;
 use gl_cert::{Notes, key_at};
-use gl_demand::{Key, Steps, Watch};
+use gl_demand::{Evaluator, Key, Steps, Watch};
 use gl_plane::{Addr, NoMemory, Oracle};
 use indexmap::IndexSet;
 use std::alloc::Global;
 
 /// What is made of a walk from the key that decides, which has ended.
 fn ended(
-    alloc: Global,
-    cells: &Cells,
-    w: &Oracle,
+    evaluator: &Evaluator,
     a: Addr,
     root: &Key,
     notes: Notes,
     loops: IndexSet<Key>,
 ) -> Result<Explained, NoMemory>
-    requires root { key_at (sheet cells.now) w.now a ≡ Some (key_tree root.now) }
+    requires root { key_at (sheet evaluator.now.cells.now) evaluator.now.oracle.now a ≡ Some
+        (key_tree root.now) }
     requires sound { AreSoundKeys (map key_tree loops.keys) }
     requires ended { (version : F.Version)
         × (n : ℕ)
         × (m : ℕ)
-        × HasEnded version (sheet cells.now) w.now (key_tree root.now) n m (claims notes)
-        (map key_tree loops.keys) }
+        × HasEnded version (sheet evaluator.now.cells.now) evaluator.now.oracle.now
+        (key_tree root.now) n m (claims notes) (map key_tree loops.keys) }
     ensures { IfOk result (λ x.
         (version : F.Version) (n m : ℕ)
-        → HasEnded version (sheet cells.now) w.now (key_tree root.now) n m (claims notes)
-        (map key_tree loops.keys)
-        → IsExplained version (sheet cells.now) w.now a n m (explained_tree x)) }
+        → HasEnded version (sheet evaluator.now.cells.now) evaluator.now.oracle.now
+        (key_tree root.now) n m (claims notes) (map key_tree loops.keys)
+        → IsExplained version (sheet evaluator.now.cells.now) evaluator.now.oracle.now a n m
+        (explained_tree x)) }
 {
     match spent(&notes, root) {
         Some(b) => Ok(Explained::Aborts(b)),
-        None => match made(alloc, cells, w, a, notes, loops) {
+        None => match made(evaluator, a, notes, loops) {
             Ok(cert) => Ok(Explained::Cert(cert)),
             Err(NoMemory) => Err(NoMemory),
         },
@@ -57,35 +57,39 @@ fn ended(
 
 /// The explanation of an address that a key decides.
 fn decided<L: Watch>(
-    alloc: Global,
-    cells: &Cells,
-    w: &Oracle,
+    evaluator: &Evaluator,
     a: Addr,
     root: &Key,
-    version: Version,
     steps: &mut Steps<L>,
 ) -> Result<Explained, NoMemory>
-    requires { key_at (sheet cells.now) w.now a ≡ Some (key_tree root.now) }
+    requires { key_at (sheet evaluator.now.cells.now) evaluator.now.oracle.now a ≡ Some
+        (key_tree root.now) }
     ensures explained { IfOk result (λ x.
-        IsExplained (version_tree version) (sheet cells.now) w.now a steps.old steps.new
-        (explained_tree x)) }
+        IsExplained (version_tree evaluator.now.version) (sheet evaluator.now.cells.now)
+        evaluator.now.oracle.now a steps.old steps.new (explained_tree x)) }
     ensures later { steps.old ≤ steps.new }
 {
-    match walk(alloc, cells, w, root, version, steps) {
-        Ok(Walked::Ended(notes, loops)) => ended(alloc, cells, w, a, root, notes, loops),
+    match walk(evaluator, root, steps) {
+        Ok(Walked::Ended(notes, loops)) => ended(evaluator, a, root, notes, loops),
         Ok(Walked::Full) => Ok(Explained::Work),
         Err(NoMemory) => Err(NoMemory),
     }
 }
 
 /// The explanation of an address that no key decides.
-fn undecided(alloc: Global, cells: &Cells, w: &Oracle, a: Addr) -> Result<Explained, NoMemory>
-    requires { key_at (sheet cells.now) w.now a ≡ None }
+fn undecided(evaluator: &Evaluator, a: Addr) -> Result<Explained, NoMemory>
+    requires { key_at (sheet evaluator.now.cells.now) evaluator.now.oracle.now a ≡ None }
     ensures { IfOk result (λ x.
         (version : F.Version) (n : ℕ)
-        → IsExplained version (sheet cells.now) w.now a n n (explained_tree x)) }
+        → IsExplained version (sheet evaluator.now.cells.now) evaluator.now.oracle.now a n n
+        (explained_tree x)) }
 {
-    match made(alloc, cells, w, a, Notes::new(alloc), IndexSet::new(alloc)) {
+    match made(
+        evaluator,
+        a,
+        Notes::new(evaluator.alloc),
+        IndexSet::new(evaluator.alloc),
+    ) {
         Ok(cert) => Ok(Explained::Cert(cert)),
         Err(NoMemory) => Err(NoMemory),
     }
@@ -93,21 +97,18 @@ fn undecided(alloc: Global, cells: &Cells, w: &Oracle, a: Addr) -> Result<Explai
 
 /// The explanation of an address.
 fn explained<L: Watch>(
-    alloc: Global,
-    cells: &Cells,
-    w: &Oracle,
+    evaluator: &Evaluator,
     a: Addr,
-    version: Version,
     steps: &mut Steps<L>,
 ) -> Result<Explained, NoMemory>
     ensures explained { IfOk result (λ x.
-        IsExplained (version_tree version) (sheet cells.now) w.now a steps.old steps.new
-        (explained_tree x)) }
+        IsExplained (version_tree evaluator.now.version) (sheet evaluator.now.cells.now)
+        evaluator.now.oracle.now a steps.old steps.new (explained_tree x)) }
     ensures later { steps.old ≤ steps.new }
 {
-    match key_at(cells, w, a) {
-        Some(root) => decided(alloc, cells, w, a, &root, version, steps),
-        None => undecided(alloc, cells, w, a),
+    match key_at(evaluator.cells, evaluator.oracle, a) {
+        Some(root) => decided(evaluator, a, &root, steps),
+        None => undecided(evaluator, a),
     }
 }
 
@@ -143,5 +144,11 @@ pub fn certificate<L: Watch>(
 {
     // For its clause that the sheet is in order.
     let _formulas = cells.formulas();
-    explained(alloc, cells, w, a, version, steps)
+    let evaluator = Evaluator {
+        alloc,
+        cells,
+        oracle: w,
+        version,
+    };
+    explained(&evaluator, a, steps)
 }

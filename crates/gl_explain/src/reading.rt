@@ -1,22 +1,21 @@
 //! What the top of a stack comes to over the notes, by what it was reading or by an evaluation.
 ghost use Rattle.std.specs.Prelude.{◌≡◌, ◌≤◌, ◌+◌, IsTrue, IfOk};
 ghost use Rattle.gl_query.specs.Query.{Need, found};
-ghost use Rattle.gl_calculus.specs.{Evaluation.program, Key.same_key, Sound.is_sound_key};
+ghost use Rattle.gl_calculus.specs.{Key.same_key, Sound.is_sound_key};
 ghost use Rattle.gl_calculus.specs.{Sound.IsProperKey};
 ghost use Rattle.gl_explanation.specs.Walk.{noted};
 ghost use Rattle.gl_ast.specs.View.{version_tree};
 ghost use Rattle.gl_cells.specs.Sheet.{sheet};
-ghost use Rattle.gl_demand.specs.{Reading.ahead_tree, Sound.IsSoundFound, Steps.one_more};
+ghost use Rattle.gl_demand.specs.{Reading.ahead_tree, Sound.IsSoundFound, Evaluators.program_of};
 ghost use Rattle.gl_demand.specs.{View.key_tree, View.found_tree, Marks.mark_tree};
 ghost use Rattle.gl_cert.specs.Notes.{claims};
 ghost use Rattle.gl_explain.specs.Marks.{reached_tree, IsMark, IsMarked};
 
-use gl_ast::Version;
-use gl_cells::Cells;
 use gl_cert::Notes;
-use gl_demand::{Found, Key, Lacked, Mark, Outcome, Steps, Turn, Watch, next_lacked, step};
-use gl_plane::{NoMemory, Oracle};
-use std::alloc::Global;
+use gl_demand::{
+    Evaluator, Found, Key, Lacked, Mark, Outcome, Steps, Turn, Watch, next_lacked, step,
+};
+use gl_plane::NoMemory;
 
 /// What a key comes to over the notes: its outcome, or the first key that it demands without note,
 /// with a mark of where it reads on then.
@@ -52,58 +51,40 @@ fn by_turn(turn: Turn) -> Reached
     }
 }
 
-/// What an evaluation of a key comes to, which counts as one step.
-fn by_step<L: Watch>(
-    alloc: Global,
-    cells: &Cells,
-    w: &Oracle,
-    key: &Key,
-    notes: &Notes,
-    version: Version,
-    steps: &mut Steps<L>,
-) -> Result<Reached, NoMemory>
-    requires sound { IsTrue (is_sound_key (key_tree key.now)) }
-    requires proper { IsProperKey (sheet cells.now) (key_tree key.now) }
-    ensures found { IfOk result (λ x. reached_tree x ≡ found (noted same_key (claims notes.now))
-        (program (version_tree version) (sheet cells.now) w.now (key_tree key.now))) }
-    ensures mark { IfOk result (IsMarked (IsMark (version_tree version) (sheet cells.now) w.now
-        (claims notes.now) (key_tree key.now))) }
-    ensures sound { IfOk result (λ x. IsSoundFound (key_tree key.now) (reached_tree x)) }
-    ensures counted { steps.new ≡ one_more steps.old }
-{
-    match step(alloc, cells, w, key, notes, version, steps) {
-        Ok(turn) => Ok(by_turn(turn)),
-        Err(NoMemory) => Err(NoMemory),
-    }
-}
-
 /// What a key comes to over the notes: by what it was reading, without a step, or else by an
 /// evaluation.
 pub fn read_on<L: Watch>(
-    alloc: Global,
-    cells: &Cells,
-    w: &Oracle,
+    evaluator: &Evaluator,
     key: &Key,
-    mark: Mark,
     notes: &Notes,
-    version: Version,
+    mark: Mark,
     steps: &mut Steps<L>,
 ) -> Result<Reached, NoMemory>
     requires sound { IsTrue (is_sound_key (key_tree key.now)) }
-    requires proper { IsProperKey (sheet cells.now) (key_tree key.now) }
-    requires mark { IsMark (version_tree version) (sheet cells.now) w.now (claims notes.now)
-        (key_tree key.now) (mark_tree mark) }
+    requires proper { IsProperKey (sheet evaluator.now.cells.now) (key_tree key.now) }
+    requires mark { IsMark (version_tree evaluator.now.version) (sheet evaluator.now.cells.now)
+        evaluator.now.oracle.now (claims notes.now) (key_tree key.now) (mark_tree mark) }
     ensures found { IfOk result (λ x. reached_tree x ≡ found (noted same_key (claims notes.now))
-        (program (version_tree version) (sheet cells.now) w.now (key_tree key.now))) }
-    ensures mark { IfOk result (IsMarked (IsMark (version_tree version) (sheet cells.now) w.now
-        (claims notes.now) (key_tree key.now))) }
+        (program_of evaluator.now (key_tree key.now))) }
+    ensures mark { IfOk result (IsMarked (IsMark (version_tree evaluator.now.version)
+        (sheet evaluator.now.cells.now) evaluator.now.oracle.now (claims notes.now)
+        (key_tree key.now))) }
     ensures sound { IfOk result (λ x. IsSoundFound (key_tree key.now) (reached_tree x)) }
     ensures steps { steps.new ≤ steps.old + 1 }
     ensures later { steps.old ≤ steps.new }
 {
-    match next_lacked(cells, w, &mark.ahead, mark.place, notes) {
+    match next_lacked(
+        evaluator.cells,
+        evaluator.oracle,
+        &mark.ahead,
+        mark.place,
+        notes,
+    ) {
         Ok(Some(lacked)) => Ok(by_mark(mark, lacked)),
-        Ok(None) => by_step(alloc, cells, w, key, notes, version, steps),
+        Ok(None) => match evaluator.step(key, notes, steps) {
+            Ok(turn) => Ok(by_turn(turn)),
+            Err(NoMemory) => Err(NoMemory),
+        },
         Err(NoMemory) => Err(NoMemory),
     }
 }

@@ -15,13 +15,10 @@ ghost use Rattle.gl_explain.specs.Putting.{IsTop, IsTakenOff, IsPutOn};
 ghost use Rattle.gl_explain.specs.{Marks.AreMarks, declared.turning.Turned.TheVariants.On};
 
 use crate::reading::{Reached, read_on};
-use gl_ast::Version;
-use gl_cells::Cells;
 use gl_cert::{Notes, is_among};
-use gl_demand::{Key, MAX_DEMANDED, Mark, Outcome, Steps, Watch};
-use gl_plane::{NoMemory, Oracle};
+use gl_demand::{Evaluator, Key, MAX_DEMANDED, Mark, Outcome, Steps, Watch};
+use gl_plane::NoMemory;
 use indexmap::IndexSet;
-use std::alloc::Global;
 
 /// How a walk stands after a turn: it goes on; or it has ended, with an empty stack or in a circle;
 /// or one more key would be too many.
@@ -100,41 +97,41 @@ fn put_on(
 
 /// A turn on the top of the stack, which takes one step at most.
 pub fn turn<L: Watch>(
-    alloc: Global,
-    cells: &Cells,
-    w: &Oracle,
+    evaluator: &Evaluator,
     notes: &mut Notes,
     stack: &mut IndexSet<Key>,
     marks: &mut Vec<Mark>,
-    version: Version,
     steps: &mut Steps<L>,
 ) -> Result<Turned, NoMemory>
     requires walking { (root : K.Key)
         × (n : ℕ)
-        × IsWalking (version_tree version) (sheet cells.now) w.now root n steps.old
-        (claims notes.old) (map key_tree stack.old.keys) }
+        × IsWalking (version_tree evaluator.now.version) (sheet evaluator.now.cells.now)
+        evaluator.now.oracle.now root n steps.old (claims notes.old) (map key_tree stack.old.keys) }
     requires sound { AreSoundKeys (map key_tree stack.old.keys) }
-    requires marks { AreMarks (version_tree version) (sheet cells.now) w.now (claims notes.old)
+    requires marks { AreMarks (version_tree evaluator.now.version) (sheet evaluator.now.cells.now)
+        evaluator.now.oracle.now (claims notes.old)
         (map key_tree stack.old.keys) (mark_trees marks.old.items) }
     ensures turned { IfOk result (λ t.
         (root : K.Key) (n : ℕ)
-        → IsWalking (version_tree version) (sheet cells.now) w.now root n steps.old
-        (claims notes.old) (map key_tree stack.old.keys)
-        → IsTurned (version_tree version) (sheet cells.now) w.now root n steps.new
-        (claims notes.new) (map key_tree stack.new.keys) t) }
+        → IsWalking (version_tree evaluator.now.version) (sheet evaluator.now.cells.now)
+        evaluator.now.oracle.now root n steps.old (claims notes.old) (map key_tree stack.old.keys)
+        → IsTurned (version_tree evaluator.now.version) (sheet evaluator.now.cells.now)
+        evaluator.now.oracle.now
+        root n steps.new (claims notes.new) (map key_tree stack.new.keys) t) }
     ensures falls { IfOk result (λ t. t ≡ On → left (claims notes.new) (map key_tree stack.new.keys)
         < left (claims notes.old) (map key_tree stack.old.keys)) }
     ensures sound { IfOk result (λ _. AreSoundKeys (map key_tree stack.new.keys)) }
     ensures marks { IfOk result (λ t.
         t ≡ On
-        → AreMarks (version_tree version) (sheet cells.now) w.now (claims notes.new)
-        (map key_tree stack.new.keys) (mark_trees marks.new.items)) }
+        → AreMarks (version_tree evaluator.now.version) (sheet evaluator.now.cells.now)
+        evaluator.now.oracle.now
+        (claims notes.new) (map key_tree stack.new.keys) (mark_trees marks.new.items)) }
     ensures later { steps.old ≤ steps.new }
 {
     match top(stack) {
         Some(key) => {
             let mark = take_mark(marks);
-            match read_on(alloc, cells, w, key, mark, notes, version, steps) {
+            match read_on(evaluator, key, notes, mark, steps) {
                 Ok(Reached::Ready(outcome)) => take_off(notes, stack, outcome),
                 Ok(Reached::Need(key, mark)) => put_on(notes, stack, marks, key, mark),
                 Err(NoMemory) => Err(NoMemory),

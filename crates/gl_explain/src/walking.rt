@@ -1,5 +1,5 @@
 //! The walk from a key.
-ghost use Rattle.std.specs.Prelude.{◌≡◌, ◌≤◌, ℕ, [], ◌∷◌, map, true, IsTrue, IfOk};
+ghost use Rattle.std.specs.Prelude.{◌≡◌, ◌≤◌, [], ◌∷◌, map, true, IsTrue, IfOk};
 ghost use Rattle.gl_calculus.specs.Sound.{is_sound_key};
 ghost use Rattle.gl_explanation.specs.Certificate.{is_proper};
 ghost use Rattle.gl_ast.specs.View.{version_tree};
@@ -9,11 +9,9 @@ ghost use Rattle.gl_ahead.specs.Reading.{Nothing};
 ghost use Rattle.gl_explain.specs.Walked.{IsFound};
 
 use crate::turning::{Turned, turn};
-use gl_ast::Version;
-use gl_cells::Cells;
 use gl_cert::Notes;
-use gl_demand::{Key, Mark, Steps, Watch};
-use gl_plane::{NoMemory, Oracle, Share};
+use gl_demand::{Evaluator, Key, Mark, Steps, Watch};
+use gl_plane::{NoMemory, Share};
 use indexmap::IndexSet;
 use std::alloc::Global;
 
@@ -50,27 +48,22 @@ fn marks_of(alloc: Global) -> Result<Vec<Mark>, NoMemory>
 
 /// The walk from a key.
 pub fn walk<L: Watch>(
-    alloc: Global,
-    cells: &Cells,
-    w: &Oracle,
+    evaluator: &Evaluator,
     root: &Key,
-    version: Version,
     steps: &mut Steps<L>,
 ) -> Result<Walked, NoMemory>
     requires sound { IsTrue (is_sound_key (key_tree root.now)) }
-    requires proper { is_proper (sheet cells.now) (key_tree root.now) ≡ true }
+    requires proper { is_proper (sheet evaluator.now.cells.now) (key_tree root.now) ≡ true }
     ensures found { IfOk result (λ x.
-        IsFound (version_tree version) (sheet cells.now) w.now (key_tree root.now) steps.old
-        steps.new x) }
+        IsFound (version_tree evaluator.now.version) (sheet evaluator.now.cells.now)
+        evaluator.now.oracle.now (key_tree root.now) steps.old steps.new x) }
     ensures later { steps.old ≤ steps.new }
 {
-    let mut stack = stack_of(alloc, root)?;
-    let mut marks = marks_of(alloc)?;
-    let mut notes = Notes::new(alloc);
+    let mut stack = stack_of(evaluator.alloc, root)?;
+    let mut marks = marks_of(evaluator.alloc)?;
+    let mut notes = Notes::new(evaluator.alloc);
     'turns: loop {
-        match turn(
-            alloc, cells, w, &mut notes, &mut stack, &mut marks, version, steps,
-        ) {
+        match turn(evaluator, &mut notes, &mut stack, &mut marks, steps) {
             Ok(Turned::On) => {}
             Ok(Turned::Ended) => return Ok(Walked::Ended(notes, stack)),
             Ok(Turned::Full) => return Ok(Walked::Full),

@@ -1,13 +1,14 @@
 //! The replies to the items of a script.
-ghost use Rattle.std.specs.Prelude.{◌≡◌, ◌≤◌, None, IfOk, codes};
+ghost use Rattle.std.specs.Prelude.{◌≡◌, None, IfOk, codes};
 ghost use Rattle.gl_protocol.specs.Commands.{LineWord, TruncatedWord, error_line};
 ghost use Rattle.gl_protocol.specs.{Framing.Line, Header.payload_len, Output.is_line};
 ghost use Rattle.gl_ast.specs.View.{version_tree};
-ghost use Rattle.gl_order.specs.Rule.{PicksBelow, rule_of};
+ghost use Rattle.gl_order.specs.Rule.{PicksBelow};
 ghost use Rattle.gl_run.specs.Replies.{IsNoQuery, IsProperRequest, IsQueryOf};
 ghost use Rattle.gl_run.specs.Answering.{StaysOnErr, ActsOn, SpendsOn, ActsOnLines, SpendsOnLines};
 ghost use Rattle.gl_run.specs.Answering.{SpendsNothing};
 ghost use Rattle.gl_run.specs.{Kept.IsKept, Script.script_of};
+ghost use Rattle.gl_calc.specs.{Engine.rule_in};
 
 use crate::edits::{clear, set};
 use crate::exports::export;
@@ -20,8 +21,8 @@ use crate::refusals::refusal;
 use crate::script::Script;
 use crate::undoing::{redo, undo};
 use gl_ast::Version;
+use gl_calc::Engine;
 use gl_demand::{Steps, Watch};
-use gl_order::Order;
 use gl_plane::NoMemory;
 use gl_script::{Request, command};
 use std::alloc::Global;
@@ -35,16 +36,13 @@ pub fn is_version_line(line: &[u8]) -> bool
 
 /// Answers a line that no payload follows. The version line is refused here.
 pub fn answer_line<F: Fn(u8, u64, u64) -> u64, L: Watch>(
-    alloc: Global,
+    engine: &Engine<F>,
     script: &mut Script,
     version: Version,
-    order: &Order<F>,
-    kind: u8,
     steps: &mut Steps<L>,
     line: &[u8],
 ) -> Result<Vec<u8>, NoMemory>
-    requires rule { PicksBelow (F.pre (rule_of order.now)) (F.post (rule_of order.now)) }
-    requires kind { kind ≤ 2 }
+    requires rule { PicksBelow (F.pre (rule_in engine.now)) (F.post (rule_in engine.now)) }
     requires line { payload_len line.now ≡ None }
     requires kept { IsKept (script_of script.old) }
     ensures acts { ActsOn (version_tree version) (Line line.now) script.old result script.new }
@@ -53,24 +51,21 @@ pub fn answer_line<F: Fn(u8, u64, u64) -> u64, L: Watch>(
     ensures err { StaysOnErr script.old result script.new }
     ensures kept { IsKept (script_of script.new) }
 {
-    match command(alloc, line) {
-        Ok(request) => answer_request(alloc, script, version, order, kind, steps, request),
-        Err(fault) => refusal(alloc, &fault),
+    match command(engine.alloc, line) {
+        Ok(request) => answer_request(engine, script, version, steps, request),
+        Err(fault) => refusal(engine.alloc, &fault),
     }
 }
 
 /// Does what is asked. A header is no line of its own.
 fn answer_request<F: Fn(u8, u64, u64) -> u64, L: Watch>(
-    alloc: Global,
+    engine: &Engine<F>,
     script: &mut Script,
     version: Version,
-    order: &Order<F>,
-    kind: u8,
     steps: &mut Steps<L>,
     request: Request,
 ) -> Result<Vec<u8>, NoMemory>
-    requires rule { PicksBelow (F.pre (rule_of order.now)) (F.post (rule_of order.now)) }
-    requires kind { kind ≤ 2 }
+    requires rule { PicksBelow (F.pre (rule_in engine.now)) (F.post (rule_in engine.now)) }
     requires proper { IsProperRequest request }
     requires kept { IsKept (script_of script.old) }
     ensures acts { ActsOnLines (version_tree version) request script.old result script.new }
@@ -79,8 +74,8 @@ fn answer_request<F: Fn(u8, u64, u64) -> u64, L: Watch>(
     ensures err { StaysOnErr script.old result script.new }
 {
     match query_of(&request) {
-        Some(query) => answer_query(alloc, script, version, order, kind, steps, query),
-        None => answer_other(alloc, script, version, request),
+        Some(query) => answer_query(engine, query, script, version, steps),
+        None => answer_other(engine.alloc, script, version, request),
     }
 }
 

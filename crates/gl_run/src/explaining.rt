@@ -16,9 +16,8 @@ ghost use Rattle.gl_run.specs.Spends.{Explaining};
 use crate::certificates::explanation;
 use gl_ast::Version;
 use gl_calc::Calc;
-use gl_cells::Cells;
 use gl_cert::{Cert, check};
-use gl_demand::{Steps, Watch};
+use gl_demand::{Evaluator, Steps, Watch};
 use gl_explain::{Explained, certificate};
 use gl_plane::{Addr, NoMemory, Oracle};
 use std::alloc::Global;
@@ -42,26 +41,38 @@ pub(crate) fn explain<L: Watch>(
     let Some(w) = calc.oracle() else {
         unreachable!()
     };
-    explain_by(alloc, calc.cells(), w, a, version, steps)
+    let evaluator = Evaluator {
+        alloc,
+        cells: calc.cells(),
+        oracle: w,
+        version,
+    };
+    explain_by(&evaluator, a, steps)
 }
 
 /// Finds a certificate of what an address shows, and checks it. Where the calculation settled to the
 /// oracle, there is one.
 fn explain_by<L: Watch>(
-    alloc: Global,
-    cells: &Cells,
-    w: &Oracle,
+    evaluator: &Evaluator,
     a: Addr,
-    version: Version,
     steps: &mut Steps<L>,
 ) -> Result<Vec<u8>, NoMemory>
     requires { (rounds : ℕ)
-        × IsAnswer (version_tree version) (sheet cells.now) (A.Settled w.now rounds) }
-    ensures { IfOk result (λ reply. IsExplanation (version_tree version) (sheet cells.now) w.now a
-        steps.old steps.new reply.items) }
+        × IsAnswer (version_tree evaluator.now.version) (sheet evaluator.now.cells.now)
+        (A.Settled evaluator.now.oracle.now rounds) }
+    ensures { IfOk result (λ reply. IsExplanation (version_tree evaluator.now.version)
+        (sheet evaluator.now.cells.now) evaluator.now.oracle.now a steps.old steps.new reply.items)
+        }
 {
-    match certificate(alloc, cells, w, a, version, steps) {
-        Ok(Explained::Cert(cert)) => explain_checked(alloc, cells, w, a, &cert, version, steps),
+    match certificate(
+        evaluator.alloc,
+        evaluator.cells,
+        evaluator.oracle,
+        a,
+        evaluator.version,
+        steps,
+    ) {
+        Ok(Explained::Cert(cert)) => explain_checked(evaluator, &cert, a, steps),
         Ok(Explained::Work) => unreachable!(),
         Ok(Explained::Aborts(_)) => unreachable!(),
         Err(NoMemory) => Err(NoMemory),
@@ -70,12 +81,9 @@ fn explain_by<L: Watch>(
 
 /// Checks a certificate, and tells it with the verdict.
 fn explain_checked<L: Watch>(
-    alloc: Global,
-    cells: &Cells,
-    w: &Oracle,
-    a: Addr,
+    evaluator: &Evaluator,
     cert: &Cert,
-    version: Version,
+    a: Addr,
     steps: &mut Steps<L>,
 ) -> Result<Vec<u8>, NoMemory>
     requires keys { AreSoundKeys (map (λ n. n.0) (cert_tree cert.now).notes) }
@@ -83,14 +91,22 @@ fn explain_checked<L: Watch>(
     ensures reply { IfOk result (λ reply.
         reply.items
         ≡ explanation_text
-        (verdict (version_tree version) (sheet cells.now) w.now a (cert_tree cert.now))
-        (cert_tree cert.now)) }
+        (verdict (version_tree evaluator.now.version) (sheet evaluator.now.cells.now)
+        evaluator.now.oracle.now a (cert_tree cert.now)) (cert_tree cert.now)) }
     ensures later { steps.old ≤ steps.new }
     ensures steps { steps.new ≤ steps.old
         + length (cert_tree cert.now).notes + length (cert_tree cert.now).loops }
 {
-    match check(alloc, cells, w, a, cert, version, steps) {
-        Ok(verdict) => explanation(alloc, cert, verdict),
+    match check(
+        evaluator.alloc,
+        evaluator.cells,
+        evaluator.oracle,
+        a,
+        cert,
+        evaluator.version,
+        steps,
+    ) {
+        Ok(verdict) => explanation(evaluator.alloc, cert, verdict),
         Err(NoMemory) => Err(NoMemory),
     }
 }

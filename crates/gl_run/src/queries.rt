@@ -1,5 +1,5 @@
 //! The replies to what asks for the calculation.
-ghost use Rattle.std.specs.Prelude.{◌≡◌, ◌≤◌, ◌++◌, ℕ, IfOk, IsSome, codes};
+ghost use Rattle.std.specs.Prelude.{◌≡◌, ◌++◌, ℕ, IfOk, IsSome, codes};
 ghost use Rattle.std.specs.Fmt.{decimal};
 ghost use Rattle.gl_calculus.specs.Calculation.{Blocked};
 ghost use Rattle.gl_language.specs.Text as text;
@@ -7,9 +7,9 @@ ghost use Rattle.gl_protocol.specs.{Acts.Does, Commands.why_text, Tables.line};
 ghost use Rattle.gl_protocol.specs.Commands as C;
 ghost use Rattle.gl_ast.specs.View.{version_tree};
 ghost use Rattle.gl_grant.specs.Obstacle.{obstacle_tree};
-ghost use Rattle.gl_order.specs.Rule.{PicksBelow, rule_of};
+ghost use Rattle.gl_order.specs.Rule.{PicksBelow};
 ghost use Rattle.gl_value.specs.Made.{shown_tree};
-ghost use Rattle.gl_calc.specs.{Answers.spent_tree, Why.why_tree};
+ghost use Rattle.gl_calc.specs.{Answers.spent_tree, Why.why_tree, Engine.rule_in};
 ghost use Rattle.gl_csvin.specs.Import.{csv_records};
 ghost use Rattle.gl_run.specs.Replies.{FollowsBy, Holds, RepliesBy, query_tree};
 ghost use Rattle.gl_run.specs.{Script.known_of, Script.script_of, Spends.SpendsAsked};
@@ -19,10 +19,9 @@ use crate::lines::{address_line, text_line};
 use crate::script::Script;
 use crate::tables::{shown_at, view};
 use gl_ast::{Version, put};
-use gl_calc::{Answer, Calc, SpentKind, Why};
+use gl_calc::{Answer, Calc, Engine, SpentKind, Why};
 use gl_demand::{Steps, Watch};
 use gl_grant::Obstacle;
-use gl_order::Order;
 use gl_plane::{Addr, NoMemory, Range};
 use gl_value::Shown;
 use gl_views::{oracle_text, shown_text};
@@ -41,16 +40,13 @@ pub(crate) enum Query {
 
 /// Calculates the sheet, and answers what is asked, or which budget was spent.
 pub(crate) fn answer_query<F: Fn(u8, u64, u64) -> u64, L: Watch>(
-    alloc: Global,
+    engine: &Engine<F>,
+    query: Query,
     script: &mut Script,
     version: Version,
-    order: &Order<F>,
-    kind: u8,
     steps: &mut Steps<L>,
-    query: Query,
 ) -> Result<Vec<u8>, NoMemory>
-    requires rule { PicksBelow (F.pre (rule_of order.now)) (F.post (rule_of order.now)) }
-    requires kind { kind ≤ 2 }
+    requires rule { PicksBelow (F.pre (rule_in engine.now)) (F.post (rule_in engine.now)) }
     ensures does { IfOk result (λ reply.
         Does csv_records (version_tree version) (script_of script.old) (query_tree query)
         (script_of script.new) reply.items) }
@@ -58,11 +54,14 @@ pub(crate) fn answer_query<F: Fn(u8, u64, u64) -> u64, L: Watch>(
         (known_of script.old) (known_of script.new) steps.old steps.new) }
     ensures script { script_of script.new ≡ script_of script.old }
 {
-    match script.calc.refresh(alloc, order, kind, version, steps) {
+    match script
+        .calc
+        .refresh(engine.alloc, engine.order, engine.kind, version, steps)
+    {
         Ok(Answer::Settled { rounds }) => {
-            settled_reply(alloc, &script.calc, version, rounds, steps, query)
+            settled_reply(engine.alloc, &script.calc, version, rounds, steps, query)
         }
-        Ok(Answer::Spent(spent)) => spent_line(alloc, spent),
+        Ok(Answer::Spent(spent)) => spent_line(engine.alloc, spent),
         Err(NoMemory) => Err(NoMemory),
     }
 }

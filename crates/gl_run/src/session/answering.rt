@@ -1,7 +1,7 @@
 // The replies of a session, item by item.
-ghost use Rattle.std.specs.Prelude.{◌≡◌, ◌≢◌, ◌||◌, ◌≤◌, ℕ, false, None, IfOk, OnOk, IfSome, codes};
+ghost use Rattle.std.specs.Prelude.{◌≡◌, ◌≢◌, ◌||◌, ℕ, false, None, IfOk, OnOk, IfSome, codes};
 ghost use Rattle.std.specs.Option.{option_to_list};
-ghost use Rattle.gl_order.specs.Rule.{PicksBelow, rule_of};
+ghost use Rattle.gl_order.specs.Rule.{PicksBelow};
 ghost use Rattle.gl_ast.specs.View.{version_tree};
 ghost use Rattle.gl_script.specs.Framer.{told, stream_at};
 ghost use Rattle.gl_protocol.specs.Stream.{nothing, step, gained, after};
@@ -11,6 +11,7 @@ ghost use Rattle.gl_run.specs.State.{state_of, start, fresh};
 ghost use Rattle.gl_run.specs.Serving.{ended_item, byte_item, last_item, TellsQuit, Serves};
 ghost use Rattle.gl_run.specs.Answering.{ActsOnSome, SpendsOnSome, Leads};
 ghost use Rattle.gl_run.specs.{Script.known_of, Framed.IsFramed, Framed.HasHeader};
+ghost use Rattle.gl_calc.specs.{Engine.rule_in};
 
 use crate::answers::{answer_line, answer_long, answer_truncated, is_version_line};
 use crate::imports::answer_import;
@@ -18,8 +19,8 @@ use crate::script::new_script;
 use crate::session::{Session, Stop};
 use crate::write::write_all;
 use gl_ast::Version;
+use gl_calc::Engine;
 use gl_demand::{Steps, Watch};
-use gl_order::Order;
 use gl_plane::NoMemory;
 use gl_port::{Failed, Sink};
 use gl_script::{Ended, Framer, is_quit};
@@ -76,15 +77,12 @@ impl Session {
     // The reply to the item that ended, in a script of this version.
     fn answer_in<F: Fn(u8, u64, u64) -> u64, L: Watch>(
         &mut self,
-        alloc: Global,
+        engine: &Engine<F>,
         version: Version,
-        order: &Order<F>,
-        kind: u8,
         steps: &mut Steps<L>,
         ended: Ended,
     ) -> Result<Vec<u8>, NoMemory>
-        requires rule { PicksBelow (F.pre (rule_of order.now)) (F.post (rule_of order.now)) }
-        requires kind { kind ≤ 2 }
+        requires rule { PicksBelow (F.pre (rule_in engine.now)) (F.post (rule_in engine.now)) }
         requires framed { IfSome (told ended self.old.framer) IsFramed }
         ensures acts { ActsOnSome (version_tree version) (told ended self.old.framer)
             self.old.script result self.new.script }
@@ -95,38 +93,33 @@ impl Session {
         ensures refused { self.new.refused ≡ self.old.refused }
     {
         match ended {
-            Ended::Nothing => Ok(Vec::new(alloc)),
+            Ended::Nothing => Ok(Vec::new(engine.alloc)),
             Ended::Line => answer_line(
-                alloc,
+                engine,
                 &mut self.script,
                 version,
-                order,
-                kind,
                 steps,
                 self.framer.line(),
             ),
             Ended::Import => answer_import(
-                alloc,
+                engine.alloc,
                 &mut self.script,
                 self.framer.header(),
                 self.framer.payload(),
             ),
-            Ended::Long => answer_long(alloc),
-            Ended::Truncated => answer_truncated(alloc),
+            Ended::Long => answer_long(engine.alloc),
+            Ended::Truncated => answer_truncated(engine.alloc),
         }
     }
 
     // The reply to the first item, which gives the script its version.
     fn answer_first<F: Fn(u8, u64, u64) -> u64, L: Watch>(
         &mut self,
-        alloc: Global,
-        order: &Order<F>,
-        kind: u8,
+        engine: &Engine<F>,
         steps: &mut Steps<L>,
         ended: Ended,
     ) -> Result<Vec<u8>, NoMemory>
-        requires rule { PicksBelow (F.pre (rule_of order.now)) (F.post (rule_of order.now)) }
-        requires kind { kind ≤ 2 }
+        requires rule { PicksBelow (F.pre (rule_in engine.now)) (F.post (rule_in engine.now)) }
         requires framed { IfSome (told ended self.old.framer) IsFramed }
         ensures acts { Leads (told ended self.old.framer)
             (fresh (known_of self.old.script) steps.old) result (state_of self.new steps.new) }
@@ -135,23 +128,20 @@ impl Session {
     {
         if self.asks_version_two(ended) {
             self.version = Some(Version::Two);
-            return Ok(b"ok\n".to_vec(alloc)?);
+            return Ok(b"ok\n".to_vec(engine.alloc)?);
         }
         self.version = Some(Version::One);
-        self.answer_in(alloc, Version::One, order, kind, steps, ended)
+        self.answer_in(engine, Version::One, steps, ended)
     }
 
     // The reply to the item that ended.
     fn answer<F: Fn(u8, u64, u64) -> u64, L: Watch>(
         &mut self,
-        alloc: Global,
-        order: &Order<F>,
-        kind: u8,
+        engine: &Engine<F>,
         steps: &mut Steps<L>,
         ended: Ended,
     ) -> Result<Vec<u8>, NoMemory>
-        requires rule { PicksBelow (F.pre (rule_of order.now)) (F.post (rule_of order.now)) }
-        requires kind { kind ≤ 2 }
+        requires rule { PicksBelow (F.pre (rule_in engine.now)) (F.post (rule_in engine.now)) }
         requires framed { IfSome (told ended self.old.framer) IsFramed }
         ensures acts { Leads (told ended self.old.framer) (state_of self.old steps.old) result
             (state_of self.new steps.new) }
@@ -159,8 +149,8 @@ impl Session {
         ensures refused { self.new.refused ≡ self.old.refused }
     {
         match self.version {
-            Some(version) => self.answer_in(alloc, version, order, kind, steps, ended),
-            None => self.answer_first(alloc, order, kind, steps, ended),
+            Some(version) => self.answer_in(engine, version, steps, ended),
+            None => self.answer_first(engine, steps, ended),
         }
     }
 
@@ -177,15 +167,12 @@ impl Session {
     // Answers an item, and writes the reply. Tells whether it is `quit`.
     fn emit_item<F: Fn(u8, u64, u64) -> u64, L: Watch, K: Sink>(
         &mut self,
-        alloc: Global,
-        order: &Order<F>,
-        kind: u8,
+        engine: &Engine<F>,
         steps: &mut Steps<L>,
         ended: Ended,
         sink: &mut K,
     ) -> Result<bool, Stop>
-        requires rule { PicksBelow (F.pre (rule_of order.now)) (F.post (rule_of order.now)) }
-        requires kind { kind ≤ 2 }
+        requires rule { PicksBelow (F.pre (rule_in engine.now)) (F.post (rule_in engine.now)) }
         requires some { ended ≢ Ended.Nothing }
         requires framed { IfSome (told ended self.old.framer) IsFramed }
         ensures serves { Serves K.taken K.takes K.is_exact K.faults sink.old sink.new result
@@ -194,7 +181,7 @@ impl Session {
         ensures framer { self.new.framer ≡ self.old.framer }
     {
         let quits = self.quits(ended);
-        let reply = self.answer(alloc, order, kind, steps, ended)?;
+        let reply = self.answer(engine, steps, ended)?;
         self.refused = either(self.refused, is_refusal(&reply));
         match write_all(sink, &reply) {
             Ok(()) => Ok(quits),
@@ -205,15 +192,12 @@ impl Session {
     // The same, where an item ended.
     fn emit<F: Fn(u8, u64, u64) -> u64, L: Watch, K: Sink>(
         &mut self,
-        alloc: Global,
-        order: &Order<F>,
-        kind: u8,
+        engine: &Engine<F>,
         steps: &mut Steps<L>,
         ended: Ended,
         sink: &mut K,
     ) -> Result<bool, Stop>
-        requires rule { PicksBelow (F.pre (rule_of order.now)) (F.post (rule_of order.now)) }
-        requires kind { kind ≤ 2 }
+        requires rule { PicksBelow (F.pre (rule_in engine.now)) (F.post (rule_in engine.now)) }
         requires framed { IfSome (told ended self.old.framer) IsFramed }
         ensures serves { Serves K.taken K.takes K.is_exact K.faults sink.old sink.new result
             self.old steps.old self.new steps.new (ended_item ended self.old.framer) }
@@ -222,22 +206,19 @@ impl Session {
     {
         match ended {
             Ended::Nothing => Ok(false),
-            item => self.emit_item(alloc, order, kind, steps, item, sink),
+            item => self.emit_item(engine, steps, item, sink),
         }
     }
 
     // Takes the next byte. Tells whether a `quit` ended with it.
     fn take_byte<F: Fn(u8, u64, u64) -> u64, L: Watch, K: Sink>(
         &mut self,
-        alloc: Global,
-        order: &Order<F>,
-        kind: u8,
+        engine: &Engine<F>,
         steps: &mut Steps<L>,
         b: u8,
         sink: &mut K,
     ) -> Result<bool, Stop>
-        requires rule { PicksBelow (F.pre (rule_of order.now)) (F.post (rule_of order.now)) }
-        requires kind { kind ≤ 2 }
+        requires rule { PicksBelow (F.pre (rule_in engine.now)) (F.post (rule_in engine.now)) }
         requires header { HasHeader (stream_at self.old.framer) }
         ensures serves { Serves K.taken K.takes K.is_exact K.faults sink.old sink.new result
             self.old steps.old self.new steps.new (byte_item self.old.framer b) }
@@ -246,22 +227,19 @@ impl Session {
             (stream_at self.new.framer ≡ (step (stream_at self.old.framer) b).0) }
     {
         let ended = self.framer.push(b)?;
-        self.emit(alloc, order, kind, steps, ended, sink)
+        self.emit(engine, steps, ended, sink)
     }
 
     /// Takes the next bytes, up to a `quit`, and writes the replies to the items that end in them.
     /// Tells whether a `quit` did. After an `Err` it is of no further use.
     pub fn take<F: Fn(u8, u64, u64) -> u64, L: Watch, K: Sink>(
         &mut self,
-        alloc: Global,
-        order: &Order<F>,
-        kind: u8,
+        engine: &Engine<F>,
         steps: &mut Steps<L>,
         chunk: &[u8],
         sink: &mut K,
     ) -> Result<bool, Stop>
-        requires rule { PicksBelow (F.pre (rule_of order.now)) (F.post (rule_of order.now)) }
-        requires kind { kind ≤ 2 }
+        requires rule { PicksBelow (F.pre (rule_in engine.now)) (F.post (rule_in engine.now)) }
         requires header { HasHeader (stream_at self.old.framer) }
         ensures serves { Serves K.taken K.takes K.is_exact K.faults sink.old sink.new result
             self.old steps.old self.new steps.new
@@ -271,7 +249,7 @@ impl Session {
             → stream_at self.new.framer ≡ after (stream_at self.old.framer) chunk.now) }
     {
         for b in chunk {
-            match self.take_byte(alloc, order, kind, steps, *b, sink) {
+            match self.take_byte(engine, steps, *b, sink) {
                 Ok(false) => {}
                 Ok(true) => return Ok(true),
                 Err(stop) => return Err(stop),
@@ -284,20 +262,17 @@ impl Session {
     /// further use.
     pub fn finish<F: Fn(u8, u64, u64) -> u64, L: Watch, K: Sink>(
         &mut self,
-        alloc: Global,
-        order: &Order<F>,
-        kind: u8,
+        engine: &Engine<F>,
         steps: &mut Steps<L>,
         sink: &mut K,
     ) -> Result<(), Stop>
-        requires rule { PicksBelow (F.pre (rule_of order.now)) (F.post (rule_of order.now)) }
-        requires kind { kind ≤ 2 }
+        requires rule { PicksBelow (F.pre (rule_in engine.now)) (F.post (rule_in engine.now)) }
         requires header { HasHeader (stream_at self.old.framer) }
         ensures serves { Serves K.taken K.takes K.is_exact K.faults sink.old sink.new result
             self.old steps.old self.new steps.new (last_item self.old.framer) }
     {
         let ended = self.framer.finish()?;
-        self.emit(alloc, order, kind, steps, ended, sink)?;
+        self.emit(engine, steps, ended, sink)?;
         Ok(())
     }
 }

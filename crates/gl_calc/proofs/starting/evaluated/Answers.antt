@@ -21,25 +21,25 @@ pub resume-requires-clause-few : goal.resume-requires-clause-few
 resume-requires-clause-few g c = let l = ap length c.requires.all in omega (arith, l, c.requires.few)
 
 pub resume-requires-clause-apart : goal.resume-requires-clause-apart
-resume-requires-clause-apart g c = let S = sheet c.args.cells.now in subst (λ ps. AreDistinct (map (Cell Top) ps)) (sym c.requires.all) (keys_distinct (formula_addresses S) (formulas_in_order S c.requires.ordered))
+resume-requires-clause-apart g c = let S = sheet c.args.evaluator.now.cells.now in subst (λ ps. AreDistinct (map (Cell Top) ps)) (sym c.requires.all) (keys_distinct (formula_addresses S) (formulas_in_order S c.requires.ordered))
 
 pub resume-requires-clause-proper : goal.resume-requires-clause-proper
-resume-requires-clause-proper g c = λ k m. keys_proper (sheet c.args.cells.now) c.requires.ordered k (subst (λ ps. Member k (map (Cell Top) ps)) c.requires.all m)
+resume-requires-clause-proper g c = λ k m. keys_proper (sheet c.args.evaluator.now.cells.now) c.requires.ordered k (subst (λ ps. Member k (map (Cell Top) ps)) c.requires.all m)
 
 pub run-requires-clause-started : goal.run-requires-clause-started
 run-requires-clause-started g c = record { seeds = c.in-Ok.ensures.seeds ∙ ap (map (Cell Top)) c.requires.all; ordered = c.in-Ok.ensures.ordered; for_it = c.in-Ok.ensures.for_it }
 
 pub returns-in-Ok-clause-steps : goal.returns-in-Ok-clause-steps
 returns-in-Ok-clause-steps g c =
-    subst (λ ns. IfOk c.run.result (λ q. (b : Table × List Addr) (i : ℕ) → AreKept b c.args.w.now ns → Finishes (version_tree c.args.version) (sheet c.args.cells.now) b i c.args.w.now c.args.steps.now c.run.new.steps)) c.in-Ok.ensures.notes c.run.ensures.steps
+    subst (λ ns. IfOk c.run.result (λ q. (b : Table × List Addr) (i : ℕ) → AreKept b c.args.evaluator.now.oracle.now ns → Finishes (version_tree c.args.evaluator.now.version) (sheet c.args.evaluator.now.cells.now) b i c.args.evaluator.now.oracle.now c.args.steps.now c.run.new.steps)) c.in-Ok.ensures.notes c.run.ensures.steps
 
 pub returns-in-Ok-clause-stops : goal.returns-in-Ok-clause-stops
 returns-in-Ok-clause-stops g c =
-    subst (λ ns. IfErr c.run.result (λ e. (b : Table × List Addr) → AreKept b c.args.w.now ns → Stops (version_tree c.args.version) (sheet c.args.cells.now) c.args.w.now b e c.args.steps.now c.run.new.steps)) c.in-Ok.ensures.notes c.run.ensures.stops
+    subst (λ ns. IfErr c.run.result (λ e. (b : Table × List Addr) → AreKept b c.args.evaluator.now.oracle.now ns → Stops (version_tree c.args.evaluator.now.version) (sheet c.args.evaluator.now.cells.now) c.args.evaluator.now.oracle.now b e c.args.steps.now c.run.new.steps)) c.in-Ok.ensures.notes c.run.ensures.stops
 
 pub returns-in-Err-Work-clause-stops : goal.returns-in-Err-Work-clause-stops
 returns-in-Err-Work-clause-stops g c = λ b k.
-    let V = version_tree c.args.version in
-    let S = sheet c.args.cells.now in
-    let w = c.args.w.now in
+    let V = version_tree c.args.evaluator.now.version in
+    let S = sheet c.args.evaluator.now.cells.now in
+    let w = c.args.evaluator.now.oracle.now in
     (subst (λ ps. MoreThan max_demanded (Demanded (program V S w) (map (Cell Top) ps))) c.requires.all (c.in-Err-Work.ensures.work c.in-Err-Work.field-0-is), none_taken V S w b c.args.steps.now)

@@ -5,9 +5,9 @@ use Rattle.gl_calc.proofs.starting.run.Goals as goal
 
 pub returns-in-Ok-clause-evaluated : goal.returns-in-Ok-clause-evaluated
 returns-in-Ok-clause-evaluated g c =
-    let V = version_tree c.args.version in
-    let S = sheet c.args.cells.now in
-    let w = c.args.w.now in
+    let V = version_tree c.args.evaluator.now.version in
+    let S = sheet c.args.evaluator.now.cells.now in
+    let w = c.args.evaluator.now.oracle.now in
     let core = c.args.core in
     let h = c.requires.started in
     let n = c.args.steps.now in
@@ -19,7 +19,7 @@ returns-in-Ok-clause-evaluated g c =
     }
 
 pub returns-in-Ok-clause-steps : goal.returns-in-Ok-clause-steps
-returns-in-Ok-clause-steps g c = finishes (version_tree c.args.version) (sheet c.args.cells.now) c.args.w.now c.args.core c.requires.started c.args.steps.now c.run_all.new.steps c.in-Ok.quiet c.in-Ok.ensures.quiet c.in-Ok.ensures.stays c.in-Ok.ensures.most c.in-Ok.ensures.least
+returns-in-Ok-clause-steps g c = finishes (version_tree c.args.evaluator.now.version) (sheet c.args.evaluator.now.cells.now) c.args.evaluator.now.oracle.now c.args.core c.requires.started c.args.steps.now c.run_all.new.steps c.in-Ok.quiet c.in-Ok.ensures.quiet c.in-Ok.ensures.stays c.in-Ok.ensures.most c.in-Ok.ensures.least
 
 pub returns-in-Err-Work-clause-stops : goal.returns-in-Err-Work-clause-stops
-returns-in-Err-Work-clause-stops g c = stops_work (version_tree c.args.version) (sheet c.args.cells.now) c.args.w.now c.args.core c.requires.started c.args.steps.now c.run_all.new.steps (c.in-Err-Work.ensures.work c.in-Err-Work.field-0-is) (c.in-Err-Work.ensures.most_work c.in-Err-Work.field-0-is)
+returns-in-Err-Work-clause-stops g c = stops_work (version_tree c.args.evaluator.now.version) (sheet c.args.evaluator.now.cells.now) c.args.evaluator.now.oracle.now c.args.core c.requires.started c.args.steps.now c.run_all.new.steps (c.in-Err-Work.ensures.work c.in-Err-Work.field-0-is) (c.in-Err-Work.ensures.most_work c.in-Err-Work.field-0-is)

@@ -1,19 +1,28 @@
-use Rattle.std.proofs.Common.{◌≡◌, sym, ◌∙◌}
+use Rattle.std.proofs.Common.{◌≡◌, [], None, ap, sym, ◌∙◌}
 use Rattle.std.proofs.lemmas.Result.{IfOk-weaker}
 use Rattle.gl_calculus.specs.Calculation.{IsShown}
+use Rattle.gl_calculus.specs.Evaluation.{program}
+use Rattle.gl_calculus.specs.Key.{same_key}
+use Rattle.gl_calculus.specs.SameOutcome.{same_outcome}
 use Rattle.gl_explanation.specs.Certificate as E
-use Rattle.gl_explanation.specs.Certificate.{verdict}
+use Rattle.gl_explanation.specs.Certificate.{is_proper, judged, says_so, says}
+use Rattle.gl_explanation.specs.Walk.{first_free, first_stray}
 use Rattle.gl_explanation.proofs.Explaining.{accepted_shows}
 use Rattle.gl_ast.specs.View.{version_tree}
 use Rattle.gl_cells.specs.Sheet.{sheet}
+use Rattle.gl_cert.specs.Claims.{claim_trees}
 use Rattle.gl_cert.specs.View.{cert_tree, verdict_tree}
 use Rattle.gl_cert.proofs.checking.check.Goals as goal
 
-pub returns-clause-shows : goal.returns-clause-shows
-returns-clause-shows g c =
+pub returns-in-Ok-None-clause-shows : goal.returns-in-Ok-None-clause-shows
+returns-in-Ok-None-clause-shows g c =
     let v = version_tree c.args.version in
     let S = sheet c.args.cells.now in
     let w = c.args.w.now in
     let a = c.args.a in
     let t = cert_tree c.args.c.now in
-    IfOk-weaker c.verdict_on.result (λ x. verdict_tree x ≡ verdict v S w a t) (λ x. verdict_tree x ≡ E.Accepted → IsShown v S w a t.shown) (λ x e h. accepted_shows v S w a t (sym e ∙ h)) c.verdict_on.ensures.verdict
+    let free = first_free same_key same_outcome (is_proper S) (program v S w) t.notes t.loops t.loops in
+    let said = says_so t.shown (says S w a t.notes t.loops) in
+    let none = sym c.in-Ok-None.field-0-is ∙ c.in-Ok-None.ensures.stray ∙ ap (λ ns. first_stray same_key same_outcome (is_proper S) (program v S w) [] (claim_trees ns)) c.deref.ensures.value in
+    IfOk-weaker c.check_loops.result (λ x. verdict_tree x ≡ judged None free said) (λ x. verdict_tree x ≡ E.Accepted → IsShown v S w a t.shown)
+    (λ x e h. accepted_shows v S w a t (sym (e ∙ ap (λ o. judged o free said) none) ∙ h)) c.check_loops.ensures.verdict

@@ -16,9 +16,9 @@ use Rattle.gl_cert.proofs.checking.check_loops.Goals as goal
 
 pub returns-in-Ok-None-clause-verdict : goal.returns-in-Ok-None-clause-verdict
 returns-in-Ok-None-clause-verdict g c =
-    let v = version_tree c.args.version in
-    let S = sheet c.args.cells.now in
-    let w = c.args.w.now in
+    let v = version_tree c.args.evaluator.now.version in
+    let S = sheet c.args.evaluator.now.cells.now in
+    let w = c.args.evaluator.now.oracle.now in
     let a = c.args.a in
     let t = cert_tree c.args.c.now in
     let ns = claims c.args.notes.now in
@@ -33,9 +33,9 @@ returns-in-Ok-None-clause-verdict g c =
 
 pub returns-in-Ok-Some-clause-verdict : goal.returns-in-Ok-Some-clause-verdict
 returns-in-Ok-Some-clause-verdict g c =
-    let v = version_tree c.args.version in
-    let S = sheet c.args.cells.now in
-    let w = c.args.w.now in
+    let v = version_tree c.args.evaluator.now.version in
+    let S = sheet c.args.evaluator.now.cells.now in
+    let w = c.args.evaluator.now.oracle.now in
     let a = c.args.a in
     let t = cert_tree c.args.c.now in
     let ns = claims c.args.notes.now in

@@ -13,8 +13,8 @@ use Rattle.gl_cert.proofs.loops.first_free.Given as goal
 
 abbrev pub invariant-loop-i : goal.invariant-loop-i
 invariant-loop-i g l = record {
-  whole : first_free same_key same_outcome (is_proper (sheet l.cells)) (program (version_tree l.version) (sheet l.cells) l.w) (claims l.notes) (map key_tree l.loops.keys) (map key_tree l.list)
-      ≡ further l.i (first_free same_key same_outcome (is_proper (sheet l.cells)) (program (version_tree l.version) (sheet l.cells) l.w) (claims l.notes) (map key_tree l.loops.keys) (map key_tree (drop l.i l.list)));
+  whole : first_free same_key same_outcome (is_proper (sheet l.evaluator.cells.now)) (program (version_tree l.evaluator.version) (sheet l.evaluator.cells.now) l.evaluator.oracle.now) (claims l.notes) (map key_tree l.loops.keys) (map key_tree l.list)
+      ≡ further l.i (first_free same_key same_outcome (is_proper (sheet l.evaluator.cells.now)) (program (version_tree l.evaluator.version) (sheet l.evaluator.cells.now) l.evaluator.oracle.now) (claims l.notes) (map key_tree l.loops.keys) (map key_tree (drop l.i l.list)));
   steps : l.steps ≤ l.fn.steps + l.i;
   later : l.fn.steps ≤ l.steps;
 }

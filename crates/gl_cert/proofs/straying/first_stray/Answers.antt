@@ -19,8 +19,8 @@ note_follows-requires g c =
 
 pub returns-in-Ok-false-clause-stray : goal.returns-in-Ok-false-clause-stray
 returns-in-Ok-false-clause-stray g c =
-    let S = sheet c.args.cells.now in
-    let P = program (version_tree c.args.version) S c.args.w.now in
+    let S = sheet c.args.evaluator.now.cells.now in
+    let P = program (version_tree c.args.evaluator.now.version) S c.args.evaluator.now.oracle.now in
     let list = c.args.list.now in
     let i = c.loop-i.i in
     let x = c.index-list-i.result in
@@ -33,8 +33,8 @@ returns-in-Ok-false-clause-stray g c =
 
 pub loop-i-preserved : goal.loop-i-preserved
 loop-i-preserved g c =
-    let S = sheet c.args.cells.now in
-    let P = program (version_tree c.args.version) S c.args.w.now in
+    let S = sheet c.args.evaluator.now.cells.now in
+    let P = program (version_tree c.args.evaluator.now.version) S c.args.evaluator.now.oracle.now in
     let list = c.args.list.now in
     let i = c.loop-i.i in
     let x = c.index-list-i.result in

@@ -20,17 +20,17 @@ pub go_by_mark-requires-clause-sound : goal.go_by_mark-requires-clause-sound
 go_by_mark-requires-clause-sound g c =
     let (m, em) = mark_there c.args.ledger.now c.args.entries.now c.requires.pickable.place.core c.args.p c.requires.pickable.place.there in
     let st = table_of c.args.ledger.now c.args.entries.now in
-    let is = subst (IsNext (table same_key st) (keys_from (sheet c.args.cells.now) c.args.w.now m.0) m.1) c.in-Some.is (c.in_ok-next.ensures m em) in
+    let is = subst (IsNext (table same_key st) (keys_from (sheet c.args.evaluator.now.cells.now) c.args.evaluator.now.oracle.now m.0) m.1) c.in-Some.is (c.in_ok-next.ensures m em) in
     is.2
 
 pub returns-in-Some-clause-picked : goal.returns-in-Some-clause-picked
 returns-in-Some-clause-picked g c =
     let l = c.args.ledger.now in
     let e = c.args.entries.now in
-    let S = sheet c.args.cells.now in
-    let w = c.args.w.now in
+    let S = sheet c.args.evaluator.now.cells.now in
+    let w = c.args.evaluator.now.oracle.now in
     let st = table_of l e in
-    let p = program (version_tree c.args.version) S w in
+    let p = program (version_tree c.args.evaluator.now.version) S w in
     let r = c.go_by_mark.result in
     let needs = c.go_by_mark.ensures.needs in
     let (m, em) = mark_there l e c.requires.pickable.place.core c.args.p c.requires.pickable.place.there in

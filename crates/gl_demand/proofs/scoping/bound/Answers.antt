@@ -1,5 +1,4 @@
-use Rattle.std.proofs.Common.{◌≡◌, ◌<◌, ◌≤◌, length, true, false, ap, sym, ◌∙◌, arith}
-use Rattle.std.proofs.lemmas.Result.{IfOk-weaker}
+use Rattle.std.proofs.Common.{◌≡◌, ◌<◌, ◌≤◌, Ok, length, true, false, ap, sym, ◌∙◌, arith}
 use Rattle.std.specs.Rc.{rc_str_bytes}
 use Rattle.gl_calculus.specs.Evaluation as E
 use Rattle.gl_calculus.specs.Value as V
@@ -22,10 +21,10 @@ pub returns-then-same_name-clause-value : goal.returns-then-same_name-clause-val
 returns-then-same_name-clause-value c =
     let lt : c.loop-x.x-index < length c.deref-x-items.result.now = omega arith in
     let found = sym (first_is c.deref-x-items.result.now c.loop-x.x-index c.loop-x-item.result (rc_str_bytes c.args.name.now) true lt c.loop-x-item.is (sym c.same_name.ensures ∙ c.if-same_name.true)) ∙ c.loop-x.invariant in
-    IfOk-weaker c.share_value.result (λ y. value_tree y ≡ value_tree c.loop-x-item.result.1) (λ y. value_tree y ≡ E.bound (bindings_of c.args.scope.now.bindings.items) (rc_str_bytes c.args.name.now)) (λ y e. e ∙ found) c.share_value.ensures.value
+    c.in_ok-share.ensures.0 ∙ found
 
 pub returns-then-same_name-clause-sound : goal.returns-then-same_name-clause-sound
-returns-then-same_name-clause-sound c = found_sound c.share_value.result c.args.scope.now.bindings.items (rc_str_bytes c.args.name.now) (returns-then-same_name-clause-value c) c.args.scope.now.sound
+returns-then-same_name-clause-sound c = found_sound (Ok c.in_ok-share.field-0) c.args.scope.now.bindings.items (rc_str_bytes c.args.name.now) (returns-then-same_name-clause-value c) c.args.scope.now.sound
 
 pub returns-clause-value : goal.returns-clause-value
 returns-clause-value c =

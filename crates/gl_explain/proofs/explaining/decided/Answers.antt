@@ -8,8 +8,8 @@ use Rattle.gl_explain.proofs.explaining.decided.Goals as goal
 
 pub returns-in-Ok-Full-clause-explained : goal.returns-in-Ok-Full-clause-explained
 returns-in-Ok-Full-clause-explained g c =
-    let v = version_tree c.args.version in
-    let S = sheet c.args.cells.now in
-    let w = c.args.w.now in
+    let v = version_tree c.args.evaluator.now.version in
+    let S = sheet c.args.evaluator.now.cells.now in
+    let w = c.args.evaluator.now.oracle.now in
     let r = key_tree c.args.root.now in
     explained_work v S w c.args.a r c.requires c.args.steps.now c.walk.new.steps (subst (IsFound v S w r c.args.steps.now c.walk.new.steps) c.in-Ok-Full.field-0-is c.in-Ok-Full.ensures.found)

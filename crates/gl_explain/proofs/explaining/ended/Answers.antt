@@ -9,8 +9,8 @@ use Rattle.gl_explain.proofs.explaining.ended.Goals as goal
 
 pub returns-in-Some : goal.returns-in-Some
 returns-in-Some c = λ version n m h.
-    let S = sheet c.args.cells.now in
-    let w = c.args.w.now in
+    let S = sheet c.args.evaluator.now.cells.now in
+    let w = c.args.evaluator.now.oracle.now in
     let a = c.args.a in
     let done = claims c.args.notes in
     let up = map key_tree c.args.loops.keys in
@@ -18,8 +18,8 @@ returns-in-Some c = λ version n m h.
 
 pub made-requires-clause-said : goal.made-requires-clause-said
 made-requires-clause-said c =
-    let S = sheet c.args.cells.now in
-    let w = c.args.w.now in
+    let S = sheet c.args.evaluator.now.cells.now in
+    let w = c.args.evaluator.now.oracle.now in
     let a = c.args.a in
     let done = claims c.args.notes in
     let up = map key_tree c.args.loops.keys in
@@ -28,8 +28,8 @@ made-requires-clause-said c =
 
 pub made-requires-clause-few_notes : goal.made-requires-clause-few_notes
 made-requires-clause-few_notes c =
-    let S = sheet c.args.cells.now in
-    let w = c.args.w.now in
+    let S = sheet c.args.evaluator.now.cells.now in
+    let w = c.args.evaluator.now.oracle.now in
     let a = c.args.a in
     let done = claims c.args.notes in
     let up = map key_tree c.args.loops.keys in
@@ -38,8 +38,8 @@ made-requires-clause-few_notes c =
 
 pub made-requires-clause-few_loops : goal.made-requires-clause-few_loops
 made-requires-clause-few_loops c =
-    let S = sheet c.args.cells.now in
-    let w = c.args.w.now in
+    let S = sheet c.args.evaluator.now.cells.now in
+    let w = c.args.evaluator.now.oracle.now in
     let a = c.args.a in
     let done = claims c.args.notes in
     let up = map key_tree c.args.loops.keys in
@@ -48,8 +48,8 @@ made-requires-clause-few_loops c =
 
 pub returns-in-Ok : goal.returns-in-Ok
 returns-in-Ok c = λ version n m h.
-    let S = sheet c.args.cells.now in
-    let w = c.args.w.now in
+    let S = sheet c.args.evaluator.now.cells.now in
+    let w = c.args.evaluator.now.oracle.now in
     let a = c.args.a in
     let done = claims c.args.notes in
     let up = map key_tree c.args.loops.keys in

@@ -8,8 +8,8 @@ use Rattle.gl_explain.proofs.explaining.undecided.Goals as goal
 
 pub returns-in-Ok : goal.returns-in-Ok
 returns-in-Ok c = λ version n.
-    let S = sheet c.args.cells.now in
-    let w = c.args.w.now in
+    let S = sheet c.args.evaluator.now.cells.now in
+    let w = c.args.evaluator.now.oracle.now in
     let a = c.args.a in
     let p = c.new.ensures in
     let q = ap (map key_tree) c.new-2.ensures.empty in

@@ -15,12 +15,17 @@ use Rattle.gl_explain.proofs.reading.read_on.Goals as goal
 
 pub returns-in-Ok-Some-clause-mark : goal.returns-in-Ok-Some-clause-mark
 returns-in-Ok-Some-clause-mark g c =
-    let v = version_tree c.args.version in
-    let S = sheet c.args.cells.now in
-    let w = c.args.w.now in
+    let v = version_tree c.args.evaluator.now.version in
+    let S = sheet c.args.evaluator.now.cells.now in
+    let w = c.args.evaluator.now.oracle.now in
     let done = claims c.args.notes.now in
     let k = key_tree c.args.key.now in
     let m = mark_tree c.args.mark in
     let x = c.in-Ok-Some.lacked in
     let is = subst (IsNext (noted same_key done) (keys_from S w m.0) m.1) c.in-Ok-Some.field-0-is c.in-Ok-Some.ensures in
     marked_still (λ n. n ≡ (ahead_tree c.args.mark.ahead, x.place)) (IsMark v S w done k) (λ n e. subst (IsMark v S w done k) (sym e) (mark_onward v S w done k m x.place is.1 c.requires.mark)) c.by_mark.result c.by_mark.ensures.mark
+
+pub returns-in-Ok-clause-mark : goal.returns-in-Ok-clause-mark
+returns-in-Ok-clause-mark g c =
+    let is = IsMark (version_tree c.args.evaluator.now.version) (sheet c.args.evaluator.now.cells.now) c.args.evaluator.now.oracle.now (claims c.args.notes.now) (key_tree c.args.key.now) in
+    marked_still (λ m. m ≡ (ahead_tree c.in-Ok.turn.ahead, 0)) is (λ m e. subst is (sym e) c.in-Ok.ensures.ahead) c.by_turn.result c.by_turn.ensures.mark

@@ -26,9 +26,9 @@ read_on-requires-clause-sound g c = top_sound c.args.stack.now.keys c.in-Some.ke
 
 pub read_on-requires-clause-proper : goal.read_on-requires-clause-proper
 read_on-requires-clause-proper g c =
-    let v = version_tree c.args.version in
-    let S = sheet c.args.cells.now in
-    let w = c.args.w.now in
+    let v = version_tree c.args.evaluator.now.version in
+    let S = sheet c.args.evaluator.now.cells.now in
+    let w = c.args.evaluator.now.oracle.now in
     let done = claims c.args.notes.now in
     let up = map key_tree c.args.stack.now.keys in
     let m = c.args.steps.now in
@@ -41,9 +41,9 @@ read_on-requires-clause-proper g c =
 
 pub take_mark-mark-requires : goal.take_mark-mark-requires
 take_mark-mark-requires g c =
-    let v = version_tree c.args.version in
-    let S = sheet c.args.cells.now in
-    let w = c.args.w.now in
+    let v = version_tree c.args.evaluator.now.version in
+    let S = sheet c.args.evaluator.now.cells.now in
+    let w = c.args.evaluator.now.oracle.now in
     let done = claims c.args.notes.now in
     let up = map key_tree c.args.stack.now.keys in
     let k = c.in-Some.key.now in
@@ -54,9 +54,9 @@ take_mark-mark-requires g c =
 
 pub read_on-requires-clause-mark : goal.read_on-requires-clause-mark
 read_on-requires-clause-mark g c =
-    let v = version_tree c.args.version in
-    let S = sheet c.args.cells.now in
-    let w = c.args.w.now in
+    let v = version_tree c.args.evaluator.now.version in
+    let S = sheet c.args.evaluator.now.cells.now in
+    let w = c.args.evaluator.now.oracle.now in
     let done = claims c.args.notes.now in
     let up = map key_tree c.args.stack.now.keys in
     let k = c.in-Some.key.now in
@@ -67,9 +67,9 @@ read_on-requires-clause-mark g c =
 
 pub take_off-requires-clause-top : goal.take_off-requires-clause-top
 take_off-requires-clause-top g c = λ j t.
-    let v = version_tree c.args.version in
-    let S = sheet c.args.cells.now in
-    let w = c.args.w.now in
+    let v = version_tree c.args.evaluator.now.version in
+    let S = sheet c.args.evaluator.now.cells.now in
+    let w = c.args.evaluator.now.oracle.now in
     let done = claims c.args.notes.now in
     let up = map key_tree c.args.stack.now.keys in
     let m = c.args.steps.now in
@@ -85,9 +85,9 @@ take_off-requires-clause-top g c = λ j t.
 
 pub returns-in-Ok-Ready-clause-turned : goal.returns-in-Ok-Ready-clause-turned
 returns-in-Ok-Ready-clause-turned g c =
-    let v = version_tree c.args.version in
-    let S = sheet c.args.cells.now in
-    let w = c.args.w.now in
+    let v = version_tree c.args.evaluator.now.version in
+    let S = sheet c.args.evaluator.now.cells.now in
+    let w = c.args.evaluator.now.oracle.now in
     let done = claims c.args.notes.now in
     let up = map key_tree c.args.stack.now.keys in
     let m = c.args.steps.now in
@@ -116,9 +116,9 @@ returns-in-Ok-Ready-clause-sound g c =
 
 pub returns-in-Ok-Ready-clause-marks : goal.returns-in-Ok-Ready-clause-marks
 returns-in-Ok-Ready-clause-marks g c =
-    let v = version_tree c.args.version in
-    let S = sheet c.args.cells.now in
-    let w = c.args.w.now in
+    let v = version_tree c.args.evaluator.now.version in
+    let S = sheet c.args.evaluator.now.cells.now in
+    let w = c.args.evaluator.now.oracle.now in
     let done = claims c.args.notes.now in
     let up = map key_tree c.args.stack.now.keys in
     let k = c.in-Some.key.now in
@@ -134,9 +134,9 @@ returns-in-Ok-Ready-clause-marks g c =
 
 pub returns-in-Ok-Need-clause-turned : goal.returns-in-Ok-Need-clause-turned
 returns-in-Ok-Need-clause-turned g c =
-    let v = version_tree c.args.version in
-    let S = sheet c.args.cells.now in
-    let w = c.args.w.now in
+    let v = version_tree c.args.evaluator.now.version in
+    let S = sheet c.args.evaluator.now.cells.now in
+    let w = c.args.evaluator.now.oracle.now in
     let done = claims c.args.notes.now in
     let up = map key_tree c.args.stack.now.keys in
     let m = c.args.steps.now in
@@ -158,9 +158,9 @@ returns-in-Ok-Need-clause-turned g c =
 
 pub returns-in-Ok-Need-clause-falls : goal.returns-in-Ok-Need-clause-falls
 returns-in-Ok-Need-clause-falls g c =
-    let v = version_tree c.args.version in
-    let S = sheet c.args.cells.now in
-    let w = c.args.w.now in
+    let v = version_tree c.args.evaluator.now.version in
+    let S = sheet c.args.evaluator.now.cells.now in
+    let w = c.args.evaluator.now.oracle.now in
     let done = claims c.args.notes.now in
     let up = map key_tree c.args.stack.now.keys in
     let j = key_tree c.in-Ok-Need.key in
@@ -185,9 +185,9 @@ returns-in-Ok-Need-clause-sound g c =
 
 pub returns-in-Ok-Need-clause-marks : goal.returns-in-Ok-Need-clause-marks
 returns-in-Ok-Need-clause-marks g c =
-    let v = version_tree c.args.version in
-    let S = sheet c.args.cells.now in
-    let w = c.args.w.now in
+    let v = version_tree c.args.evaluator.now.version in
+    let S = sheet c.args.evaluator.now.cells.now in
+    let w = c.args.evaluator.now.oracle.now in
     let done = claims c.args.notes.now in
     let up = map key_tree c.args.stack.now.keys in
     let k = c.in-Some.key.now in
@@ -205,9 +205,9 @@ returns-in-Ok-Need-clause-marks g c =
 
 pub returns-in-None-clause-turned : goal.returns-in-None-clause-turned
 returns-in-None-clause-turned g c = λ root n h.
-    let v = version_tree c.args.version in
-    let S = sheet c.args.cells.now in
-    let w = c.args.w.now in
+    let v = version_tree c.args.evaluator.now.version in
+    let S = sheet c.args.evaluator.now.cells.now in
+    let w = c.args.evaluator.now.oracle.now in
     let done = claims c.args.notes.now in
     let m = c.args.steps.now in
     let e = ap (map key_tree) c.in-None.ensures.none in

@@ -14,9 +14,9 @@ use Rattle.gl_explain.proofs.walking.walk.Goals as goal
 
 pub turns-init : goal.turns-init
 turns-init g c =
-    let v = version_tree c.args.version in
-    let S = sheet c.args.cells.now in
-    let w = c.args.w.now in
+    let v = version_tree c.args.evaluator.now.version in
+    let S = sheet c.args.evaluator.now.cells.now in
+    let w = c.args.evaluator.now.oracle.now in
     let r = key_tree c.args.root.now in
     let n = c.args.steps.now in
     record {
@@ -35,7 +35,7 @@ turns-smaller g c = c.in-Ok-On.ensures.falls c.in-Ok-On.field-0-is
 
 pub turns-preserved : goal.turns-preserved
 turns-preserved g c = record {
-  walking = subst (IsTurned (version_tree c.args.version) (sheet c.args.cells.now) c.args.w.now (key_tree c.args.root.now) c.args.steps.now c.turn.new.steps (claims c.turn.new.notes) (map key_tree c.turn.new.stack.keys)) c.in-Ok-On.field-0-is (c.in-Ok-On.ensures.turned (key_tree c.args.root.now) c.args.steps.now c.turns.invariant.walking);
+  walking = subst (IsTurned (version_tree c.args.evaluator.now.version) (sheet c.args.evaluator.now.cells.now) c.args.evaluator.now.oracle.now (key_tree c.args.root.now) c.args.steps.now c.turn.new.steps (claims c.turn.new.notes) (map key_tree c.turn.new.stack.keys)) c.in-Ok-On.field-0-is (c.in-Ok-On.ensures.turned (key_tree c.args.root.now) c.args.steps.now c.turns.invariant.walking);
   sound = c.in-Ok-On.ensures.sound;
   marks = c.in-Ok-On.ensures.marks c.in-Ok-On.field-0-is;
   later = omega (arith, c.turns.invariant.later, c.turn.ensures.later);
@@ -43,10 +43,10 @@ turns-preserved g c = record {
 
 pub returns-in-Ok-Ended-clause-found : goal.returns-in-Ok-Ended-clause-found
 returns-in-Ok-Ended-clause-found g c = (
-  subst (IsTurned (version_tree c.args.version) (sheet c.args.cells.now) c.args.w.now (key_tree c.args.root.now) c.args.steps.now c.turn.new.steps (claims c.turn.new.notes) (map key_tree c.turn.new.stack.keys)) c.in-Ok-Ended.field-0-is (c.in-Ok-Ended.ensures.turned (key_tree c.args.root.now) c.args.steps.now c.turns.invariant.walking),
+  subst (IsTurned (version_tree c.args.evaluator.now.version) (sheet c.args.evaluator.now.cells.now) c.args.evaluator.now.oracle.now (key_tree c.args.root.now) c.args.steps.now c.turn.new.steps (claims c.turn.new.notes) (map key_tree c.turn.new.stack.keys)) c.in-Ok-Ended.field-0-is (c.in-Ok-Ended.ensures.turned (key_tree c.args.root.now) c.args.steps.now c.turns.invariant.walking),
   c.in-Ok-Ended.ensures.sound,
 )
 
 pub returns-in-Ok-Full-clause-found : goal.returns-in-Ok-Full-clause-found
 returns-in-Ok-Full-clause-found g c =
-    subst (IsTurned (version_tree c.args.version) (sheet c.args.cells.now) c.args.w.now (key_tree c.args.root.now) c.args.steps.now c.turn.new.steps (claims c.turn.new.notes) (map key_tree c.turn.new.stack.keys)) c.in-Ok-Full.field-0-is (c.in-Ok-Full.ensures.turned (key_tree c.args.root.now) c.args.steps.now c.turns.invariant.walking)
+    subst (IsTurned (version_tree c.args.evaluator.now.version) (sheet c.args.evaluator.now.cells.now) c.args.evaluator.now.oracle.now (key_tree c.args.root.now) c.args.steps.now c.turn.new.steps (claims c.turn.new.notes) (map key_tree c.turn.new.stack.keys)) c.in-Ok-Full.field-0-is (c.in-Ok-Full.ensures.turned (key_tree c.args.root.now) c.args.steps.now c.turns.invariant.walking)

@@ -14,8 +14,8 @@ decreases-turns g l = left (claims l.notes) (map key_tree l.stack.keys)
 
 abbrev pub invariant-turns : goal.invariant-turns
 invariant-turns g l = record {
-  walking : IsWalking (version_tree l.version) (sheet l.cells) l.w (key_tree l.root) l.fn.steps l.steps (claims l.notes) (map key_tree l.stack.keys);
+  walking : IsWalking (version_tree l.evaluator.version) (sheet l.evaluator.cells.now) l.evaluator.oracle.now (key_tree l.root) l.fn.steps l.steps (claims l.notes) (map key_tree l.stack.keys);
   sound : AreSoundKeys (map key_tree l.stack.keys);
-  marks : AreMarks (version_tree l.version) (sheet l.cells) l.w (claims l.notes) (map key_tree l.stack.keys) (mark_trees l.marks.items);
+  marks : AreMarks (version_tree l.evaluator.version) (sheet l.evaluator.cells.now) l.evaluator.oracle.now (claims l.notes) (map key_tree l.stack.keys) (mark_trees l.marks.items);
   later : l.fn.steps ≤ l.steps;
 }

@@ -28,9 +28,9 @@ unreachable-requires-in-Ok-Aborts g c =
 
 pub returns-in-Ok-Cert : goal.returns-in-Ok-Cert
 returns-in-Ok-Cert g c =
-    let V = version_tree c.args.version in
-    let S = sheet c.args.cells.now in
-    let w = c.args.w.now in
+    let V = version_tree c.args.evaluator.now.version in
+    let S = sheet c.args.evaluator.now.cells.now in
+    let w = c.args.evaluator.now.oracle.now in
     let a = c.args.a in
     let t = cert_tree c.in-Ok-Cert.cert in
     let n = c.args.steps.now in

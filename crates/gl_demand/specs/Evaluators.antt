@@ -1,0 +1,12 @@
+-- What keys are evaluated by.
+use Rattle.gl_query.specs.Query.{Query}
+use Rattle.gl_calculus.specs.Grid.{Range}
+use Rattle.gl_calculus.specs.Key.{Key, Outcome}
+use Rattle.gl_calculus.specs.Evaluation.{program}
+use Rattle.gl_ast.specs.View.{version_tree}
+use Rattle.gl_cells.specs.Sheet.{sheet}
+use Rattle.gl_demand.specs.declared.evaluator.Evaluator.{Evaluator}
+
+-- the evaluation of each key in its sheet, under its oracle, in its version
+abbrev pub program_of : Evaluator → Key → Query Key Outcome Range Outcome
+program_of e = program (version_tree e.version) (sheet e.cells.now) e.oracle.now
