@@ -30,7 +30,7 @@ abbrev mutual
   overrides_size (V.override_and a v os) = 2 + (value_size v + overrides_size os)
 
   pub sheet_size : V.SheetValue → ℕ
-  sheet_size (V.sheet_value r os e k w) = 1 + (overrides_size os + frame_size e)
+  sheet_size (V.sheet_value r os e k w) = 3 + (overrides_size os + frame_size e)
 
   pub frame_size : V.Frame → ℕ
   frame_size V.Frame.Top = 0

@@ -1,5 +1,6 @@
 -- Short forms as words, by which they are hashed.
-use Rattle.std.specs.Prelude.{ℕ, ℤ, pos, ◌-◌, ◌^◌, Option, Some, None}
+use Rattle.std.specs.Prelude.{ℕ, ℤ, pos, ◌-◌, ◌^◌, List, ◌++◌, Option, Some, None}
+use Rattle.std.specs.Hash as fed
 use Rattle.gl_calculus.specs.Grid.{Range}
 use Rattle.gl_plane.specs.Digest.{mixed, address_word}
 use Rattle.gl_intern.specs.declared.short.ShortScalar.{ShortScalar}
@@ -62,3 +63,16 @@ sheet_word s = mixed (mixed (place_word s.parent) (last_word s.last)) (range_wor
 
 abbrev pub frame_word : ShortFrame → ℕ
 frame_word f = mixed (sheet_word f.sheet) f.oracle
+
+-- what is hashed of a short form: its word, and its integer
+abbrev pub item_input : ShortItem → List (List ℕ)
+item_input i = fed.u64 (item_word i) ++ fed.i64 (scalar_int i.item)
+
+abbrev pub override_input : ShortOverride → List (List ℕ)
+override_input o = fed.u64 (override_word o) ++ fed.i64 (value_int o.value)
+
+abbrev pub sheet_input : ShortSheet → List (List ℕ)
+sheet_input s = fed.u64 (sheet_word s) ++ fed.i64 (last_int s.last)
+
+abbrev pub frame_input : ShortFrame → List (List ℕ)
+frame_input f = fed.u64 (frame_word f) ++ fed.i64 (last_int f.sheet.last)

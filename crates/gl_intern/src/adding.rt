@@ -4,10 +4,9 @@ ghost use Rattle.gl_calculus.specs.Value as V;
 ghost use Rattle.gl_value.specs.View.{scalar_tree, value_tree, array_tree, item_trees, sheet_tree};
 ghost use Rattle.gl_value.specs.View.{frame_tree, override_trees};
 ghost use Rattle.gl_intern.specs.Places.{plain_in, scalar_in, whole_in, item_behind, items_in};
-ghost use Rattle.gl_intern.specs.Places.{value_in, override_link, override_behind, overrides_in};
-ghost use Rattle.gl_intern.specs.Places.{sheet_in, sheet_place, place_of_sheet, place_of_frame};
-ghost use Rattle.gl_intern.specs.Places.{frame_in};
-ghost use Rattle.gl_intern.specs.Tables.{tables, Grows};
+ghost use Rattle.gl_intern.specs.Places.{value_in, override_behind, overrides_in, sheet_in};
+ghost use Rattle.gl_intern.specs.Places.{sheet_place, place_of_sheet, place_of_frame, frame_in};
+ghost use Rattle.gl_intern.specs.Tables.{tables, Grows, Gives};
 
 use crate::items::holds_sheets;
 use crate::parts::{Parts, place, place_array, place_oracle, place_scalar};
@@ -21,7 +20,7 @@ type Override = (Addr, Value);
 impl Parts {
     fn add_plain(&mut self, x: &Scalar) -> Result<ShortScalar, NoMemory>
         ensures grows { Grows (tables self.old) (tables self.new) }
-        ensures ok { IfOk result (λ k. plain_in (tables self.new) (scalar_tree x.now) ≡ Some k) }
+        ensures ok { Gives result (plain_in (tables self.new) (scalar_tree x.now)) }
     {
         let i = place_scalar(&mut self.scalars, x)?;
         Ok(ShortScalar::Plain(i))
@@ -30,7 +29,7 @@ impl Parts {
     #[cycle(add)]
     fn add_scalar(&mut self, x: &Scalar) -> Result<ShortScalar, NoMemory>
         ensures grows { Grows (tables self.old) (tables self.new) }
-        ensures ok { IfOk result (λ k. scalar_in (tables self.new) (scalar_tree x.now) ≡ Some k) }
+        ensures ok { Gives result (scalar_in (tables self.new) (scalar_tree x.now)) }
     {
         match x {
             Scalar::Int(n) => Ok(ShortScalar::Int(*n)),
@@ -48,8 +47,7 @@ impl Parts {
     /// An array without sheet values.
     fn add_whole(&mut self, a: &Rc<Array>) -> Result<ShortValue, NoMemory>
         ensures grows { Grows (tables self.old) (tables self.new) }
-        ensures ok { IfOk result
-            (λ k. whole_in (tables self.new) (array_tree a.now.value) ≡ Some k) }
+        ensures ok { Gives result (whole_in (tables self.new) (array_tree a.now.value)) }
     {
         let i = place_array(&mut self.arrays, a)?;
         Ok(ShortValue::Array(i))
@@ -68,19 +66,12 @@ impl Parts {
     #[cycle(add)]
     fn add_items(&mut self, items: &[Scalar]) -> Result<Option<usize>, NoMemory>
         ensures grows { Grows (tables self.old) (tables self.new) }
-        ensures ok { IfOk result
-            (λ k. items_in (tables self.new) None (item_trees items.now) ≡ Some k) }
+        ensures ok { Gives result (items_in (tables self.new) None (item_trees items.now)) }
     {
         let mut last: Option<usize> = None;
         for x in items {
-            let short = match self.add_scalar(x) {
-                Ok(short) => short,
-                Err(e) => return Err(e),
-            };
-            match self.add_item(last, short) {
-                Ok(i) => last = Some(i),
-                Err(e) => return Err(e),
-            }
+            let short = self.add_scalar(x)?;
+            last = Some(self.add_item(last, short)?);
         }
         Ok(last)
     }
@@ -88,8 +79,7 @@ impl Parts {
     #[cycle(add)]
     fn add_array(&mut self, a: &Rc<Array>) -> Result<ShortValue, NoMemory>
         ensures grows { Grows (tables self.old) (tables self.new) }
-        ensures ok { IfOk result
-            (λ k. value_in (tables self.new) (array_tree a.now.value) ≡ Some k) }
+        ensures ok { Gives result (value_in (tables self.new) (array_tree a.now.value)) }
     {
         if !holds_sheets(a.items()) {
             return self.add_whole(a);
@@ -102,7 +92,7 @@ impl Parts {
     #[cycle(add)]
     fn add_value(&mut self, v: &Value) -> Result<ShortValue, NoMemory>
         ensures grows { Grows (tables self.old) (tables self.new) }
-        ensures ok { IfOk result (λ k. value_in (tables self.new) (value_tree v.now) ≡ Some k) }
+        ensures ok { Gives result (value_in (tables self.new) (value_tree v.now)) }
     {
         match v {
             Value::One(x) => {
@@ -144,19 +134,13 @@ impl Parts {
     #[cycle(add)]
     fn add_overrides(&mut self, overrides: &[Override]) -> Result<Option<ShortOverride>, NoMemory>
         ensures grows { Grows (tables self.old) (tables self.new) }
-        ensures ok { IfOk result
-            (λ k. overrides_in (tables self.new) None (override_trees overrides.now) ≡ Some k) }
+        ensures ok { Gives result
+            (overrides_in (tables self.new) None (override_trees overrides.now)) }
     {
         let mut last: Option<ShortOverride> = None;
         for (at, value) in overrides {
-            let short = match self.add_value(value) {
-                Ok(short) => short,
-                Err(e) => return Err(e),
-            };
-            match self.add_behind(last, *at, short) {
-                Ok(next) => last = Some(next),
-                Err(e) => return Err(e),
-            }
+            let short = self.add_value(value)?;
+            last = Some(self.add_behind(last, *at, short)?);
         }
         Ok(last)
     }
@@ -164,40 +148,26 @@ impl Parts {
     #[cycle(add)]
     fn add_short_sheet(&mut self, s: &SheetVal) -> Result<ShortSheet, NoMemory>
         ensures grows { Grows (tables self.old) (tables self.new) }
-        ensures ok { IfOk result (λ k. sheet_in (tables self.new) (sheet_tree s.now) ≡ Some k) }
+        ensures ok { Gives result (sheet_in (tables self.new) (sheet_tree s.now)) }
     {
         let parent = self.add_frame(&s.env)?;
-        let last = self.add_overrides(&s.overrides)?;
-        Ok(ShortSheet {
-            parent,
-            last,
-            weight: s.weight,
-            rank: s.rank,
-            region: s.region,
-        })
+        self.add_within(parent, s)
     }
 
     /// The place of a sheet value.
     #[cycle(add)]
     pub fn add_sheet(&mut self, s: &SheetVal) -> Result<usize, NoMemory>
         ensures grows { Grows (tables self.old) (tables self.new) }
-        ensures ok { IfOk result (λ n. sheet_place (tables self.new) (sheet_tree s.now) ≡ Some n) }
+        ensures ok { Gives result (sheet_place (tables self.new) (sheet_tree s.now)) }
     {
         let parent = self.add_frame(&s.env)?;
-        let last = self.add_overrides(&s.overrides)?;
-        self.place_sheet(ShortSheet {
-            parent,
-            last,
-            weight: s.weight,
-            rank: s.rank,
-            region: s.region,
-        })
+        self.add_sheet_within(parent, s)
     }
 
     /// The place of a short form.
     fn place_sheet(&mut self, short: ShortSheet) -> Result<usize, NoMemory>
         ensures grows { Grows (tables self.old) (tables self.new) }
-        ensures ok { IfOk result (λ n. place_of_sheet (tables self.new) short ≡ Some n) }
+        ensures ok { Gives result (place_of_sheet (tables self.new) short) }
     {
         match self.sheets.get_index_of(&short) {
             Some(i) => Ok(i),
@@ -216,10 +186,11 @@ impl Parts {
     }
 
     /// A sheet value whose parent frame has this place.
+    #[cycle(add)]
     fn add_within(&mut self, parent: Option<usize>, s: &SheetVal) -> Result<ShortSheet, NoMemory>
         requires { frame_in (tables self.old) (frame_tree s.now.env) ≡ Some parent }
         ensures grows { Grows (tables self.old) (tables self.new) }
-        ensures ok { IfOk result (λ k. sheet_in (tables self.new) (sheet_tree s.now) ≡ Some k) }
+        ensures ok { Gives result (sheet_in (tables self.new) (sheet_tree s.now)) }
     {
         let last = self.add_overrides(&s.overrides)?;
         Ok(ShortSheet {
@@ -232,6 +203,7 @@ impl Parts {
     }
 
     /// The place of a sheet value whose parent frame has this place.
+    #[cycle(add)]
     pub fn add_sheet_within(
         &mut self,
         parent: Option<usize>,
@@ -239,7 +211,7 @@ impl Parts {
     ) -> Result<usize, NoMemory>
         requires { frame_in (tables self.old) (frame_tree s.now.env) ≡ Some parent }
         ensures grows { Grows (tables self.old) (tables self.new) }
-        ensures ok { IfOk result (λ n. sheet_place (tables self.new) (sheet_tree s.now) ≡ Some n) }
+        ensures ok { Gives result (sheet_place (tables self.new) (sheet_tree s.now)) }
     {
         let short = self.add_within(parent, s)?;
         self.place_sheet(short)
@@ -254,8 +226,8 @@ impl Parts {
     ) -> Result<Option<usize>, NoMemory>
         requires { frame_in (tables self.old) (frame_tree s.now.env) ≡ Some parent }
         ensures grows { Grows (tables self.old) (tables self.new) }
-        ensures ok { IfOk result (λ n.
-            frame_in (tables self.new) (V.Frame.In (sheet_tree s.now) oracle.now.value) ≡ Some n) }
+        ensures ok { Gives result
+            (frame_in (tables self.new) (V.Frame.In (sheet_tree s.now) oracle.now.value)) }
     {
         let short = self.add_within(parent, s)?;
         let i = self.add_copy(short, oracle)?;
@@ -266,7 +238,7 @@ impl Parts {
     #[cycle(add)]
     pub fn add_frame(&mut self, e: &Env) -> Result<Option<usize>, NoMemory>
         ensures grows { Grows (tables self.old) (tables self.new) }
-        ensures ok { IfOk result (λ n. frame_in (tables self.new) (frame_tree e.now) ≡ Some n) }
+        ensures ok { Gives result (frame_in (tables self.new) (frame_tree e.now)) }
     {
         match e {
             Env::Top => Ok(None),

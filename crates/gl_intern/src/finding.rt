@@ -1,6 +1,5 @@
 //! The short forms of values whose parts are all there. It takes no memory.
 ghost use Rattle.std.specs.Prelude.{◌≡◌};
-ghost use Rattle.gl_calculus.specs.Value as V;
 ghost use Rattle.gl_value.specs.View.{scalar_tree, value_tree, array_tree, item_trees, sheet_tree};
 ghost use Rattle.gl_value.specs.View.{frame_tree, override_trees};
 ghost use Rattle.gl_intern.specs.Places.{plain_in, scalar_in, whole_in, item_behind, items_in};

@@ -1,12 +1,14 @@
 //! The interner.
 ghost use Rattle.std.specs.Prelude.{◌≡◌, [], slice_get, option_map, position, IfOk, OnOk, OnErr};
-ghost use Rattle.std.specs.Option.{option_copied};
+ghost use Rattle.std.specs.{Coded.codes, Option.option_copied};
 ghost use Rattle.gl_query.specs.Lists.{AreDistinct};
+ghost use Rattle.gl_calculus.specs.Codes.{coded_sheet, coded_frame};
 ghost use Rattle.gl_calculus.specs.Same.{same_sheet, same_frame};
 ghost use Rattle.gl_value.specs.View.{sheet_tree, frame_tree};
-ghost use Rattle.gl_intern.specs.Numbered.{insert_key};
+ghost use Rattle.gl_intern.specs.Numbered.{Numbered, IsInterned, sheet_pairs, frame_pairs, seconds};
+ghost use Rattle.gl_intern.specs.{Numbered.insert_key, Tables.tables};
 
-use crate::numbering::{guessed_place, number_frame, number_sheet};
+use crate::numbering::{number_frame, number_sheet};
 use crate::parts::Parts;
 use gl_plane::NoMemory;
 use gl_value::{Env, SheetVal};
@@ -37,12 +39,6 @@ impl Drop for Interner {
 }
 
 impl Model for Interner {
-    ghost use Rattle.std.specs.Coded.{codes};
-    ghost use Rattle.gl_calculus.specs.Codes.{coded_sheet, coded_frame};
-    ghost use Rattle.gl_intern.specs.Numbered.{Numbered, seconds, sheet_pairs, frame_pairs};
-    ghost use Rattle.gl_intern.specs.Numbered.{IsInterned};
-    ghost use Rattle.gl_intern.specs.Tables.{tables};
-
     ghost Value = { Numbered };
 
     ghost coded = { Prim.hlevel (codes, coded_sheet, coded_frame) };
@@ -70,36 +66,8 @@ impl Interner {
         }
     }
 
-    /// The number of a sheet value, which goes last where it is new. After `NoMemory` all is as
-    /// before.
-    pub fn sheet(&mut self, s: &Rc<SheetVal>) -> Result<usize, NoMemory>
-        ensures list { OnOk result
-            (self.new.sheets ≡ insert_key same_sheet self.old.sheets (sheet_tree s.now.value)) }
-        ensures frames { self.new.frames ≡ self.old.frames }
-        ensures number { IfOk result
-            (λ n. slice_get self.new.sheets n ≡ Some (sheet_tree s.now.value)) }
-        ensures apart { AreDistinct self.new.sheets }
-        ensures err { OnErr result (self.new ≡ self.old) }
-    {
-        let place = self.parts.add_sheet(s)?;
-        number_sheet(&mut self.sheets, place, s)
-    }
-
-    /// The number of a frame, which goes last where it is new. After `NoMemory` all is as before.
-    pub fn frame(&mut self, e: &Env) -> Result<usize, NoMemory>
-        ensures list { OnOk result
-            (self.new.frames ≡ insert_key same_frame self.old.frames (frame_tree e.now)) }
-        ensures sheets { self.new.sheets ≡ self.old.sheets }
-        ensures number { IfOk result (λ n. slice_get self.new.frames n ≡ Some (frame_tree e.now)) }
-        ensures apart { AreDistinct self.new.frames }
-        ensures err { OnErr result (self.new ≡ self.old) }
-    {
-        let place = self.parts.add_frame(e)?;
-        number_frame(&mut self.frames, place, e)
-    }
-
-    /// The number of a sheet value as by `sheet`, and where the guess is the number of its parent
-    /// frame this takes one step.
+    /// The number of a sheet value, which goes last where it is new. It takes one step where the
+    /// guess is the number of its parent frame. After `NoMemory` all is as before.
     pub fn sheet_within(&mut self, s: &Rc<SheetVal>, guess: Option<u32>) -> Result<usize, NoMemory>
         ensures list { OnOk result
             (self.new.sheets ≡ insert_key same_sheet self.old.sheets (sheet_tree s.now.value)) }
@@ -109,15 +77,12 @@ impl Interner {
         ensures apart { AreDistinct self.new.sheets }
         ensures err { OnErr result (self.new ≡ self.old) }
     {
-        let Some(parent) = guessed_place(&self.frames, s, guess) else {
-            return self.sheet(s);
-        };
-        let place = self.parts.add_sheet_within(parent, s)?;
+        let place = self.parts.add_guessed_sheet(&self.frames, s, guess)?;
         number_sheet(&mut self.sheets, place, s)
     }
 
-    /// The number of a frame as by `frame`, and where the guess is the number of the parent frame of
-    /// its sheet value this takes one step.
+    /// The number of a frame, which goes last where it is new. It takes one step where the guess is
+    /// the number of the parent frame of its sheet value. After `NoMemory` all is as before.
     pub fn frame_within(&mut self, e: &Env, guess: Option<u32>) -> Result<usize, NoMemory>
         ensures list { OnOk result
             (self.new.frames ≡ insert_key same_frame self.old.frames (frame_tree e.now)) }
@@ -126,13 +91,7 @@ impl Interner {
         ensures apart { AreDistinct self.new.frames }
         ensures err { OnErr result (self.new ≡ self.old) }
     {
-        let Env::In(s, oracle) = e else {
-            return self.frame(e);
-        };
-        let Some(parent) = guessed_place(&self.frames, s, guess) else {
-            return self.frame(e);
-        };
-        let place = self.parts.add_frame_within(parent, s, oracle)?;
+        let place = self.parts.add_guessed_frame(&self.frames, e, guess)?;
         number_frame(&mut self.frames, place, e)
     }
 

@@ -8,6 +8,7 @@
 
 mod adding;
 mod finding;
+mod guessing;
 mod interner;
 mod items;
 mod laws;

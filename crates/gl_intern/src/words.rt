@@ -1,8 +1,12 @@
 //! Short forms are hashed by one word and one integer, however many parts they have.
 ghost use Rattle.std.specs.Prelude.{◌≡◌};
+ghost use Rattle.std.proofs.Common.{ap};
+ghost use Rattle.gl_intern.specs.Exact.{item_equality, override_equality};
+ghost use Rattle.gl_intern.specs.Exact.{sheet_equality, frame_equality};
 ghost use Rattle.gl_intern.specs.Words.{place_word, scalar_word, scalar_int, value_word, value_int};
 ghost use Rattle.gl_intern.specs.Words.{items_word, item_word, override_word, last_word, last_int};
 ghost use Rattle.gl_intern.specs.Words.{range_word, sheet_word, frame_word};
+ghost use Rattle.gl_intern.specs.Words.{item_input, override_input, sheet_input, frame_input};
 
 use crate::short::{ShortFrame, ShortItem, ShortOverride, ShortScalar, ShortSheet, ShortValue};
 use gl_plane::{Range, address_word, mixed};
@@ -37,6 +41,22 @@ fn scalar_int(scalar: ShortScalar) -> i64
     }
 }
 
+fn item_word(i: &ShortItem) -> u64
+    ensures { result ≡ item_word i.now }
+{
+    mixed(place_word(i.before), scalar_word(i.item))
+}
+
+impl Hash for ShortItem {
+    ghost hash_input = { item_input };
+
+    ghost respects_eq = { λ a b h. ap item_input (item_equality.0 a b h) };
+
+    fn hash<H: Hasher>(&self, state: &mut H) {
+        (item_word(self), scalar_int(self.item)).hash(state);
+    }
+}
+
 fn items_word(rows: u16, cols: u16, last: Option<usize>) -> u64
     ensures { result ≡ items_word rows cols last }
 {
@@ -63,12 +83,6 @@ fn value_int(value: ShortValue) -> i64
     }
 }
 
-fn item_word(i: &ShortItem) -> u64
-    ensures { result ≡ item_word i.now }
-{
-    mixed(place_word(i.before), scalar_word(i.item))
-}
-
 fn override_word(o: &ShortOverride) -> u64
     ensures { result ≡ override_word o.now }
 {
@@ -76,6 +90,16 @@ fn override_word(o: &ShortOverride) -> u64
         mixed(place_word(o.before), address_word(o.at)),
         value_word(o.value),
     )
+}
+
+impl Hash for ShortOverride {
+    ghost hash_input = { override_input };
+
+    ghost respects_eq = { λ a b h. ap override_input (override_equality.0 a b h) };
+
+    fn hash<H: Hasher>(&self, state: &mut H) {
+        (override_word(self), value_int(self.value)).hash(state);
+    }
 }
 
 fn last_word(last: &Option<ShortOverride>) -> u64
@@ -111,79 +135,28 @@ fn sheet_word(s: &ShortSheet) -> u64
     )
 }
 
+impl Hash for ShortSheet {
+    ghost hash_input = { sheet_input };
+
+    ghost respects_eq = { λ a b h. ap sheet_input (sheet_equality.0 a b h) };
+
+    fn hash<H: Hasher>(&self, state: &mut H) {
+        (sheet_word(self), last_int(&self.last)).hash(state);
+    }
+}
+
 fn frame_word(f: &ShortFrame) -> u64
     ensures { result ≡ frame_word f.now }
 {
     mixed(sheet_word(&f.sheet), f.oracle as u64)
 }
 
-impl Hash for ShortItem {
-    ghost use Rattle.std.specs.Prelude.{◌++◌};
-    ghost use Rattle.std.specs.Hash as fed;
-    ghost use Rattle.std.proofs.Common.{ap};
-    ghost use Rattle.gl_intern.specs.{Exact.item_equality, Words.item_word, Words.scalar_int};
-
-    ghost hash_input = { λ i. fed.u64 (item_word i) ++ fed.i64 (scalar_int i.item) };
-
-    ghost respects_eq = { λ a b h. ap (λ i. fed.u64 (item_word i) ++ fed.i64 (scalar_int i.item))
-        (item_equality.0 a b h) };
-
-    fn hash<H: Hasher>(&self, state: &mut H) {
-        item_word(self).hash(state);
-        scalar_int(self.item).hash(state);
-    }
-}
-
-impl Hash for ShortOverride {
-    ghost use Rattle.std.specs.Prelude.{◌++◌};
-    ghost use Rattle.std.specs.Hash as fed;
-    ghost use Rattle.std.proofs.Common.{ap};
-    ghost use Rattle.gl_intern.specs.{Exact.override_equality, Words.override_word};
-    ghost use Rattle.gl_intern.specs.{Words.value_int};
-
-    ghost hash_input = { λ o. fed.u64 (override_word o) ++ fed.i64 (value_int o.value) };
-
-    ghost respects_eq = { λ a b h.
-        ap (λ o. fed.u64 (override_word o) ++ fed.i64 (value_int o.value))
-        (override_equality.0 a b h) };
-
-    fn hash<H: Hasher>(&self, state: &mut H) {
-        override_word(self).hash(state);
-        value_int(self.value).hash(state);
-    }
-}
-
-impl Hash for ShortSheet {
-    ghost use Rattle.std.specs.Prelude.{◌++◌};
-    ghost use Rattle.std.specs.Hash as fed;
-    ghost use Rattle.std.proofs.Common.{ap};
-    ghost use Rattle.gl_intern.specs.{Exact.sheet_equality, Words.sheet_word, Words.last_int};
-
-    ghost hash_input = { λ s. fed.u64 (sheet_word s) ++ fed.i64 (last_int s.last) };
-
-    ghost respects_eq = { λ a b h. ap (λ s. fed.u64 (sheet_word s) ++ fed.i64 (last_int s.last))
-        (sheet_equality.0 a b h) };
-
-    fn hash<H: Hasher>(&self, state: &mut H) {
-        sheet_word(self).hash(state);
-        last_int(&self.last).hash(state);
-    }
-}
-
 impl Hash for ShortFrame {
-    ghost use Rattle.std.specs.Prelude.{◌++◌};
-    ghost use Rattle.std.specs.Hash as fed;
-    ghost use Rattle.std.proofs.Common.{ap};
-    ghost use Rattle.gl_intern.specs.{Exact.frame_equality, Words.frame_word, Words.last_int};
+    ghost hash_input = { frame_input };
 
-    ghost hash_input = { λ f. fed.u64 (frame_word f) ++ fed.i64 (last_int f.sheet.last) };
-
-    ghost respects_eq = { λ a b h.
-        ap (λ f. fed.u64 (frame_word f) ++ fed.i64 (last_int f.sheet.last))
-        (frame_equality.0 a b h) };
+    ghost respects_eq = { λ a b h. ap frame_input (frame_equality.0 a b h) };
 
     fn hash<H: Hasher>(&self, state: &mut H) {
-        frame_word(self).hash(state);
-        last_int(&self.sheet.last).hash(state);
+        (frame_word(self), last_int(&self.sheet.last)).hash(state);
     }
 }

@@ -6,46 +6,13 @@ use Rattle.gl_value.specs.Forms.{scalar_tree-Blank, scalar_tree-Bool, scalar_tre
 use Rattle.gl_value.proofs.Puts.{override_trees-drop}
 use Rattle.gl_value.proofs.Steps.{item_trees-drop}
 use Rattle.gl_intern.specs.Tables.{tables}
-use Rattle.gl_intern.specs.Places.{then_some, sheet_of, scalar_in, value_in, sheet_place, place_of_sheet, place_of_frame, overrides_in, sheet_in, frame_in}
+use Rattle.gl_intern.specs.Places.{then_some, scalar_in, value_in, sheet_place, place_of_sheet, place_of_frame, overrides_in, sheet_in, frame_in}
 use Rattle.gl_intern.specs.declared.short.ShortScalar.TheVariants.{Sheet}
 use Rattle.gl_intern.specs.declared.short.ShortValue.TheVariants.{One}
 use Rattle.gl_intern.proofs.Additions.{AreListed, one_listed, all_listed, AreAdded, one_added, all_added, plain_scalar, sheet_added}
 use Rattle.gl_intern.proofs.Growing.{grows_grows, sheet_stays}
 use Rattle.gl_intern.proofs.Sizes.{scalar_size, value_size, item_less, override_less}
 use Rattle.gl_intern.proofs.parts.Parts.+add.Goals as goal
-
-pub add_short_sheet-returns-clause-ok : goal.add_short_sheet-returns-clause-ok
-add_short_sheet-returns-clause-ok t c =
-    let s = c.args.s.now in
-    let before = tables c.add_frame.new.self in
-    let now = tables c.add_overrides.new.self in
-    let last = subst (λ os. overrides_in now None (override_trees os) ≡ Some c.in_ok-last.last) c.deref.ensures.value c.in_ok-last.ensures.ok in
-    ap (sheet_in now) (sheet_tree_is s)
-    ∙ sheet_added before now s.region (override_trees s.overrides.items) (frame_tree s.env) s.rank s.weight c.in_ok-parent.parent c.in_ok-last.last c.in_ok-last.ensures.grows c.in_ok-parent.ensures.ok last
-
-pub add_sheet-returns-clause-ok : goal.add_sheet-returns-clause-ok
-add_sheet-returns-clause-ok t c =
-    let s = c.args.s.now in
-    let before = tables c.add_frame.new.self in
-    let now = tables c.add_overrides.new.self in
-    let end = tables c.place_sheet.new.self in
-    let last = subst (λ os. overrides_in now None (override_trees os) ≡ Some c.in_ok-last.last) c.deref.ensures.value c.in_ok-last.ensures.ok in
-    let short = sheet_of s.region s.rank s.weight c.in_ok-parent.parent c.in_ok-last.last in
-    let here =
-    ap (sheet_in now) (sheet_tree_is s)
-    ∙ sheet_added before now s.region (override_trees s.overrides.items) (frame_tree s.env) s.rank s.weight c.in_ok-parent.parent c.in_ok-last.last c.in_ok-last.ensures.grows c.in_ok-parent.ensures.ok last in
-    let there = sheet_stays now end c.place_sheet.ensures.grows (sheet_tree s) short here in
-    IfOk-weaker c.place_sheet.result (λ n. place_of_sheet end short ≡ Some n) (λ n. sheet_place end (sheet_tree s) ≡ Some n) (λ n h. ap (then_some (place_of_sheet end)) there ∙ h) c.place_sheet.ensures.ok
-
-pub add_sheet-returns-clause-grows : goal.add_sheet-returns-clause-grows
-add_sheet-returns-clause-grows t c =
-    let now = tables c.add_overrides.new.self in
-    let first = grows_grows (tables c.args.self.now) (tables c.add_frame.new.self) now c.in_ok-parent.ensures.grows c.in_ok-last.ensures.grows in
-    grows_grows (tables c.args.self.now) now (tables c.place_sheet.new.self) first c.place_sheet.ensures.grows
-
-pub add_sheet-returns-in_err-last-clause-grows : goal.add_sheet-returns-in_err-last-clause-grows
-add_sheet-returns-in_err-last-clause-grows t c =
-    grows_grows (tables c.args.self.now) (tables c.add_frame.new.self) (tables c.add_overrides.new.self) c.in_ok-parent.ensures.grows c.add_overrides.ensures.grows
 
 pub add_frame-returns-in_ok-i-in-In-clause-grows : goal.add_frame-returns-in_ok-i-in-In-clause-grows
 add_frame-returns-in_ok-i-in-In-clause-grows t c =
@@ -73,11 +40,7 @@ add_overrides-loop-at-preserved t c =
     let all = override_trees xs in
     let next = override_trees-drop xs i x (omega arith) c.loop-at-item.is in
     let added = subst (λ rest. AreAdded before at last rest all) next c.loop-at.invariant in
-    one_added before at (tables c.add_value.new.self) (tables c.add_behind.new.self) last x.0 (value_tree x.1) (override_trees (drop (i + 1) xs)) all c.in-Ok.short c.in-Ok-add_behind.next added c.in-Ok.ensures.grows c.in-Ok.ensures.ok c.in-Ok-add_behind.ensures.grows c.in-Ok-add_behind.ensures.ok
-
-pub add_short_sheet-returns-clause-grows : goal.add_short_sheet-returns-clause-grows
-add_short_sheet-returns-clause-grows t c =
-    grows_grows (tables c.args.self.now) (tables c.add_frame.new.self) (tables c.add_overrides.new.self) c.in_ok-parent.ensures.grows c.in_ok-last.ensures.grows
+    one_added before at (tables c.add_value.new.self) (tables c.add_behind.new.self) last x.0 (value_tree x.1) (override_trees (drop (i + 1) xs)) all c.in_ok-short.short c.in_ok-add_behind.field-0 added c.in_ok-short.ensures.grows c.in_ok-short.ensures.ok c.in_ok-add_behind.ensures.grows c.in_ok-add_behind.ensures.ok
 
 pub add_items-add_scalar-requires : goal.add_items-add_scalar-requires
 add_items-add_scalar-requires t c =
@@ -96,7 +59,7 @@ add_items-loop-x-preserved t c =
     let all = item_trees xs in
     let next = item_trees-drop xs i x (omega arith) c.x-item.is in
     let listed = subst (λ rest. AreListed before at last rest all) next c.loop-x.invariant in
-    one_listed before at (tables c.add_scalar.new.self) (tables c.add_item.new.self) last (scalar_tree x) (item_trees (drop (i + 1) xs)) all c.in-Ok.short c.in-Ok-add_item.i listed c.in-Ok.ensures.grows c.in-Ok.ensures.ok c.in-Ok-add_item.ensures.grows c.in-Ok-add_item.ensures.ok
+    one_listed before at (tables c.add_scalar.new.self) (tables c.add_item.new.self) last (scalar_tree x) (item_trees (drop (i + 1) xs)) all c.in_ok-short.short c.in_ok-add_item.field-0 listed c.in_ok-short.ensures.grows c.in_ok-short.ensures.ok c.in_ok-add_item.ensures.grows c.in_ok-add_item.ensures.ok
 
 pub add_overrides-add_value-requires : goal.add_overrides-add_value-requires
 add_overrides-add_value-requires t c =
@@ -148,13 +111,13 @@ add_items-returns-clause-ok t c =
     let none = at_drop_all item_trees xs c.loop-x.x-index (omega arith) in
     all_listed before now c.loop-x.last (item_trees xs) (subst (λ rest. AreListed before now c.loop-x.last rest (item_trees xs)) none c.loop-x.invariant)
 
-pub add_items-returns-in-Err-clause-grows : goal.add_items-returns-in-Err-clause-grows
-add_items-returns-in-Err-clause-grows t c =
+pub add_items-returns-in_err-short-clause-grows : goal.add_items-returns-in_err-short-clause-grows
+add_items-returns-in_err-short-clause-grows t c =
     grows_grows (tables c.args.self.now) (tables c.loop-x.self) (tables c.add_scalar.new.self) c.loop-x.invariant.grew c.add_scalar.ensures.grows
 
-pub add_items-returns-in-Err-add_item-clause-grows : goal.add_items-returns-in-Err-add_item-clause-grows
-add_items-returns-in-Err-add_item-clause-grows t c =
-    let step = grows_grows (tables c.loop-x.self) (tables c.add_scalar.new.self) (tables c.add_item.new.self) c.in-Ok.ensures.grows c.add_item.ensures.grows in
+pub add_items-returns-in_err-add_item-clause-grows : goal.add_items-returns-in_err-add_item-clause-grows
+add_items-returns-in_err-add_item-clause-grows t c =
+    let step = grows_grows (tables c.loop-x.self) (tables c.add_scalar.new.self) (tables c.add_item.new.self) c.in_ok-short.ensures.grows c.add_item.ensures.grows in
     grows_grows (tables c.args.self.now) (tables c.loop-x.self) (tables c.add_item.new.self) c.loop-x.invariant.grew step
 
 pub add_overrides-returns-clause-grows : goal.add_overrides-returns-clause-grows
@@ -169,19 +132,33 @@ add_overrides-returns-clause-ok t c =
     let none = at_drop_all override_trees xs c.loop-at.at-index (omega arith) in
     all_added before now c.loop-at.last (override_trees xs) (subst (λ rest. AreAdded before now c.loop-at.last rest (override_trees xs)) none c.loop-at.invariant)
 
-pub add_overrides-returns-in-Err-clause-grows : goal.add_overrides-returns-in-Err-clause-grows
-add_overrides-returns-in-Err-clause-grows t c =
+pub add_overrides-returns-in_err-short-clause-grows : goal.add_overrides-returns-in_err-short-clause-grows
+add_overrides-returns-in_err-short-clause-grows t c =
     grows_grows (tables c.args.self.now) (tables c.loop-at.self) (tables c.add_value.new.self) c.loop-at.invariant.grew c.add_value.ensures.grows
 
-pub add_overrides-returns-in-Err-add_behind-clause-grows : goal.add_overrides-returns-in-Err-add_behind-clause-grows
-add_overrides-returns-in-Err-add_behind-clause-grows t c =
-    let step = grows_grows (tables c.loop-at.self) (tables c.add_value.new.self) (tables c.add_behind.new.self) c.in-Ok.ensures.grows c.add_behind.ensures.grows in
+pub add_overrides-returns-in_err-add_behind-clause-grows : goal.add_overrides-returns-in_err-add_behind-clause-grows
+add_overrides-returns-in_err-add_behind-clause-grows t c =
+    let step = grows_grows (tables c.loop-at.self) (tables c.add_value.new.self) (tables c.add_behind.new.self) c.in_ok-short.ensures.grows c.add_behind.ensures.grows in
     grows_grows (tables c.args.self.now) (tables c.loop-at.self) (tables c.add_behind.new.self) c.loop-at.invariant.grew step
-
-pub add_short_sheet-returns-in_err-last-clause-grows : goal.add_short_sheet-returns-in_err-last-clause-grows
-add_short_sheet-returns-in_err-last-clause-grows t c =
-    grows_grows (tables c.args.self.now) (tables c.add_frame.new.self) (tables c.add_overrides.new.self) c.in_ok-parent.ensures.grows c.add_overrides.ensures.grows
 
 pub add_frame-returns-in_err-i-in-In-clause-grows : goal.add_frame-returns-in_err-i-in-In-clause-grows
 add_frame-returns-in_err-i-in-In-clause-grows t c =
     grows_grows (tables c.args.self.now) (tables c.add_short_sheet.new.self) (tables c.add_copy.new.self) c.in_ok-sheet-in-In.ensures.grows c.add_copy.ensures.grows
+
+pub add_within-returns-clause-ok : goal.add_within-returns-clause-ok
+add_within-returns-clause-ok t c =
+    let s = c.args.s.now in
+    let before = tables c.args.self.now in
+    let now = tables c.add_overrides.new.self in
+    let last = subst (λ os. overrides_in now None (override_trees os) ≡ Some c.in_ok-last.last) c.deref.ensures.value c.in_ok-last.ensures.ok in
+    ap (sheet_in now) (sheet_tree_is s)
+    ∙ sheet_added before now s.region (override_trees s.overrides.items) (frame_tree s.env) s.rank s.weight c.args.parent c.in_ok-last.last c.in_ok-last.ensures.grows c.requires last
+
+pub add_sheet_within-returns-clause-ok : goal.add_sheet_within-returns-clause-ok
+add_sheet_within-returns-clause-ok t c =
+    let s = sheet_tree c.args.s.now in
+    let now = tables c.add_within.new.self in
+    let end = tables c.place_sheet.new.self in
+    let short = c.in_ok-short.short in
+    let there = sheet_stays now end c.place_sheet.ensures.grows s short c.in_ok-short.ensures.ok in
+    IfOk-weaker c.place_sheet.result (λ n. place_of_sheet end short ≡ Some n) (λ n. sheet_place end s ≡ Some n) (λ n h. ap (then_some (place_of_sheet end)) there ∙ h) c.place_sheet.ensures.ok

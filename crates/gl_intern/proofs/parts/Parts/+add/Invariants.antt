@@ -26,6 +26,12 @@ decreases-add_value l = 1 + value_size (value_tree l.v.now)
 abbrev pub decreases-add_overrides : goal.decreases-add_overrides
 decreases-add_overrides l = overrides_size (override_trees l.overrides.now)
 
+abbrev pub decreases-add_within : goal.decreases-add_within
+decreases-add_within l = 1 + overrides_size (override_trees l.s.now.overrides.items)
+
+abbrev pub decreases-add_sheet_within : goal.decreases-add_sheet_within
+decreases-add_sheet_within l = 2 + overrides_size (override_trees l.s.now.overrides.items)
+
 abbrev pub decreases-add_short_sheet : goal.decreases-add_short_sheet
 decreases-add_short_sheet l = sheet_size (sheet_tree l.s.now)
 
