@@ -5,7 +5,7 @@ use Rattle.std.proofs.lemmas.Bool.{cases_eq}
 use Rattle.std.proofs.lemmas.List.{get_or-set_same, get_or-set_other, get_or_append_left, get_or_push, take_at}
 use Rattle.gl_query.specs.Lists.{Member}
 use Rattle.gl_graph.specs.Graph.{once, Reaches}
-use Rattle.gl_graph.specs.Search.{origin, mark_of, is_shut, is_new, fresh_frame, steps, shut_count, new_work, work, passes, last_of, Rises, AreOpen, AreCut, AreClosed, Holds, IsState}
+use Rattle.gl_graph.specs.Search.{origin, mark_of, is_shut, is_new, fresh_frame, steps, shut_count, new_work, work, passes, last_of, Rises, AreOpen, AreCut, AreClosed, Holds, IsState, IsTurn}
 use Rattle.gl_graph.proofs.Rising.{member_push, member_before, member_last, rises_last}
 use Rattle.gl_graph.proofs.Cut.{last_push, by_last}
 use Rattle.gl_graph.proofs.Closed.{cases_at, close_new}
@@ -20,12 +20,6 @@ use Rattle.gl_graph.specs.declared.state.Frame.{Frame}
 use borrow.Author.Tests.{eqb-true, eqb-false}
 
 module _ (left : ℕ → Place → List ℕ) (weight : ℕ → ℕ) (size : ℕ) where
-  -- what a turn keeps
-  pub record IsTurn (marks : List Mark) (frames : List Frame) (marks' : List Mark) (places' starts' : List ℕ) (frames' : List Frame) : Type 0 where
-    pub state : IsState left weight size marks' places' starts' frames'
-    pub kept : (m : ℕ) → is_new (mark_of marks' m) ≡ true → is_new (mark_of marks m) ≡ true
-    pub less : work left marks' frames' < work left marks frames
-
   -- ---- a new node
 
   module _ (marks : List Mark) (places starts : List ℕ) (gs : List Frame) (n : ℕ) (state : IsState left weight size marks places starts gs)
@@ -101,7 +95,7 @@ module _ (left : ℕ → Place → List ℕ) (weight : ℕ → ℕ) (size : ℕ)
         let w : 2 + length (left (0 + n) origin) ≡ 2 + length (left n origin) = ap (λ t. 2 + length (left t origin)) (omega arith) in
         omega (arith, u, v, w)
 
-    pub turn_new : IsTurn marks gs marks' (places ++ n ∷ []) (starts ++ length places ∷ []) (gs ++ fresh_frame n (length places) ∷ [])
+    pub turn_new : IsTurn left weight size marks gs marks' (places ++ n ∷ []) (starts ++ length places ∷ []) (gs ++ fresh_frame n (length places) ∷ [])
     turn_new = record {
       state = record {
         sized = length-set marks n (Open at) ∙ state.sized;
@@ -135,7 +129,7 @@ module _ (left : ℕ → Place → List ℕ) (weight : ℕ → ℕ) (size : ℕ)
 
     -- a step to a new node
     pub turn_to_new : (n : ℕ) (place : Place) → left f.node f.place ≡ n ∷ left f.node place → mark_of marks n ≡ New → n < size →
-        IsTurn marks (fs ++ f ∷ []) (set marks n (Open (length places))) (places ++ n ∷ []) (starts ++ length places ∷ []) ((fs ++ f ∷ []) ++ fresh_frame n (length places) ∷ [])
+        IsTurn left weight size marks (fs ++ f ∷ []) (set marks n (Open (length places))) (places ++ n ∷ []) (starts ++ length places ∷ []) ((fs ++ f ∷ []) ++ fresh_frame n (length places) ∷ [])
     turn_to_new n place taken new l =
         turn_new marks places starts (fs ++ f ∷ []) n state new l
         (λ m i e. reaches_on (steps left weight) m f.node n (to_last left weight (mark_of marks) (length places) starts fs f state.holds m i e)
@@ -158,7 +152,7 @@ module _ (left : ℕ → Place → List ℕ) (weight : ℕ → ℕ) (size : ℕ)
           by (inl j) = state.frame_low h (member_before h f fs j)
           by (inr e) = let u : h.high ≡ g.high = ap (λ t. t.high) e in omega (arith, u, l)
 
-      known : (starts' : List ℕ) → Holds left weight (mark_of marks) (length places) starts' (fs ++ g ∷ []) → g.high ≤ shut_count marks → IsTurn marks (fs ++ f ∷ []) marks places starts' (fs ++ g ∷ [])
+      known : (starts' : List ℕ) → Holds left weight (mark_of marks) (length places) starts' (fs ++ g ∷ []) → g.high ≤ shut_count marks → IsTurn left weight size marks (fs ++ f ∷ []) marks places starts' (fs ++ g ∷ [])
       known starts' h l = record {
         state = record { sized = state.sized; opens = state.opens; holds = h; low = state.low; frame_low = frames_low l };
         kept = λ m e. e;
@@ -168,13 +162,13 @@ module _ (left : ℕ → Place → List ℕ) (weight : ℕ → ℕ) (size : ℕ)
       own_low : f.high ≤ shut_count marks
       own_low = state.frame_low f (member_last f fs)
 
-      pub turn_to_plain : (h : ℕ) → mark_of marks n ≡ Plain h → g.high ≡ max f.high h → g.looped ≡ f.looped → IsTurn marks (fs ++ f ∷ []) marks places starts (fs ++ g ∷ [])
+      pub turn_to_plain : (h : ℕ) → mark_of marks n ≡ Plain h → g.high ≡ max f.high h → g.looped ≡ f.looped → IsTurn left weight size marks (fs ++ f ∷ []) marks places starts (fs ++ g ∷ [])
       turn_to_plain h e d u = known starts (passed_plain left weight (mark_of marks) (length places) starts fs f g state.holds n place taken node at on h e d u) (omega (arith, d, own_low, state.low n h e))
 
-      pub turn_to_circle : mark_of marks n ≡ Circle → g.high ≡ f.high → g.looped ≡ f.looped → IsTurn marks (fs ++ f ∷ []) marks places starts (fs ++ g ∷ [])
+      pub turn_to_circle : mark_of marks n ≡ Circle → g.high ≡ f.high → g.looped ≡ f.looped → IsTurn left weight size marks (fs ++ f ∷ []) marks places starts (fs ++ g ∷ [])
       turn_to_circle e d u = known starts (passed_circle left weight (mark_of marks) (length places) starts fs f g state.holds n place taken node at on e d u) (omega (arith, d, own_low))
 
-      pub turn_to_open : (j : ℕ) (starts' : List ℕ) → mark_of marks n ≡ Open j → AreCut starts j starts' → g.high ≡ f.high → g.looped ≡ true → IsTurn marks (fs ++ f ∷ []) marks places starts' (fs ++ g ∷ [])
+      pub turn_to_open : (j : ℕ) (starts' : List ℕ) → mark_of marks n ≡ Open j → AreCut starts j starts' → g.high ≡ f.high → g.looped ≡ true → IsTurn left weight size marks (fs ++ f ∷ []) marks places starts' (fs ++ g ∷ [])
       turn_to_open j starts' e cut d u = known starts' (joined left weight (mark_of marks) (length places) starts fs f g state.holds n place taken node at on j starts' e cut.rises cut.from cut.kept d u) (omega (arith, d, own_low))
 
     -- no step is left
@@ -182,7 +176,7 @@ module _ (left : ℕ → Place → List ℕ) (weight : ℕ → ℕ) (size : ℕ)
       fewer_frames : (marks' : List Mark) → new_work (λ m. 2 + length (left m origin)) 0 marks' ≡ new_work (λ m. 2 + length (left m origin)) 0 marks → work left marks' fs < work left marks (fs ++ f ∷ [])
       fewer_frames marks' e = let u = frames_push left fs f in omega (arith, u, e)
 
-      pub turn_back : passes (λ s. nat_eq s f.at) (last_of starts) ≡ false → IsTurn marks (fs ++ f ∷ []) marks places starts fs
+      pub turn_back : passes (λ s. nat_eq s f.at) (last_of starts) ≡ false → IsTurn left weight size marks (fs ++ f ∷ []) marks places starts fs
       turn_back e = record {
         state = record {
           sized = state.sized;
@@ -209,7 +203,7 @@ module _ (left : ℕ → Place → List ℕ) (weight : ℕ → ℕ) (size : ℕ)
       -- the first of its segment
       pub turn_out : (n : ℕ) → n ≡ length starts → (popped : List ℕ) (marks' : List Mark) (places' : List ℕ) (M : Mark) → weight f.node ≤ 1 → passes (λ s. nat_eq s f.at) (last_of starts) ≡ true → popped ≡ take (n - 1) starts →
           M ≡ (if f.looped then Circle else Plain (weight f.node + f.high)) → AreClosed marks f.at M (length places - f.at) marks' → AreOpen (mark_of marks') places' → length places' ≡ f.at →
-          IsTurn marks (fs ++ f ∷ []) marks' places' popped fs
+          IsTurn left weight size marks (fs ++ f ∷ []) marks' places' popped fs
       turn_out n many popped marks' places' M small e p is closed opens count = record {
         state = record {
           sized = closed.size ∙ state.sized;
@@ -254,12 +248,9 @@ module _ (left : ℕ → Place → List ℕ) (weight : ℕ → ℕ) (size : ℕ)
 
 -- ---- the lists that a call leaves
 
-pub same_state : (left : ℕ → Place → List ℕ) (weight : ℕ → ℕ) (size : ℕ) (m m' : List Mark) (p p' s s' : List ℕ) (f f' : List Frame) → m' ≡ m → p' ≡ p → s' ≡ s → f' ≡ f → IsState left weight size m p s f → IsState left weight size m' p' s' f'
-same_state left weight size m m' p p' s s' f f' a b c d h =
-    subst (λ t. IsState left weight size t p' s' f') (sym a) (subst (λ t. IsState left weight size m t s' f') (sym b) (subst (λ t. IsState left weight size m p t f') (sym c) (subst (λ t. IsState left weight size m p s t) (sym d) h)))
-
-pub same_less : (left : ℕ → Place → List ℕ) (m m' old : List Mark) (f f' before : List Frame) → m' ≡ m → f' ≡ f → work left m f < work left old before → work left m' f' < work left old before
-same_less left m m' old f f' before a d h = subst (λ t. work left t f' < work left old before) (sym a) (subst (λ t. work left m t < work left old before) (sym d) h)
+pub same_turn : (left : ℕ → Place → List ℕ) (weight : ℕ → ℕ) (size : ℕ) (old : List Mark) (before : List Frame) (m m' : List Mark) (p p' s s' : List ℕ) (f f' : List Frame) → m' ≡ m → p' ≡ p → s' ≡ s → f' ≡ f → IsTurn left weight size old before m p s f → IsTurn left weight size old before m' p' s' f'
+same_turn left weight size old before m m' p p' s s' f f' a b c d h =
+    subst (λ t. IsTurn left weight size old before t p' s' f') (sym a) (subst (λ t. IsTurn left weight size old before m t s' f') (sym b) (subst (λ t. IsTurn left weight size old before m p t f') (sym c) (subst (λ t. IsTurn left weight size old before m p s t) (sym d) h)))
 
 -- ---- the first turn and the last
 

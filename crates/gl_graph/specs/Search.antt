@@ -130,6 +130,12 @@ module _ (left : ℕ → Place → List ℕ) (weight : ℕ → ℕ) where
     pub low : (m h : ℕ) → mark_of marks m ≡ Plain h → h ≤ shut_count marks
     pub frame_low : (f : Frame) → Member f frames → f.high ≤ shut_count marks
 
+  -- what a turn keeps
+  pub record IsTurn (size : ℕ) (marks : List Mark) (frames : List Frame) (marks' : List Mark) (places' starts' : List ℕ) (frames' : List Frame) : Type 0 where
+    pub state : IsState size marks' places' starts' frames'
+    pub kept : (m : ℕ) → is_new (mark_of marks' m) ≡ true → is_new (mark_of marks m) ≡ true
+    pub less : work left marks' frames' < work left marks frames
+
   -- it is between two visits: no step is still to come
   abbrev pub Knows : ℕ → List Mark → List ℕ → List ℕ → List Frame → Type 0
   Knows size marks places starts frames = IsState size marks places starts frames × (frames ≡ [])

@@ -1,11 +1,10 @@
 //! The search: from a node along steps, with the nodes on the way in segments that lead to each
 //! other. A step back to an open node joins the segments down to it into one; where the first node
 //! of the last segment has no step left, the whole segment is known.
-ghost use Rattle.std.specs.Prelude.{◌≡◌, ◌<◌, ◌≤◌, ◌+◌, ◌++◌, ◌∷◌, ℕ, [], true, length, OnOk, IfOk};
-ghost use Rattle.std.specs.Prelude.{vec_len, set, if◌then◌else◌};
-ghost use Rattle.gl_graph.specs.Search.{mark_of, is_shut, is_new, fresh_frame, work, frame_work};
-ghost use Rattle.gl_graph.specs.Search.{shut_count, IsState};
-ghost use Rattle.gl_graph.specs.Searches.{known_of, nodes_in, IsSearchOf};
+ghost use Rattle.std.specs.Prelude.{◌≡◌, ◌<◌, ◌++◌, ◌∷◌, [], true, length, OnOk, IfOk, vec_len, set};
+ghost use Rattle.std.specs.Prelude.{if◌then◌else◌};
+ghost use Rattle.gl_graph.specs.Search.{is_shut, is_new, fresh_frame};
+ghost use Rattle.gl_graph.specs.Searches.{known_of, nodes_in, IsSearchOf, IsSearchWith, Turns};
 ghost use Rattle.gl_graph.specs.declared.mark.Mark.TheVariants.{Open, Plain, Circle};
 
 use crate::closing::close;
@@ -105,19 +104,11 @@ impl Search {
 
     /// Takes the next step of a node, whose frame was the last.
     fn turn<G: Graph>(&mut self, graph: &G, frame: Frame) -> Result<(), NoMemory>
-        requires state { IsState (G.left graph.now) (G.weight graph.now) (G.size graph.now)
-            self.old.marks.items self.old.open.items self.old.starts.items
-            (self.old.frames.items ++ frame ∷ []) }
-        ensures state { OnOk result (
-            IsState (G.left graph.now) (G.weight graph.now) (G.size graph.now) self.new.marks.items
-            self.new.open.items self.new.starts.items self.new.frames.items) }
-        ensures kept { OnOk result (
-            (m : ℕ)
-            → is_new (mark_of self.new.marks.items m) ≡ true
-            → is_new (mark_of self.old.marks.items m) ≡ true) }
-        ensures less { OnOk result (
-            work (G.left graph.now) self.new.marks.items self.new.frames.items
-            < work (G.left graph.now) self.old.marks.items (self.old.frames.items ++ frame ∷ [])) }
+        requires state { IsSearchWith (G.left graph.now) (G.weight graph.now) (G.size graph.now)
+            self.old frame }
+        ensures { OnOk result (
+            Turns (G.left graph.now) (G.weight graph.now) (G.size graph.now)
+            self.old frame self.new) }
     {
         match graph.next(frame.node, frame.place) {
             Some((node, place)) => self.step(graph, frame, node, place),
@@ -136,22 +127,14 @@ impl Search {
         node: u32,
         place: Place,
     ) -> Result<(), NoMemory>
-        requires state { IsState (G.left graph.now) (G.weight graph.now) (G.size graph.now)
-            self.old.marks.items self.old.open.items self.old.starts.items
-            (self.old.frames.items ++ frame ∷ []) }
+        requires state { IsSearchWith (G.left graph.now) (G.weight graph.now) (G.size graph.now)
+            self.old frame }
         requires taken { G.left graph.now frame.node frame.place
             ≡ node ∷ G.left graph.now frame.node place }
         requires inside { node < G.size graph.now }
-        ensures state { OnOk result (
-            IsState (G.left graph.now) (G.weight graph.now) (G.size graph.now) self.new.marks.items
-            self.new.open.items self.new.starts.items self.new.frames.items) }
-        ensures kept { OnOk result (
-            (m : ℕ)
-            → is_new (mark_of self.new.marks.items m) ≡ true
-            → is_new (mark_of self.old.marks.items m) ≡ true) }
-        ensures less { OnOk result (
-            work (G.left graph.now) self.new.marks.items self.new.frames.items
-            < work (G.left graph.now) self.old.marks.items (self.old.frames.items ++ frame ∷ [])) }
+        ensures { OnOk result (
+            Turns (G.left graph.now) (G.weight graph.now) (G.size graph.now)
+            self.old frame self.new) }
     {
         match self.mark(node) {
             Mark::New => {
@@ -199,17 +182,11 @@ impl Search {
 
     /// Leaves a node without steps left. Where it is the first of its segment, all of it is known.
     fn leave<G: Graph>(&mut self, graph: &G, frame: Frame)
-        requires state { IsState (G.left graph.now) (G.weight graph.now) (G.size graph.now)
-            self.old.marks.items self.old.open.items self.old.starts.items
-            (self.old.frames.items ++ frame ∷ []) }
+        requires state { IsSearchWith (G.left graph.now) (G.weight graph.now) (G.size graph.now)
+            self.old frame }
         requires done { G.left graph.now frame.node frame.place ≡ [] }
-        ensures state { IsState (G.left graph.now) (G.weight graph.now) (G.size graph.now)
-            self.new.marks.items self.new.open.items self.new.starts.items self.new.frames.items }
-        ensures kept { (m : ℕ)
-            → is_new (mark_of self.new.marks.items m) ≡ true
-            → is_new (mark_of self.old.marks.items m) ≡ true }
-        ensures less { work (G.left graph.now) self.new.marks.items self.new.frames.items
-            < work (G.left graph.now) self.old.marks.items (self.old.frames.items ++ frame ∷ []) }
+        ensures { Turns (G.left graph.now) (G.weight graph.now) (G.size graph.now)
+            self.old frame self.new }
     {
         let _size = graph.size();
         let height = graph.weight(frame.node) + frame.high;
