@@ -41,31 +41,7 @@ fn add_edge(edges: &mut Vec<Vec<usize>>, a: usize, b: usize) -> Result<(), NoMem
     Ok(())
 }
 
-/// An edge to `b` from the key that is read, where it has a number.
-fn add_read<K: Share + Hash + Drop>(
-    nodes: &IndexSet<K>,
-    edges: &mut Vec<Vec<usize>>,
-    k: &K,
-    b: usize,
-) -> Result<(), NoMemory>
-    requires nodes { index_set_len nodes.now ≡ vec_len edges.old }
-    requires to { b < vec_len edges.old }
-    requires graph { IsGraph edges.old.items }
-    ensures edges { OnOk result (
-        (i c : ℕ)
-        → has (row_of edges.new.items i) c
-        ≡ (has (row_of edges.old.items i) c
-        || (stands_at K.eq nodes.now.keys k.now i && nat_eq c b))) }
-    ensures graph { IsGraph edges.new.items }
-    ensures size { vec_len edges.new ≡ vec_len edges.old }
-{
-    match nodes.get_index_of(k) {
-        Some(a) => add_edge(edges, a, b),
-        None => Ok(()),
-    }
-}
-
-/// Edges to `b` from all keys that are read.
+/// Edges to `b` from the keys that are read, where they have numbers.
 fn add_reads<K: Share + Hash + Drop>(
     nodes: &IndexSet<K>,
     edges: &mut Vec<Vec<usize>>,
@@ -84,7 +60,9 @@ fn add_reads<K: Share + Hash + Drop>(
     ensures size { vec_len edges.new ≡ vec_len edges.old }
 {
     for k in reads {
-        add_read(nodes, edges, k, b)?;
+        if let Some(a) = nodes.get_index_of(k) {
+            add_edge(edges, a, b)?;
+        }
     }
     Ok(())
 }
