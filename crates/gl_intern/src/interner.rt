@@ -68,7 +68,7 @@ impl Interner {
 
     /// The number of a sheet value, which goes last where it is new. It takes one step where the
     /// guess is the number of its parent frame. After `NoMemory` all is as before.
-    pub fn sheet_within(&mut self, s: &Rc<SheetVal>, guess: Option<u32>) -> Result<usize, NoMemory>
+    pub fn sheet(&mut self, s: &Rc<SheetVal>, guess: Option<u32>) -> Result<usize, NoMemory>
         ensures list { OnOk result
             (self.new.sheets ≡ insert_key same_sheet self.old.sheets (sheet_tree s.now.value)) }
         ensures frames { self.new.frames ≡ self.old.frames }
@@ -83,7 +83,7 @@ impl Interner {
 
     /// The number of a frame, which goes last where it is new. It takes one step where the guess is
     /// the number of the parent frame of its sheet value. After `NoMemory` all is as before.
-    pub fn frame_within(&mut self, e: &Env, guess: Option<u32>) -> Result<usize, NoMemory>
+    pub fn frame(&mut self, e: &Env, guess: Option<u32>) -> Result<usize, NoMemory>
         ensures list { OnOk result
             (self.new.frames ≡ insert_key same_frame self.old.frames (frame_tree e.now)) }
         ensures sheets { self.new.sheets ≡ self.old.sheets }
