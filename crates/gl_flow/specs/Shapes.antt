@@ -5,7 +5,7 @@ use Rattle.std.specs.declared.rc.RcStr.{RcStr}
 use Rattle.std.specs.declared.alloc.Global.{Global}
 use Rattle.gl_calculus.specs.Grid.{Addr, Size}
 use Rattle.gl_calculus.specs.Formula.{Cells, content, formula_addresses}
-use Rattle.gl_forecast.specs.Forecast.{Shape, Shapes, any_size, full, flipped, under, cut, spilled_shape, content_shape}
+use Rattle.gl_forecast.specs.Forecast.{Shape, Shapes, any_size, flipped, under, cut, spilled_shape, content_shape}
 use Rattle.gl_flow.specs.Places.{shape_in}
 
 -- the variables that are bound, innermost first, with their shapes
@@ -33,14 +33,9 @@ abbrev pub shapes_at : Cells → ℕ → List Shape
 shapes_at S n = map (spilled_shape S n) (formula_addresses S)
 
 -- the first shape, if there is one
-abbrev pub first_shape : List Shape → Shape
+abbrev pub first_shape : List Shape → Option Shape
 first_shape [] = None
-first_shape (s ∷ ss) = s
-
--- the extents of the first shape, if there is one
-abbrev pub full_first : List Shape → Shape
-full_first [] = None
-full_first (s ∷ ss) = Some (full s)
+first_shape (s ∷ ss) = Some s
 
 -- the shape, where there is one
 abbrev pub shape_of : Option Shape → Shape

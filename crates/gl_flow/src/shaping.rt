@@ -3,7 +3,7 @@ ghost use Rattle.std.specs.Prelude.{◌≡◌, ◌≢◌, ◌++◌, ◌∷◌, [
 ghost use Rattle.std.specs.Prelude.{option_map, bytes_eq, length, slice_get};
 ghost use Rattle.std.specs.Rc.{rc_str_bytes};
 ghost use Rattle.gl_flow.specs.Shapes.{bindings_of, spilled_at, shape_of, turned, stacked};
-ghost use Rattle.gl_flow.specs.Shapes.{first_shape, full_first};
+ghost use Rattle.gl_flow.specs.Shapes.{first_shape};
 ghost use Rattle.gl_flow.specs.Places.{are_in_order};
 ghost use Rattle.gl_calculus.specs.Formula as F;
 ghost use Rattle.gl_ast.specs.View.{formula_tree, fun_tree, argument_trees, operand_trees};
@@ -93,20 +93,6 @@ fn share_onto(
     Ok(())
 }
 
-/// One binding alone.
-fn first_binding(
-    alloc: Global,
-    name: &RcStr,
-    s: Option<Extents>,
-) -> Result<Vec<(RcStr, Option<Extents>)>, NoMemory>
-    ensures { IfOk result (λ v. bindings_of v.items ≡ (rc_str_bytes name.now, s) ∷ []) }
-{
-    let name = name.clone()?;
-    let mut list = Vec::new(alloc);
-    list.push((name, s))?;
-    Ok(list)
-}
-
 /// The variables with one more, which is the innermost.
 fn bind(
     alloc: Global,
@@ -117,7 +103,7 @@ fn bind(
     ensures { IfOk result (λ v.
         bindings_of v.items ≡ (rc_str_bytes name.now, s) ∷ bindings_of bindings.now) }
 {
-    let mut list = first_binding(alloc, name, s)?;
+    let mut list = vec![in alloc; share_binding(name, s)?]?;
     share_onto(&mut list, bindings)?;
     Ok(list)
 }
@@ -259,10 +245,16 @@ fn call(
         Fun::Sequence => Ok(Some(sequence(xs))),
         Fun::Transpose => {
             let s = first(alloc, spilled, bindings, xs)?;
-            Ok(flipped_shape(s))
+            Ok(flipped_shape(flat(s)))
         }
-        Fun::Unique => first(alloc, spilled, bindings, xs),
-        Fun::Take | Fun::Drop | Fun::Filter => full_first(alloc, spilled, bindings, xs),
+        Fun::Unique => {
+            let s = first(alloc, spilled, bindings, xs)?;
+            Ok(flat(s))
+        }
+        Fun::Take | Fun::Drop | Fun::Filter => {
+            let s = first(alloc, spilled, bindings, xs)?;
+            Ok(full_shape(s))
+        }
         Fun::HStack => {
             let s = stack(alloc, spilled, bindings, true, xs)?;
             Ok(Some(flipped(s)))
@@ -288,14 +280,14 @@ fn call(
     }
 }
 
-/// The shape of the first argument; none without one.
+/// The shape of the first argument, where there is one.
 #[cycle(shape)]
 fn first(
     alloc: Global,
     spilled: &Spilled,
     bindings: &[(RcStr, Option<Extents>)],
     xs: &[Formula],
-) -> Result<Option<Extents>, NoMemory>
+) -> Result<Option<Option<Extents>>, NoMemory>
     ensures { IfOk result (λ s.
         s
         ≡ first_shape
@@ -303,29 +295,9 @@ fn first(
         (bindings_of bindings.now) (argument_trees xs.now))) }
 {
     match xs.split_first() {
-        Some((x, _)) => shape(alloc, spilled, bindings, x),
-        None => Ok(None),
-    }
-}
-
-/// The extents of the first argument; none without one.
-#[cycle(shape)]
-fn full_first(
-    alloc: Global,
-    spilled: &Spilled,
-    bindings: &[(RcStr, Option<Extents>)],
-    xs: &[Formula],
-) -> Result<Option<Extents>, NoMemory>
-    ensures { IfOk result (λ s.
-        s
-        ≡ full_first
-        (Fo.shapes (spilled_at spilled.now.any spilled.now.places.now spilled.now.shapes.now)
-        (bindings_of bindings.now) (argument_trees xs.now))) }
-{
-    match xs.split_first() {
         Some((x, _)) => {
             let s = shape(alloc, spilled, bindings, x)?;
-            Ok(Some(full(s)))
+            Ok(Some(s))
         }
         None => Ok(None),
     }
@@ -404,6 +376,26 @@ fn turned(flip: bool, s: Extents) -> Extents
     ensures { result ≡ turned flip s }
 {
     if flip { flipped(s) } else { s }
+}
+
+/// A shape, where there is one.
+fn flat(s: Option<Option<Extents>>) -> Option<Extents>
+    ensures { result ≡ shape_of s }
+{
+    match s {
+        Some(s) => s,
+        None => None,
+    }
+}
+
+/// The extents of a shape, where there is one.
+fn full_shape(s: Option<Option<Extents>>) -> Option<Extents>
+    ensures { result ≡ option_map Fo.full s }
+{
+    match s {
+        Some(s) => Some(full(s)),
+        None => None,
+    }
 }
 
 /// A shape with rows and columns exchanged.

@@ -1,7 +1,9 @@
 //! Edits.
 ghost use Rattle.std.specs.Prelude.{◌≡◌};
-ghost use Rattle.std.specs.Option.{option_copied};
-ghost use Rattle.gl_merge.specs.Edit.{IsProperOption, edit_tree, made};
+ghost use Rattle.std.specs.{Coded.codes, Option.option_copied};
+ghost use Rattle.gl_ast.specs.contracts.Formula as formula;
+ghost use Rattle.gl_value.specs.contracts.Scalar as scalar;
+ghost use Rattle.gl_merge.specs.Edit.{EditValue, IsProperOption, edit_tree, made};
 
 use crate::Stamp;
 use gl_cells::Content;
@@ -17,11 +19,6 @@ pub struct Edit {
 }
 
 impl Model for Edit {
-    ghost use Rattle.std.specs.Coded.{codes};
-    ghost use Rattle.gl_ast.specs.contracts.Formula as formula;
-    ghost use Rattle.gl_value.specs.contracts.Scalar as scalar;
-    ghost use Rattle.gl_merge.specs.Edit.{EditValue, IsProperOption};
-
     ghost Value = { EditValue };
 
     ghost coded = { Prim.hlevel (codes, scalar.the_row.coded, formula.the_row.coded) };
