@@ -19,19 +19,19 @@ loop-k-preserved g c =
     let old = c.args.edges.now.items in
     let inside : k < length reads = omega arith in
     let after : (i n : ℕ) (new : Bool) → new ≡ (has (row_of at i) n || (stands_at same ks x i && nat_eq n c.args.b)) → new ≡ (has (row_of old i) n || (reads_at same ks (take (k + 1) reads) i && nat_eq n c.args.b)) = λ i n new e.
-        let here = stands_at same ks x i in
-        let before = reads_at same ks (take k reads) i in
-        let more = any_step (λ y. stands_at same ks y i) reads k x before (before || here) inside c.k-item.is refl refl in
-        e ∙ ap (λ b. b || (here && nat_eq n c.args.b)) (c.loop-k.invariant.edges i n) ∙ joined (has (row_of old i) n) before here (reads_at same ks (take (k + 1) reads) i) (nat_eq n c.args.b) (sym more) in
+    let here = stands_at same ks x i in
+    let before = reads_at same ks (take k reads) i in
+    let more = any_step (λ y. stands_at same ks y i) reads k x before (before || here) inside c.k-item.is refl refl in
+    e ∙ ap (λ b. b || (here && nat_eq n c.args.b)) (c.loop-k.invariant.edges i n) ∙ joined (has (row_of old i) n) before here (reads_at same ks (take (k + 1) reads) i) (nat_eq n c.args.b) (sym more) in
     elim c.match-get_index_of.branch [
-      in-Some+in_ok-add_edge w ↦ record {
+      | in-Some+in_ok-add_edge w ↦ record {
         edges = λ i n.
             ap (λ v. has (row_of v.items i) n) w.edges-is
             ∙ after i n _ (w.in_ok-add_edge.ensures.edges i n ∙ ap (λ b. has (row_of at i) n || (b && nat_eq n c.args.b)) (sym (stands-Some same ks x w.in-Some.a i w.in-Some.ensures.index)));
         graph = subst (λ v. IsGraph v.items) (sym w.edges-is) w.add_edge.ensures.graph;
         size = ap vec_len w.edges-is ∙ w.add_edge.ensures.size ∙ c.loop-k.invariant.size;
       }
-    | in_default w ↦ record {
+      | in_default w ↦ record {
         edges = λ i n.
             ap (λ v. has (row_of v.items i) n) w.edges-is
             ∙ after i n _ (sym (or_false (has (row_of at i) n)) ∙ ap (λ b. has (row_of at i) n || (b && nat_eq n c.args.b)) (sym (stands-None same ks x i w.in_default.ensures.found)));
