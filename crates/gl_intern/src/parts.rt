@@ -14,6 +14,7 @@ use std::rc::Rc;
 
 /// What values are made of, each part at its place. A part holds only places that were given
 /// before its own.
+#[derive(Drop)]
 pub struct Parts {
     /// scalars that are neither integers nor sheet values
     pub scalars: IndexSet<Scalar>,
@@ -25,21 +26,6 @@ pub struct Parts {
     pub overrides: IndexSet<ShortOverride>,
     pub sheets: IndexSet<ShortSheet>,
     pub frames: IndexSet<ShortFrame>,
-}
-
-// One call wherever it is dropped, in place of one for each part.
-impl Drop for Parts {
-    fn drop(self) {
-        let Parts {
-            scalars,
-            arrays,
-            items,
-            oracles,
-            overrides,
-            sheets,
-            frames,
-        } = self;
-    }
 }
 
 impl Parts {
