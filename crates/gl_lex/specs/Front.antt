@@ -49,10 +49,10 @@ abbrev pub Decides : Bytes → Result (Kind × ℕ) Bad → Type 0
 Decides bytes (Ok p) = IsFront bytes p.0 p.1
 Decides bytes (Err e) = Refuses bytes e
 
--- the same of a text alone
-abbrev pub DecidesText : Bytes → Result (RcStr Global × ℕ) Bad → Type 0
-DecidesText bytes (Ok p) = IsFront bytes (k.Text p.0) p.1
-DecidesText bytes (Err e) = Refuses bytes e
+-- the same of a text alone, behind whose quote the bytes are no text where there is none
+abbrev pub DecidesText : Bytes → Option (RcStr Global × ℕ) → Type 0
+DecidesText bytes (Some p) = IsFront bytes (k.Text p.0) p.1
+DecidesText bytes None = Refuses bytes bad.Text
 
 -- a row of upper case letters, as a token
 abbrev pub word_token : Bytes → T.Token

@@ -3,6 +3,7 @@
 ghost use Rattle.std.specs.Prelude.{◌≡◌, List, ℕ, slice_index};
 ghost use Rattle.gl_language.specs.Token as T;
 ghost use Rattle.gl_lex.specs.{Front.NoToken, Front.Refuses, View.IsRefused};
+ghost use Rattle.gl_lex.specs.declared.fault.LexFault.TheVariants.{NoMemory};
 
 use crate::scan::Bad;
 use std::alloc::{AllocError, AllocFailed};
@@ -20,9 +21,6 @@ pub enum LexFault {
 }
 
 impl<T: Drop> From<AllocFailed<T>> for LexFault {
-    ghost use Rattle.std.specs.Prelude.{◌≡◌};
-    ghost use Rattle.gl_lex.specs.declared.fault.LexFault.TheVariants.{NoMemory};
-
     ghost from_gives = { λ _ e. e ≡ NoMemory };
 
     fn from(_error: AllocFailed<T>) -> LexFault {

@@ -1,7 +1,7 @@
 //! The token in front of a text.
 
 ghost use Rattle.std.specs.Prelude.{◌≡◌, ◌≤◌, ◌<◌, ◌∷◌, length, ◌^◌, slice_index, true, false};
-ghost use Rattle.std.specs.Prelude.{nat_eq, MatchOption, pos, option_map};
+ghost use Rattle.std.specs.Prelude.{nat_eq, IfOk, MatchOption, pos, option_map};
 ghost use Rattle.std.specs.Str.{bytes_eq};
 ghost use Rattle.gl_language.specs.Token.{digits_value};
 ghost use Rattle.gl_lex.specs.Front.{Decides, DecidesText};
@@ -10,8 +10,8 @@ ghost use Rattle.gl_lex.specs.Front as front;
 
 use crate::quote::decode;
 use crate::{Kind, Sign};
-use gl_plane::{Addr, MAX_TEXT};
-use std::alloc::{AllocError, Global};
+use gl_plane::{Addr, MAX_TEXT, NoMemory};
+use std::alloc::Global;
 use std::rc::RcStr;
 
 /// The bytes that stand in rows.
@@ -29,17 +29,6 @@ pub enum Bad {
     Number,
     Text,
     NoMemory,
-}
-
-impl From<AllocError> for Bad {
-    ghost use Rattle.std.specs.Prelude.{◌≡◌};
-    ghost use Rattle.gl_lex.specs.declared.scan.Bad.TheVariants.{NoMemory};
-
-    ghost from_gives = { λ _ e. e ≡ NoMemory };
-
-    fn from(_error: AllocError) -> Bad {
-        Bad::NoMemory
-    }
 }
 
 fn is_in(class: Class, b: u8) -> bool
@@ -142,20 +131,21 @@ fn variable(bytes: &[u8]) -> (Kind, usize)
     (Kind::Variable, row(Class::Lower, bytes))
 }
 
-/// A text, behind whose opening quote the bytes are.
-pub fn quoted(alloc: Global, rest: &[u8]) -> Result<(RcStr, usize), Bad>
+/// The text behind whose opening quote the bytes are, with how many bytes it and its quotes have, or
+/// `None` where no text is there.
+pub fn quoted(alloc: Global, rest: &[u8]) -> Result<Option<(RcStr, usize)>, NoMemory>
     requires { length rest.now < 2 ^ 63 }
-    ensures { DecidesText (34 ∷ rest.now) result }
+    ensures { IfOk result (λ text. DecidesText (34 ∷ rest.now) text) }
 {
     let Some((decoded, n)) = decode(alloc, rest)? else {
-        return Err(Bad::Text);
+        return Ok(None);
     };
     if decoded.len() > MAX_TEXT {
-        return Err(Bad::Text);
+        return Ok(None);
     }
     match String::from_utf8(decoded) {
-        Ok(text) => Ok((RcStr::from_string(text)?, n + 1)),
-        Err(_) => Err(Bad::Text),
+        Ok(text) => Ok(Some((RcStr::from_string(text)?, n + 1))),
+        Err(_) => Ok(None),
     }
 }
 
@@ -239,7 +229,8 @@ pub fn cut(alloc: Global, bytes: &[u8]) -> Result<(Kind, usize), Bad>
         return signed(bytes);
     }
     match quoted(alloc, &bytes[1..]) {
-        Ok((text, n)) => Ok((Kind::Text(text), n)),
-        Err(bad) => Err(bad),
+        Ok(Some((text, n))) => Ok((Kind::Text(text), n)),
+        Ok(None) => Err(Bad::Text),
+        Err(NoMemory) => Err(Bad::NoMemory),
     }
 }

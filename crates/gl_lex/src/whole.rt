@@ -4,7 +4,8 @@ ghost use Rattle.std.specs.Prelude.{◌∷◌};
 ghost use Rattle.gl_lex.specs.View.{IsLiteral};
 
 use crate::fault::LexFault;
-use crate::scan::{Bad, quoted};
+use crate::scan::quoted;
+use gl_plane::NoMemory;
 use std::alloc::Global;
 use std::rc::RcStr;
 
@@ -32,14 +33,14 @@ fn behind_quote(alloc: Global, rest: &[u8]) -> Result<RcStr, LexFault>
     ensures { IsLiteral (34 ∷ rest.now) result }
 {
     match quoted(alloc, rest) {
-        Ok((text, n)) => {
+        Ok(Some((text, n))) => {
             if n == rest.len() + 1 {
                 Ok(text)
             } else {
                 Err(LexFault::Text { at: 0 })
             }
         }
-        Err(Bad::NoMemory) => Err(LexFault::NoMemory),
-        Err(_) => Err(LexFault::Text { at: 0 }),
+        Ok(None) => Err(LexFault::Text { at: 0 }),
+        Err(NoMemory) => Err(LexFault::NoMemory),
     }
 }
