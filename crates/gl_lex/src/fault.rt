@@ -6,7 +6,7 @@ ghost use Rattle.gl_lex.specs.{Front.NoToken, Front.Refuses, View.IsRefused};
 ghost use Rattle.gl_lex.specs.declared.fault.LexFault.TheVariants.{NoMemory};
 
 use crate::scan::Bad;
-use std::alloc::{AllocError, AllocFailed};
+use std::alloc::AllocFailed;
 
 /// Why a text has no tokens, with the first place, in bytes, at which no token can be read.
 #[derive(Debug, Drop)]
