@@ -1,14 +1,17 @@
 -- What rings of steps say of the history that they stand for.
-use Rattle.std.proofs.Common.{◌≡◌, ◌∙◌, List, [], ◌∷◌, map, take, Some, None, option_map, slice_get, refl, sym, ap}
+use Rattle.std.proofs.Common.{◌≡◌, ◌∙◌, List, [], ◌∷◌, map, take, Option, Some, None, Vec, slice_get, refl, sym, ap, arith}
 use Rattle.std.proofs.lemmas.List.{take-map}
+use Rattle.gl_query.specs.Lists.{AreDistinct}
+use Rattle.gl_calculus.specs.Grid.{Addr}
 use Rattle.gl_edits.specs.Limits.{max_steps}
 use Rattle.gl_edits.specs.Replicas as R
 use Rattle.gl_edits.specs.Steps as E
-use Rattle.gl_edits.specs.Steps.{pushed, latest_step}
+use Rattle.gl_edits.specs.Steps.{pushed}
+use Rattle.gl_cells.specs.declared.content.Content.{Content}
 use Rattle.gl_undo.specs.declared.changes.Change.{Change}
 use Rattle.gl_undo.specs.declared.history.History.{History}
-use Rattle.gl_undo.specs.View.{step_tree}
-use Rattle.gl_undo.specs.History.{history_tree}
+use Rattle.gl_undo.specs.View.{step_tree, changes_tree, places, AreProperChanges}
+use Rattle.gl_undo.specs.History.{history_tree, TellsLatest}
 
 pub pushed_rings : (h k : History) (s : List Change) → k.rings.0 ≡ take max_steps (s ∷ h.rings.0) → k.rings.1 ≡ [] → history_tree k ≡ pushed (history_tree h) (step_tree s)
 pushed_rings h k s d u =
@@ -16,10 +19,10 @@ pushed_rings h k s d u =
     λ i. record { done = done i; undone = map step_tree (u i) }
 
 -- what is told of the first step, and of none
-pub told : (f : E.Step → R.Changes) (ds : List (List Change)) (d : List Change) (cs : R.Changes) → Some d ≡ slice_get ds 0 → cs ≡ f (step_tree d) → Some cs ≡ option_map f (latest_step (map step_tree ds))
-told f [] d cs h e = cc h
-told f (x ∷ ds) d cs h e = let s : d ≡ x = cc h in ap Some (e ∙ ap (λ y. f (step_tree y)) s)
+pub told : {Z : Type 0} (f : E.Step → R.Changes) (ds : List (List Change)) (d : List Change) (vs : Vec (Addr × Option Content) Z) → Some d ≡ slice_get ds 0 → changes_tree vs.items ≡ f (step_tree d) → AreDistinct (places vs.items) → AreProperChanges vs.items → TellsLatest f (Some vs) (map step_tree ds)
+told f [] d vs h e a p = cc h
+told f (x ∷ ds) d vs h e a p = let s : d ≡ x = cc h in record { value = ap Some (e ∙ ap (λ y. f (step_tree y)) s); left = omega arith; apart = a; proper = p }
 
-pub told_none : (f : E.Step → R.Changes) (ds : List (List Change)) → None ≡ slice_get ds 0 → None ≡ option_map f (latest_step (map step_tree ds))
-told_none f [] h = refl
+pub told_none : {Z : Type 0} (f : E.Step → R.Changes) (ds : List (List Change)) → None ≡ slice_get ds 0 → TellsLatest {Z = Z} f None (map step_tree ds)
+told_none f [] h = record { value = refl; left = tt; apart = tt; proper = tt }
 told_none f (x ∷ ds) h = cc h

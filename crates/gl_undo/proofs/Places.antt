@@ -5,9 +5,12 @@ use Rattle.gl_calculus.specs.Grid.{Addr}
 use Rattle.gl_calculus.specs.Formula as F
 use Rattle.gl_edits.specs.Replicas as R
 use Rattle.gl_edits.specs.Steps as E
-use Rattle.gl_edits.specs.Steps.{befores, afters}
+use Rattle.gl_edits.specs.Steps.{befores}
 use Rattle.gl_cells.specs.declared.content.Content.{Content}
 use Rattle.gl_undo.specs.declared.changes.Change.{Change}
+use Rattle.gl_undo.specs.declared.changes.Side.{Side}
+use Rattle.gl_undo.specs.declared.changes.Side.TheVariants as side
+use Rattle.gl_undo.specs.Sides.{changes_on}
 use Rattle.gl_undo.specs.View.{step_tree, changes_tree}
 
 -- the addresses of plain changes, of listed contents, and of a step
@@ -24,23 +27,16 @@ of_listed : (vs : List (Addr × Option Content)) → plain_places (changes_tree 
 of_listed [] = refl
 of_listed (v ∷ vs) = ap (λ bs. v.0 ∷ bs) (of_listed vs)
 
-before : (xs : List Change) → plain_places (befores (step_tree xs)) ≡ step_places xs
-before [] = refl
-before (x ∷ xs) = ap (λ bs. x.place ∷ bs) (before xs)
-
-after : (xs : List Change) → plain_places (afters (step_tree xs)) ≡ step_places xs
-after [] = refl
-after (x ∷ xs) = ap (λ bs. x.place ∷ bs) (after xs)
+on : (side : Side) (xs : List Change) → plain_places (changes_on side (step_tree xs)) ≡ step_places xs
+on side [] = refl
+on side (x ∷ xs) = ap (λ bs. x.place ∷ bs) (on side xs)
 
 of_step : (S : F.Cells) (vs : List (Addr × Option Content)) → plain_places (befores (E.step_of S (changes_tree vs))) ≡ listed_places vs
 of_step S [] = refl
 of_step S (v ∷ vs) = ap (λ bs. v.0 ∷ bs) (of_step S vs)
 
-pub apart_before : (vs : List (Addr × Option Content)) (xs : List Change) → changes_tree vs ≡ befores (step_tree xs) → AreDistinct (step_places xs) → AreDistinct (listed_places vs)
-apart_before vs xs e h = subst AreDistinct (sym (sym (of_listed vs) ∙ ap plain_places e ∙ before xs)) h
-
-pub apart_after : (vs : List (Addr × Option Content)) (xs : List Change) → changes_tree vs ≡ afters (step_tree xs) → AreDistinct (step_places xs) → AreDistinct (listed_places vs)
-apart_after vs xs e h = subst AreDistinct (sym (sym (of_listed vs) ∙ ap plain_places e ∙ after xs)) h
+pub apart_on : (side : Side) (vs : List (Addr × Option Content)) (xs : List Change) → changes_tree vs ≡ changes_on side (step_tree xs) → AreDistinct (step_places xs) → AreDistinct (listed_places vs)
+apart_on side vs xs e h = subst AreDistinct (sym (sym (of_listed vs) ∙ ap plain_places e ∙ on side xs)) h
 
 pub apart_step : (S : F.Cells) (vs : List (Addr × Option Content)) (xs : List Change) → step_tree xs ≡ E.step_of S (changes_tree vs) → AreDistinct (listed_places vs) → AreDistinct (step_places xs)
-apart_step S vs xs e h = subst AreDistinct (sym (sym (before xs) ∙ ap (λ d. plain_places (befores d)) e ∙ of_step S vs)) h
+apart_step S vs xs e h = subst AreDistinct (sym (sym (on side.Before xs) ∙ ap (λ d. plain_places (befores d)) e ∙ of_step S vs)) h

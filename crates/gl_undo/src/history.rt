@@ -1,12 +1,13 @@
 //! The history of a sheet.
-ghost use Rattle.std.specs.Prelude.{◌≡◌, ◌<◌, length, IfOk, IfSome};
-ghost use Rattle.gl_query.specs.Lists.{AreDistinct};
+ghost use Rattle.std.specs.Prelude.{◌≡◌, ◌<◌, List, length, map, slice_get, IfOk, option_copied};
 ghost use Rattle.gl_edits.specs.Steps.{no_history, pushed, befores, afters, MovesBack};
 ghost use Rattle.gl_edits.specs.Steps.{MovesForward};
-ghost use Rattle.gl_undo.specs.View.{step_tree, places, AreProperChanges};
+ghost use Rattle.gl_undo.specs.{View.step_tree, Sides.changes_on};
+ghost use Rattle.gl_undo.specs.declared.changes.Change.{Change};
 ghost use Rattle.gl_undo.specs.History.{TellsLatest, done, history_tree, undone};
 
 use crate::Step;
+use crate::changes::Side;
 use crate::rings::Rings;
 use gl_cells::Content;
 use gl_plane::{Addr, NoMemory};
@@ -45,15 +46,17 @@ impl History {
 
     /// What the addresses of the latest step had before it: `None` where nothing is left to undo.
     pub fn back(&self, alloc: Global) -> Result<Option<Vec<(Addr, Option<Content>)>>, NoMemory>
-        ensures value { IfOk result (λ o. TellsLatest befores o (done self.now)) }
-        ensures left { IfOk result (λ o. IfSome o (λ _. 0 < length (done self.now))) }
-        ensures apart { IfOk result (λ o. IfSome o (λ v. AreDistinct (places v.items))) }
-        ensures proper { IfOk result (λ o. IfSome o (λ v. AreProperChanges v.items)) }
+        ensures { IfOk result (λ o. TellsLatest befores o (done self.now)) }
     {
-        match self.rings.done() {
-            Some(step) => Ok(Some(step.befores(alloc)?)),
-            None => Ok(None),
-        }
+        contents(alloc, self.rings.done(), Side::Before)
+    }
+
+    /// What the addresses of the latest undone step had after it: `None` where nothing is left to
+    /// redo.
+    pub fn forward(&self, alloc: Global) -> Result<Option<Vec<(Addr, Option<Content>)>>, NoMemory>
+        ensures { IfOk result (λ o. TellsLatest afters o (undone self.now)) }
+    {
+        contents(alloc, self.rings.undone(), Side::After)
     }
 
     /// The latest step is undone. It takes no memory.
@@ -64,25 +67,27 @@ impl History {
         self.rings.move_back();
     }
 
-    /// What the addresses of the latest undone step had after it: `None` where nothing is left to
-    /// redo.
-    pub fn forward(&self, alloc: Global) -> Result<Option<Vec<(Addr, Option<Content>)>>, NoMemory>
-        ensures value { IfOk result (λ o. TellsLatest afters o (undone self.now)) }
-        ensures left { IfOk result (λ o. IfSome o (λ _. 0 < length (undone self.now))) }
-        ensures apart { IfOk result (λ o. IfSome o (λ v. AreDistinct (places v.items))) }
-        ensures proper { IfOk result (λ o. IfSome o (λ v. AreProperChanges v.items)) }
-    {
-        match self.rings.undone() {
-            Some(step) => Ok(Some(step.afters(alloc)?)),
-            None => Ok(None),
-        }
-    }
-
     /// The latest undone step is done again. It takes no memory.
     pub fn moved_forward(&mut self)
         requires { 0 < length (history_tree self.old).undone }
         ensures { MovesForward (history_tree self.old) (history_tree self.new) }
     {
         self.rings.move_forward();
+    }
+}
+
+// What the addresses of a step have on this side of it, if there is a step.
+fn contents(
+    alloc: Global,
+    step: Option<&Step>,
+    side: Side,
+) -> Result<Option<Vec<(Addr, Option<Content>)>>, NoMemory>
+    ensures { (steps : List (List Change))
+        → option_copied step.entry ≡ slice_get steps 0
+        → IfOk result (λ o. TellsLatest (changes_on side) o (map step_tree steps)) }
+{
+    match step {
+        Some(step) => Ok(Some(step.contents(alloc, side)?)),
+        None => Ok(None),
     }
 }

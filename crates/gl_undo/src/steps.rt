@@ -1,12 +1,11 @@
 //! Steps: what one edit changes.
 ghost use Rattle.std.specs.Prelude.{◌≡◌, IfOk};
 ghost use Rattle.gl_query.specs.Lists.{AreDistinct};
-ghost use Rattle.gl_edits.specs.Steps.{befores, afters};
 ghost use Rattle.gl_undo.specs.View.{step_tree, changes_tree, places, AreProperChanges};
-ghost use Rattle.gl_undo.specs.Made.{made_of};
+ghost use Rattle.gl_undo.specs.{Made.made_of, Sides.changes_on};
 
 use crate::Change;
-use crate::changes::shared;
+use crate::changes::{Side, shared};
 use gl_cells::{Cells, Content};
 use gl_plane::{Addr, NoMemory};
 use std::alloc::Global;
@@ -59,28 +58,19 @@ pub fn step_of(
 }
 
 impl Step {
-    /// What its addresses had before it.
-    pub(crate) fn befores(&self, alloc: Global) -> Result<Vec<(Addr, Option<Content>)>, NoMemory>
-        ensures value { IfOk result (λ v. changes_tree v.items ≡ befores (step_tree self.now)) }
+    /// What its addresses have on this side of it.
+    pub(crate) fn contents(
+        &self,
+        alloc: Global,
+        side: Side,
+    ) -> Result<Vec<(Addr, Option<Content>)>, NoMemory>
+        ensures value { IfOk result (λ v. changes_tree v.items ≡ changes_on side (step_tree self.now)) }
         ensures apart { IfOk result (λ v. AreDistinct (places v.items)) }
         ensures proper { IfOk result (λ v. AreProperChanges v.items) }
     {
         let mut list = Vec::with_capacity(alloc, self.changes.len())?;
         for c in &self.changes {
-            list.push_reserved((c.place, shared(c.before.as_ref())?));
-        }
-        Ok(list)
-    }
-
-    /// What its addresses had after it.
-    pub(crate) fn afters(&self, alloc: Global) -> Result<Vec<(Addr, Option<Content>)>, NoMemory>
-        ensures value { IfOk result (λ v. changes_tree v.items ≡ afters (step_tree self.now)) }
-        ensures apart { IfOk result (λ v. AreDistinct (places v.items)) }
-        ensures proper { IfOk result (λ v. AreProperChanges v.items) }
-    {
-        let mut list = Vec::with_capacity(alloc, self.changes.len())?;
-        for c in &self.changes {
-            list.push_reserved((c.place, shared(c.after.as_ref())?));
+            list.push_reserved((c.place, shared(c.on(side))?));
         }
         Ok(list)
     }

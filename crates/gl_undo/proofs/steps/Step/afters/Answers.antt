@@ -1,7 +1,0 @@
-use Rattle.std.proofs.Common.{arith}
-use Rattle.std.proofs.lemmas.Grind.{common_steps}
-use Rattle.gl_undo.proofs.Places.{apart_after}
-use Rattle.gl_undo.proofs.steps.Step.afters.Goals as goal
-
-pub returns-clause-apart : goal.returns-clause-apart
-returns-clause-apart c = apart_after c.loop-c.list.items c.self.inside.changes.items (grind (arith, common_steps)) c.self.invariant.apart
