@@ -6,6 +6,7 @@ pub mod Deeper
 pub mod Ends
 pub mod Forms
 pub mod Naming
+pub mod Others
 pub mod Rules
 pub mod Rulesets
 pub mod Spelling

@@ -72,9 +72,6 @@ module _ (text : Bytes) (vs : List Bytes) where
   pub name_var : (raw : Raw) (v : Span) → raw ≡ r.Var v → has_bad_name vs (raw_tree text raw) ≡ not (list_any (bytes_eq (letters text v)) vs)
   name_var raw v e = ap (has_bad_name vs) (ap (raw_tree text) e ∙ tree-Var text v)
 
-  pub name_leaf : (raw x : Raw) (t : G.Raw) → raw ≡ x → raw_tree text x ≡ t → has_bad_name vs (raw_tree text raw) ≡ has_bad_name vs t
-  name_leaf raw x t e h = ap (has_bad_name vs) (ap (raw_tree text) e ∙ h)
-
   pub name_neg : (raw : Raw) (f : Box Raw Global) → raw ≡ r.Neg f → has_bad_name vs (raw_tree text raw) ≡ has_bad_name vs (raw_tree text f.value)
   name_neg raw f e = ap (has_bad_name vs) (ap (raw_tree text) e ∙ tree-Neg text f)
 

@@ -1,5 +1,5 @@
 -- What each rule of the grammar says of the one reading.
-use Rattle.std.proofs.Common.{◌≡◌, ℕ, ◌<◌, List, [], ◌∷◌, ◌++◌, ap, sym, subst, refl, ◌∙◌, arith, Bool, lit<}
+use Rattle.std.proofs.Common.{◌≡◌, ℕ, List, [], ◌∷◌, ◌++◌, ap, sym, subst, refl, ◌∙◌, arith, Bool, lit<}
 use Rattle.std.specs.Prelude.{Option, Some}
 use Rattle.gl_calculus.specs.Grid.{Addr}
 use Rattle.gl_calculus.specs.Formula.{Level, Op}

@@ -84,10 +84,6 @@ module _ (text : Bytes) (fault : FormFault) (raw : Raw) (free : shows fault (raw
       let t = ap (raw_tree text) e ∙ tree-Apply text word xs in
       ap (some_form (shows fault)) t ∙ in_apply (shows fault) _ (raws_of (plains text xs.items)) (sym (ap (shows fault) t) ∙ free)
 
--- a form with no parts
-pub walk_leaf : (text : Bytes) (fault : FormFault) (raw : Raw) (t : G.Raw) → shows fault (raw_tree text raw) ≡ false → raw_tree text raw ≡ t → ((test : G.Raw → Bool) → some_form test t ≡ test t) → false ≡ some_form (shows fault) (raw_tree text raw)
-walk_leaf text fault raw t free e leaf = sym (ap (some_form (shows fault)) e ∙ leaf (shows fault) ∙ sym (ap (shows fault) e) ∙ free)
-
 -- ---- the two ways through an `||`
 
 pub or_then : (x a b whole : Bool) → x ≡ a → x ≡ true → whole ≡ a || b → x ≡ whole

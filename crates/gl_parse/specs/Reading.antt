@@ -1,11 +1,18 @@
 -- What a call of the reader answers.
 use Rattle.std.specs.Prelude.{◌≡◌, ℕ, ◌<◌, List, [], ◌∷◌, Option, Some, None, Result, Ok, Err}
+use Rattle.std.specs.Borrow.{Bor}
 use Rattle.gl_calculus.specs.Formula.{Level, Op}
 use Rattle.gl_calculus.specs.Formula as F
 use Rattle.gl_language.specs.Token.{Sign, Signed}
 use Rattle.gl_language.specs.Token as T
 use Rattle.gl_language.specs.Grammar.{Tokens, Raw, RawOperands, Raws, chained, IsExpr, IsChain, IsLinks, IsArguments, IsMore}
-use Rattle.gl_parse.specs.Raws.{onto, before}
+use Rattle.gl_language.specs.Text.{Bytes}
+use Rattle.gl_lex.specs.declared.Token.{Token}
+use Rattle.gl_lex.specs.View.{tokens_in}
+use Rattle.gl_ast.specs.declared.Level.{Level as CodeLevel}
+use Rattle.gl_ast.specs.View.{level_tree}
+use Rattle.gl_parse.specs.Raws.{onto, before, raw_tree}
+use Rattle.gl_parse.specs.declared.raw.Raw.{Raw as CodeRaw}
 use Rattle.gl_parse.specs.declared.stop.Stop.{Stop}
 use Rattle.gl_parse.specs.declared.stop.Stop.TheVariants.{Syntax, NoMemory}
 
@@ -76,6 +83,13 @@ Fails R k ts NoMemory = Unit {0}
 abbrev pub Decides : {A X : Type 0} → Result X Stop → (X → A) → (X → Tokens) → Form A → ℕ → Tokens → Type 0
 Decides (Ok x) tree rest R k ts = Only R k ts (tree x) (rest x)
 Decides (Err e) tree rest R k ts = Fails R k ts e
+
+-- The same of a form of the code and the tokens behind it, and of one of a level.
+abbrev pub DecidesForm : Form Raw → ℕ → Bytes → Tokens → Result (CodeRaw × Bor (List Token)) Stop → Type 0
+DecidesForm R k text ts result = Decides result (λ p. raw_tree text p.0) (λ p. tokens_in text p.1.now) R k ts
+
+abbrev pub DecidesLevel : (Level → Form Raw) → (Level → ℕ) → CodeLevel → Bytes → List Token → Result (CodeRaw × Bor (List Token)) Stop → Type 0
+DecidesLevel R k level text ts result = DecidesForm (R (level_tree level)) (k (level_tree level)) text (tokens_in text ts) result
 
 -- Arguments of which these were read.
 pub record ArgumentsSoFar (ts : Tokens) (front : List Raw) (rest : Tokens) : Type 0 where

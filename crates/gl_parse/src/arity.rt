@@ -21,16 +21,7 @@ pub fn is_bad_call(text: &[u8], raw: &Raw) -> bool
 {
     match raw {
         Raw::Apply(word, xs) => !allows_word(function_of(spelling(text, *word)), xs),
-        Raw::Number(_) => false,
-        Raw::Text(_) => false,
-        Raw::Bool(_) => false,
-        Raw::At(_) => false,
-        Raw::Spill(_) => false,
-        Raw::Corners(_, _) => false,
-        Raw::Var(_) => false,
-        Raw::Neg(_) => false,
-        Raw::Chain(_, _, _) => false,
-        Raw::Compare(_, _, _) => false,
+        _ => false,
     }
 }
 
@@ -56,16 +47,7 @@ fn is_address(raw: &Raw) -> bool
 {
     match raw {
         Raw::At(_) => true,
-        Raw::Number(_) => false,
-        Raw::Text(_) => false,
-        Raw::Bool(_) => false,
-        Raw::Spill(_) => false,
-        Raw::Corners(_, _) => false,
-        Raw::Var(_) => false,
-        Raw::Neg(_) => false,
-        Raw::Chain(_, _, _) => false,
-        Raw::Compare(_, _, _) => false,
-        Raw::Apply(_, _) => false,
+        _ => false,
     }
 }
 
@@ -76,15 +58,7 @@ fn is_place(raw: &Raw) -> bool
     match raw {
         Raw::At(_) => true,
         Raw::Corners(_, _) => true,
-        Raw::Number(_) => false,
-        Raw::Text(_) => false,
-        Raw::Bool(_) => false,
-        Raw::Spill(_) => false,
-        Raw::Var(_) => false,
-        Raw::Neg(_) => false,
-        Raw::Chain(_, _, _) => false,
-        Raw::Compare(_, _, _) => false,
-        Raw::Apply(_, _) => false,
+        _ => false,
     }
 }
 
@@ -117,16 +91,7 @@ fn is_variable(raw: &Raw) -> bool
 {
     match raw {
         Raw::Var(_) => true,
-        Raw::Number(_) => false,
-        Raw::Text(_) => false,
-        Raw::Bool(_) => false,
-        Raw::At(_) => false,
-        Raw::Spill(_) => false,
-        Raw::Corners(_, _) => false,
-        Raw::Neg(_) => false,
-        Raw::Chain(_, _, _) => false,
-        Raw::Compare(_, _, _) => false,
-        Raw::Apply(_, _) => false,
+        _ => false,
     }
 }
 

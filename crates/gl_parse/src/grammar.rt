@@ -10,7 +10,8 @@ ghost use Rattle.gl_language.specs.Grammar as spec;
 ghost use Rattle.gl_lex.specs.View.{tokens_in};
 ghost use Rattle.gl_ast.specs.View.{level_tree};
 ghost use Rattle.gl_parse.specs.Raws.{raw_tree, plains, pairs, links, raws_of, letters};
-ghost use Rattle.gl_parse.specs.Reading.{Decides, chain_end, operand_end};
+ghost use Rattle.gl_parse.specs.Reading.{Decides, DecidesForm, DecidesLevel};
+ghost use Rattle.gl_parse.specs.Reading.{chain_end, operand_end};
 
 use crate::peek::{address, after, compared, joined};
 use crate::raw::{Raw, Span};
@@ -20,11 +21,14 @@ use gl_lex::{Kind, Sign, Token};
 use gl_plane::Addr;
 use std::alloc::Global;
 
+/// What is read in front of some tokens, with the tokens behind it.
+type Read<'a, T> = Result<(T, &'a [Token]), Stop>;
+
 /// What an address begins, with the tokens behind it.
 #[tactic(auto, using(crate::proofs::Rulesets::address_rules))]
-fn addressed<'a>(text: &[u8], a: Addr, tokens: &'a [Token]) -> Result<(Raw, &'a [Token]), Stop>
-    ensures cases { Decides result (λ p. raw_tree text.now p.0) (λ p. tokens_in text.now p.1.now)
-        IsAtom 5 (Address a ∷ tokens_in text.now tokens.now) }
+fn addressed<'a>(text: &[u8], a: Addr, tokens: &'a [Token]) -> Read<'a, Raw>
+    ensures cases { DecidesForm IsAtom 5 text.now
+        (Address a ∷ tokens_in text.now tokens.now) result }
     ensures shrinks { IfOk result (λ p. length p.1.now ≤ length tokens.now) }
 {
     if let Some(rest) = after(text, Sign::Hash, tokens) {
@@ -42,9 +46,8 @@ fn addressed<'a>(text: &[u8], a: Addr, tokens: &'a [Token]) -> Result<(Raw, &'a 
 /// An expression.
 #[cycle(grammar)]
 #[tactic(auto, using(crate::proofs::Rulesets::expr_rules))]
-pub fn expr<'a>(alloc: Global, text: &[u8], tokens: &'a [Token]) -> Result<(Raw, &'a [Token]), Stop>
-    ensures cases { Decides result (λ p. raw_tree text.now p.0) (λ p. tokens_in text.now p.1.now)
-        IsExpr 1 (tokens_in text.now tokens.now) }
+pub fn expr<'a>(alloc: Global, text: &[u8], tokens: &'a [Token]) -> Read<'a, Raw>
+    ensures cases { DecidesForm IsExpr 1 text.now (tokens_in text.now tokens.now) result }
     ensures shrinks { IfOk result (λ p. length p.1.now < length tokens.now) }
 {
     let (first, rest) = chain(alloc, text, Level::Cat, tokens)?;
@@ -61,15 +64,8 @@ pub fn expr<'a>(alloc: Global, text: &[u8], tokens: &'a [Token]) -> Result<(Raw,
 /// Operands joined by the operators of a level, or one alone.
 #[cycle(grammar)]
 #[tactic(auto, using(crate::proofs::Rulesets::chain_rules))]
-fn chain<'a>(
-    alloc: Global,
-    text: &[u8],
-    level: Level,
-    tokens: &'a [Token],
-) -> Result<(Raw, &'a [Token]), Stop>
-    ensures cases { Decides result (λ p. raw_tree text.now p.0) (λ p. tokens_in text.now p.1.now)
-        (IsChain (level_tree level)) (chain_end (level_tree level))
-        (tokens_in text.now tokens.now) }
+fn chain<'a>(alloc: Global, text: &[u8], level: Level, tokens: &'a [Token]) -> Read<'a, Raw>
+    ensures cases { DecidesLevel IsChain chain_end level text.now tokens.now result }
     ensures shrinks { IfOk result (λ p. length p.1.now < length tokens.now) }
 {
     let (first, mut rest) = operand(alloc, text, level, tokens)?;
@@ -99,15 +95,8 @@ fn chained(alloc: Global, level: Level, first: Raw, others: Vec<(Op, Raw)>) -> R
 
 #[cycle(grammar)]
 #[tactic(auto, using(crate::proofs::Rulesets::operand_rules))]
-fn operand<'a>(
-    alloc: Global,
-    text: &[u8],
-    level: Level,
-    tokens: &'a [Token],
-) -> Result<(Raw, &'a [Token]), Stop>
-    ensures cases { Decides result (λ p. raw_tree text.now p.0) (λ p. tokens_in text.now p.1.now)
-        (IsOperand (level_tree level)) (operand_end (level_tree level))
-        (tokens_in text.now tokens.now) }
+fn operand<'a>(alloc: Global, text: &[u8], level: Level, tokens: &'a [Token]) -> Read<'a, Raw>
+    ensures cases { DecidesLevel IsOperand operand_end level text.now tokens.now result }
     ensures shrinks { IfOk result (λ p. length p.1.now < length tokens.now) }
 {
     match level {
@@ -119,9 +108,8 @@ fn operand<'a>(
 
 #[cycle(grammar)]
 #[tactic(auto, using(crate::proofs::Rulesets::unary_rules))]
-fn unary<'a>(alloc: Global, text: &[u8], tokens: &'a [Token]) -> Result<(Raw, &'a [Token]), Stop>
-    ensures cases { Decides result (λ p. raw_tree text.now p.0) (λ p. tokens_in text.now p.1.now)
-        IsUnary 5 (tokens_in text.now tokens.now) }
+fn unary<'a>(alloc: Global, text: &[u8], tokens: &'a [Token]) -> Read<'a, Raw>
+    ensures cases { DecidesForm IsUnary 5 text.now (tokens_in text.now tokens.now) result }
     ensures shrinks { IfOk result (λ p. length p.1.now < length tokens.now) }
 {
     let Some(rest) = after(text, Sign::Minus, tokens) else {
@@ -133,9 +121,8 @@ fn unary<'a>(alloc: Global, text: &[u8], tokens: &'a [Token]) -> Result<(Raw, &'
 
 #[cycle(grammar)]
 #[tactic(auto, using(crate::proofs::Rulesets::atom_rules))]
-fn atom<'a>(alloc: Global, text: &[u8], tokens: &'a [Token]) -> Result<(Raw, &'a [Token]), Stop>
-    ensures cases { Decides result (λ p. raw_tree text.now p.0) (λ p. tokens_in text.now p.1.now)
-        IsAtom 5 (tokens_in text.now tokens.now) }
+fn atom<'a>(alloc: Global, text: &[u8], tokens: &'a [Token]) -> Read<'a, Raw>
+    ensures cases { DecidesForm IsAtom 5 text.now (tokens_in text.now tokens.now) result }
     ensures shrinks { IfOk result (λ p. length p.1.now < length tokens.now) }
 {
     let Some((first, rest)) = tokens.split_first() else {
@@ -148,7 +135,7 @@ fn atom<'a>(alloc: Global, text: &[u8], tokens: &'a [Token]) -> Result<(Raw, &'a
     match &first.kind {
         Kind::Integer(n) => Ok((Raw::Number(*n), rest)),
         Kind::Address(a) => addressed(text, *a, rest),
-        Kind::Text(t) => Ok((Raw::Text(t.clone()?), rest)),
+        Kind::Text(t) => Ok((Raw::Text(t.clone().map_err(|_| Stop::NoMemory)?), rest)),
         Kind::Truth(b) => Ok((Raw::Bool(*b), rest)),
         Kind::Variable => Ok((Raw::Var(span), rest)),
         Kind::Word => call(alloc, text, span, rest),
@@ -160,14 +147,9 @@ fn atom<'a>(alloc: Global, text: &[u8], tokens: &'a [Token]) -> Result<(Raw, &'a
 /// A call of this word, behind which the tokens are.
 #[cycle(grammar)]
 #[tactic(auto, using(crate::proofs::Rulesets::call_rules))]
-fn call<'a>(
-    alloc: Global,
-    text: &[u8],
-    word: Span,
-    tokens: &'a [Token],
-) -> Result<(Raw, &'a [Token]), Stop>
-    ensures cases { Decides result (λ p. raw_tree text.now p.0) (λ p. tokens_in text.now p.1.now)
-        IsAtom 5 (Word (letters text.now word) ∷ tokens_in text.now tokens.now) }
+fn call<'a>(alloc: Global, text: &[u8], word: Span, tokens: &'a [Token]) -> Read<'a, Raw>
+    ensures cases { DecidesForm IsAtom 5 text.now
+        (Word (letters text.now word) ∷ tokens_in text.now tokens.now) result }
     ensures shrinks { IfOk result (λ p. length p.1.now < length tokens.now) }
 {
     let Some(rest) = after(text, Sign::LeftParen, tokens) else {
@@ -180,11 +162,7 @@ fn call<'a>(
 /// What stands behind the left parenthesis of a call.
 #[cycle(grammar)]
 #[tactic(auto, using(crate::proofs::Rulesets::argument_rules))]
-fn arguments<'a>(
-    alloc: Global,
-    text: &[u8],
-    tokens: &'a [Token],
-) -> Result<(Vec<Raw>, &'a [Token]), Stop>
+fn arguments<'a>(alloc: Global, text: &[u8], tokens: &'a [Token]) -> Read<'a, Vec<Raw>>
     ensures cases { Decides result (λ p. raws_of (plains text.now p.0.items))
         (λ p. tokens_in text.now p.1.now) IsArguments 5 (tokens_in text.now tokens.now) }
     ensures shrinks { IfOk result (λ p. length p.1.now < length tokens.now) }
@@ -209,9 +187,9 @@ fn arguments<'a>(
 /// What stands in parentheses, behind the first of which the tokens are.
 #[cycle(grammar)]
 #[tactic(auto, using(crate::proofs::Rulesets::parens_rules))]
-fn parens<'a>(alloc: Global, text: &[u8], tokens: &'a [Token]) -> Result<(Raw, &'a [Token]), Stop>
-    ensures cases { Decides result (λ p. raw_tree text.now p.0) (λ p. tokens_in text.now p.1.now)
-        IsAtom 5 (Signed T.Sign.LeftParen ∷ tokens_in text.now tokens.now) }
+fn parens<'a>(alloc: Global, text: &[u8], tokens: &'a [Token]) -> Read<'a, Raw>
+    ensures cases { DecidesForm IsAtom 5 text.now
+        (Signed T.Sign.LeftParen ∷ tokens_in text.now tokens.now) result }
     ensures shrinks { IfOk result (λ p. length p.1.now < length tokens.now) }
 {
     let (inner, rest) = expr(alloc, text, tokens)?;

@@ -50,16 +50,7 @@ fn variable(raw: &Raw) -> Option<Span>
 {
     match raw {
         Raw::Var(name) => Some(*name),
-        Raw::Number(_) => None,
-        Raw::Text(_) => None,
-        Raw::Bool(_) => None,
-        Raw::At(_) => None,
-        Raw::Spill(_) => None,
-        Raw::Corners(_, _) => None,
-        Raw::Neg(_) => None,
-        Raw::Chain(_, _, _) => None,
-        Raw::Compare(_, _, _) => None,
-        Raw::Apply(_, _) => None,
+        _ => None,
     }
 }
 
@@ -103,12 +94,7 @@ fn bad_name(text: &[u8], scope: &mut Vec<Span>, raw: &Raw) -> Result<bool, NoMem
             bad_name(text, scope, g)
         }
         Raw::Apply(word, xs) => bad_name_in_call(text, scope, spelling(text, *word), xs),
-        Raw::Number(_) => Ok(false),
-        Raw::Text(_) => Ok(false),
-        Raw::Bool(_) => Ok(false),
-        Raw::At(_) => Ok(false),
-        Raw::Spill(_) => Ok(false),
-        Raw::Corners(_, _) => Ok(false),
+        _ => Ok(false),
     }
 }
 
@@ -167,7 +153,10 @@ fn bad_name_in_call(
     ensures same { IfOk result (λ b. scope.new.items ≡ scope.old.items) }
 {
     let Some(name) = bound_variable(word, xs) else {
-        return bad_name_in_plain_call(text, scope, word, xs);
+        if !is_called(word) {
+            return Ok(true);
+        }
+        return bad_name_in_arguments(text, scope, xs);
     };
     let bad = bad_name(text, scope, &xs[1])?;
     if bad {
@@ -195,27 +184,6 @@ fn bad_name_in_body(
     let bad = bad_name(text, scope, body)?;
     scope.pop();
     Ok(bad)
-}
-
-/// A call that binds nothing.
-#[cycle(names)]
-fn bad_name_in_plain_call(
-    text: &[u8],
-    scope: &mut Vec<Span>,
-    word: &[u8],
-    xs: &[Raw],
-) -> Result<bool, NoMemory>
-    ensures value { IfOk result (λ b.
-        b
-        ≡ (not (G.is_let word.now || is_some (G.function_of word.now))
-        || G.bad_name_in (spec.scope text.now scope.old.items)
-        (raws_of (plains text.now xs.now)))) }
-    ensures same { IfOk result (λ b. scope.new.items ≡ scope.old.items) }
-{
-    if !is_called(word) {
-        return Ok(true);
-    }
-    bad_name_in_arguments(text, scope, xs)
 }
 
 /// Whether a word can be called.

@@ -32,16 +32,7 @@ fn shows_range(text: &[u8], raw: &Raw) -> bool
 {
     match raw {
         Raw::Corners(a, b) => is_bad_range(*a, *b),
-        Raw::Number(_) => false,
-        Raw::Text(_) => false,
-        Raw::Bool(_) => false,
-        Raw::At(_) => false,
-        Raw::Spill(_) => false,
-        Raw::Var(_) => false,
-        Raw::Neg(_) => false,
-        Raw::Chain(_, _, _) => false,
-        Raw::Compare(_, _, _) => false,
-        Raw::Apply(_, _) => false,
+        _ => false,
     }
 }
 
@@ -67,13 +58,7 @@ pub fn some_form(text: &[u8], fault: FormFault, raw: &Raw) -> bool
         Raw::Chain(_, f, rest) => some_form(text, fault, f) || some_operand(text, fault, rest),
         Raw::Compare(_, f, g) => some_form(text, fault, f) || some_form(text, fault, g),
         Raw::Apply(_, xs) => some_argument(text, fault, xs),
-        Raw::Number(_) => false,
-        Raw::Text(_) => false,
-        Raw::Bool(_) => false,
-        Raw::At(_) => false,
-        Raw::Spill(_) => false,
-        Raw::Corners(_, _) => false,
-        Raw::Var(_) => false,
+        _ => false,
     }
 }
 

@@ -1,12 +1,12 @@
-use Rattle.std.proofs.Common.{◌∷◌, not, bytes_eq, ap, sym, refl, ◌∙◌}
+use Rattle.std.proofs.Common.{◌∷◌, ◌||◌, not, bytes_eq, ap, sym, refl, ◌∙◌}
 use Rattle.std.specs.List.{list_any}
-use Rattle.gl_language.specs.Grammar.{has_bad_name, bad_name_in_operands}
+use Rattle.gl_language.specs.Grammar.{has_bad_name, bad_name_in, bad_name_in_operands}
 use Rattle.gl_language.specs.Grammar as G
 use Rattle.gl_parse.specs.Raws.{raw_tree, plains, pairs, links, raws_of, letters}
 use Rattle.gl_parse.specs.Faults.{scope}
 use Rattle.gl_parse.proofs.Walks.{or_then, or_else}
-use Rattle.gl_parse.proofs.Forms.{tree-Number, tree-Text, tree-Bool, tree-At, tree-Spill, tree-Corners}
-use Rattle.gl_parse.proofs.Naming.{name_var, name_leaf, name_neg, name_chain, name_compare, name_apply, answer_is, plain_call, let_is, let_then, let_else}
+use Rattle.gl_parse.proofs.Naming.{name_var, name_neg, name_chain, name_compare, name_apply, answer_is, plain_call, let_is, let_then, let_else}
+use Rattle.gl_parse.proofs.Others.{no_name}
 use Rattle.gl_parse.proofs.names.+names.Goals as goal
 
 pub bad_name-returns-then-bad-clause-value : goal.bad_name-returns-then-bad-clause-value
@@ -50,9 +50,19 @@ bad_name-returns-in-Apply-clause-value t c =
     ∙ ap (λ z. has_bad_name (scope c.args.text.now c.args.scope.now.items) (G.Raw.Apply (letters c.args.text.now c.in-Apply.word) (raws_of (plains c.args.text.now z)))) c.deref-in-Apply.ensures.value
     ∙ sym (name_apply c.args.text.now (scope c.args.text.now c.args.scope.now.items) c.args.raw.now c.in-Apply.word c.in-Apply.xs c.in-Apply.is))
 
+pub bad_name_in_call-returns-then-not-is_called-clause-value : goal.bad_name_in_call-returns-then-not-is_called-clause-value
+bad_name_in_call-returns-then-not-is_called-clause-value t c =
+    let bound = scope c.args.text.now c.args.scope.now.items in
+    let fs = plains c.args.text.now c.args.xs.now in
+    let call = plain_call bound c.args.word.now fs (c.in_default.ensures.cases c.args.text.now) in
+    sym (call ∙ ap (λ z. not z || bad_name_in bound (raws_of fs)) (sym c.is_called.ensures ∙ c.if-not-is_called.true))
+
 pub bad_name_in_call-returns-in_default-clause-value : goal.bad_name_in_call-returns-in_default-clause-value
 bad_name_in_call-returns-in_default-clause-value t c =
-    answer_is _ _ _ c.bad_name_in_plain_call.ensures.value (sym (plain_call (scope c.args.text.now c.args.scope.now.items) c.args.word.now (plains c.args.text.now c.args.xs.now) (c.in_default.ensures.cases c.args.text.now)))
+    let bound = scope c.args.text.now c.args.scope.now.items in
+    let fs = plains c.args.text.now c.args.xs.now in
+    let call = plain_call bound c.args.word.now fs (c.in_default.ensures.cases c.args.text.now) in
+    answer_is _ _ _ c.bad_name_in_arguments.ensures.value (sym (call ∙ ap (λ z. not z || bad_name_in bound (raws_of fs)) (sym c.is_called.ensures ∙ c.if-not-is_called.false)))
 
 pub bad_name_in_call-returns-then-bad-clause-value : goal.bad_name_in_call-returns-then-bad-clause-value
 bad_name_in_call-returns-then-bad-clause-value t c =
@@ -69,20 +79,7 @@ bad_name_in_call-returns-clause-value t c =
 pub bad_name-returns-in-Var-clause-value : goal.bad_name-returns-in-Var-clause-value
 bad_name-returns-in-Var-clause-value t c = ap not (c.is_bound.ensures ∙ ap (λ z. list_any (bytes_eq (letters c.args.text.now c.in-Var.name)) (scope c.args.text.now z)) c.deref.ensures.value) ∙ sym (name_var c.args.text.now (scope c.args.text.now c.args.scope.now.items) c.args.raw.now c.in-Var.name c.in-Var.is)
 
-pub bad_name-returns-in-Number-clause-value : goal.bad_name-returns-in-Number-clause-value
-bad_name-returns-in-Number-clause-value t c = sym (name_leaf c.args.text.now (scope c.args.text.now c.args.scope.now.items) c.args.raw.now _ _ c.in-Number.is (tree-Number c.args.text.now _))
-
-pub bad_name-returns-in-Text-clause-value : goal.bad_name-returns-in-Text-clause-value
-bad_name-returns-in-Text-clause-value t c = sym (name_leaf c.args.text.now (scope c.args.text.now c.args.scope.now.items) c.args.raw.now _ _ c.in-Text.is (tree-Text c.args.text.now _))
-
-pub bad_name-returns-in-Bool-clause-value : goal.bad_name-returns-in-Bool-clause-value
-bad_name-returns-in-Bool-clause-value t c = sym (name_leaf c.args.text.now (scope c.args.text.now c.args.scope.now.items) c.args.raw.now _ _ c.in-Bool.is (tree-Bool c.args.text.now _))
-
-pub bad_name-returns-in-At-clause-value : goal.bad_name-returns-in-At-clause-value
-bad_name-returns-in-At-clause-value t c = sym (name_leaf c.args.text.now (scope c.args.text.now c.args.scope.now.items) c.args.raw.now _ _ c.in-At.is (tree-At c.args.text.now _))
-
-pub bad_name-returns-in-Spill-clause-value : goal.bad_name-returns-in-Spill-clause-value
-bad_name-returns-in-Spill-clause-value t c = sym (name_leaf c.args.text.now (scope c.args.text.now c.args.scope.now.items) c.args.raw.now _ _ c.in-Spill.is (tree-Spill c.args.text.now _))
-
-pub bad_name-returns-in-Corners-clause-value : goal.bad_name-returns-in-Corners-clause-value
-bad_name-returns-in-Corners-clause-value t c = sym (name_leaf c.args.text.now (scope c.args.text.now c.args.scope.now.items) c.args.raw.now _ _ c.in-Corners.is (tree-Corners c.args.text.now _ _))
+pub bad_name-returns-in_default-clause-value : goal.bad_name-returns-in_default-clause-value
+bad_name-returns-in_default-clause-value t c =
+    let other = c.in_default in
+    sym (no_name c.args.text.now (scope c.args.text.now c.args.scope.now.items) c.args.raw.now other.not-Var other.not-Neg other.not-Chain other.not-Compare other.not-Apply)

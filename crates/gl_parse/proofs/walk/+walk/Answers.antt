@@ -1,9 +1,9 @@
-use Rattle.std.proofs.Common.{ap, sym, refl, ◌∙◌}
+use Rattle.std.proofs.Common.{ap, sym, ◌∙◌}
 use Rattle.gl_language.specs.Grammar.{some_form, some_operand, some_argument}
 use Rattle.gl_parse.specs.Raws.{raw_tree, links, pairs, raws_of, plains}
 use Rattle.gl_parse.specs.Faults.{shows}
-use Rattle.gl_parse.proofs.Forms.{tree-Number, tree-Text, tree-Bool, tree-At, tree-Spill, tree-Corners, tree-Var}
-use Rattle.gl_parse.proofs.Walks.{or_then, or_else, shown_here, walk_neg, walk_leaf, walk_chain, walk_compare, walk_apply}
+use Rattle.gl_parse.proofs.Walks.{or_then, or_else, shown_here, walk_neg, walk_chain, walk_compare, walk_apply}
+use Rattle.gl_parse.proofs.Others.{no_part}
 use Rattle.gl_parse.proofs.walk.+walk.Goals as goal
 
 pub some_form-returns-then-some_form : goal.some_form-returns-then-some_form
@@ -41,23 +41,8 @@ some_form-returns-in-Neg t c =
     c.some_form.ensures ∙ ap (λ z. some_form (shows c.args.fault) (raw_tree c.args.text.now z)) c.deref.ensures
     ∙ sym (walk_neg c.args.text.now c.args.fault c.args.raw.now (sym c.shows.ensures ∙ c.if-shows.false) c.in-Neg.f c.in-Neg.is)
 
-pub some_form-returns-in-Number : goal.some_form-returns-in-Number
-some_form-returns-in-Number t c = walk_leaf c.args.text.now c.args.fault c.args.raw.now _ (sym c.shows.ensures ∙ c.if-shows.false) (ap (raw_tree c.args.text.now) c.in-Number.is ∙ tree-Number c.args.text.now _) (λ test. refl)
-
-pub some_form-returns-in-Text : goal.some_form-returns-in-Text
-some_form-returns-in-Text t c = walk_leaf c.args.text.now c.args.fault c.args.raw.now _ (sym c.shows.ensures ∙ c.if-shows.false) (ap (raw_tree c.args.text.now) c.in-Text.is ∙ tree-Text c.args.text.now _) (λ test. refl)
-
-pub some_form-returns-in-Bool : goal.some_form-returns-in-Bool
-some_form-returns-in-Bool t c = walk_leaf c.args.text.now c.args.fault c.args.raw.now _ (sym c.shows.ensures ∙ c.if-shows.false) (ap (raw_tree c.args.text.now) c.in-Bool.is ∙ tree-Bool c.args.text.now _) (λ test. refl)
-
-pub some_form-returns-in-At : goal.some_form-returns-in-At
-some_form-returns-in-At t c = walk_leaf c.args.text.now c.args.fault c.args.raw.now _ (sym c.shows.ensures ∙ c.if-shows.false) (ap (raw_tree c.args.text.now) c.in-At.is ∙ tree-At c.args.text.now _) (λ test. refl)
-
-pub some_form-returns-in-Spill : goal.some_form-returns-in-Spill
-some_form-returns-in-Spill t c = walk_leaf c.args.text.now c.args.fault c.args.raw.now _ (sym c.shows.ensures ∙ c.if-shows.false) (ap (raw_tree c.args.text.now) c.in-Spill.is ∙ tree-Spill c.args.text.now _) (λ test. refl)
-
-pub some_form-returns-in-Corners : goal.some_form-returns-in-Corners
-some_form-returns-in-Corners t c = walk_leaf c.args.text.now c.args.fault c.args.raw.now _ (sym c.shows.ensures ∙ c.if-shows.false) (ap (raw_tree c.args.text.now) c.in-Corners.is ∙ tree-Corners c.args.text.now _ _) (λ test. refl)
-
-pub some_form-returns-in-Var : goal.some_form-returns-in-Var
-some_form-returns-in-Var t c = walk_leaf c.args.text.now c.args.fault c.args.raw.now _ (sym c.shows.ensures ∙ c.if-shows.false) (ap (raw_tree c.args.text.now) c.in-Var.is ∙ tree-Var c.args.text.now _) (λ test. refl)
+pub some_form-returns-in_default : goal.some_form-returns-in_default
+some_form-returns-in_default t c =
+    let other = c.in_default in
+    let none = no_part c.args.text.now (shows c.args.fault) c.args.raw.now other.not-Neg other.not-Chain other.not-Compare other.not-Apply in
+    sym (none ∙ sym c.shows.ensures ∙ c.if-shows.false)
