@@ -14,6 +14,9 @@ use Rattle.gl_protocol.specs.Commands as C
 use Rattle.gl_protocol.specs.Commands.{Read, Is, Not, Word, ReadsLine, ReadsWords, ReadsRange, SetWords, EditWords, SiteWords, ImportWords, ClearWords, ViewWords, IsAddress, NoAddress, is_viewable, is_text, words_of, is_comment}
 use Rattle.gl_cells.specs.declared.content.Content.{Content}
 use Rattle.gl_cells.specs.Content.{content_tree}
+use Rattle.gl_script.specs.Asked.{asked_words, asked_request}
+use Rattle.gl_script.specs.declared.requests.Asked.{Asked}
+use Rattle.gl_script.specs.declared.requests.Asked.TheVariants as asked
 use Rattle.gl_script.specs.declared.requests.CommandFault.{CommandFault}
 use Rattle.gl_script.specs.declared.requests.CommandFault.TheVariants as f
 use Rattle.gl_script.specs.declared.requests.Request.TheVariants as r
@@ -65,6 +68,20 @@ set_refused l place t a e h k g =
 
 pub no_place : (l : Bytes) (ws : C.Words) → HasWords l ws → ReadsWords ws (Not C.AddressWord) → Answers l (Err f.Address)
 no_place l ws h x = (line_reads l ws (Not C.AddressWord) h x, tt)
+
+-- ---- what is asked of one address
+
+pub asked_reads : (k : Asked) (place : Bytes) (a : Addr) → IsAddress place a → ReadsWords (asked_words k place) (Is (asked_request k a))
+asked_reads asked.Show place a h = C.ReadsWords.show h
+asked_reads asked.Get place a h = C.ReadsWords.get h
+asked_reads asked.Why place a h = C.ReadsWords.why_of h
+asked_reads asked.Explain place a h = C.ReadsWords.explain h
+
+pub asked_nowhere : (k : Asked) (place : Bytes) → NoAddress place → ReadsWords (asked_words k place) (Not C.AddressWord)
+asked_nowhere asked.Show place h = C.ReadsWords.show_place h
+asked_nowhere asked.Get place h = C.ReadsWords.get_place h
+asked_nowhere asked.Why place h = C.ReadsWords.why_place h
+asked_nowhere asked.Explain place h = C.ReadsWords.explain_place h
 
 -- ---- `site` and `edit`
 

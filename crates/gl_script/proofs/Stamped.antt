@@ -3,6 +3,7 @@ use Rattle.std.proofs.Common.{◌≡◌, ◌∙◌, ℕ, ◌<◌, ◌^◌, Bool,
 use Rattle.std.proofs.lemmas.Bool.Decides.{nat_tests}
 use Rattle.std.proofs.lemmas.Result.{OkIff-at_ok}
 use Rattle.std.specs.Str.Parse.{ParsesUnsigned}
+use Rattle.std.specs.Result.{result_ok}
 use Rattle.gl_language.specs.Text.{Bytes}
 use Rattle.gl_language.specs.Token.{digits_value}
 use Rattle.gl_edits.specs.Limits.{max_time, max_site}
@@ -16,19 +17,23 @@ use Rattle.gl_script.proofs.Headers.{counted, some_digit}
 pub site_off : (bs : Bytes) → is_number bs ≡ false → None ≡ cond (is_site bs) (Some (digits_value bs)) None
 site_off bs e = rw e refl
 
-pub site_read : {E : Type 0} (bs : Bytes) (r : Result ℕ E) (n : ℕ) → ParsesUnsigned 16 10 bs r → r ≡ Ok n → is_number bs ≡ true → Some n ≡ cond (is_site bs) (Some (digits_value bs)) None
+site_read : {E : Type 0} (bs : Bytes) (r : Result ℕ E) (n : ℕ) → ParsesUnsigned 16 10 bs r → r ≡ Ok n → is_number bs ≡ true → Some n ≡ cond (is_site bs) (Some (digits_value bs)) None
 site_read bs r n h ok e =
     let c = OkIff-at_ok r _ (digits_value bs) n (counted 16 bs r h e) ok in
     let l : digits_value bs < 2 ^ 16 = c.0.1 in
     let f : leb (digits_value bs) max_site ≡ true = grind (arith, nat_tests) in
     rw (e, f) (ap (λ (k : ℕ). Some k) c.1)
 
-pub site_past : {E : Type 0} (bs : Bytes) (x : E) → ParsesUnsigned 16 10 bs (Err x) → is_number bs ≡ true → None ≡ cond (is_site bs) (Some (digits_value bs)) None
+site_past : {E : Type 0} (bs : Bytes) (x : E) → ParsesUnsigned 16 10 bs (Err x) → is_number bs ≡ true → None ≡ cond (is_site bs) (Some (digits_value bs)) None
 site_past bs x h e = rw e (by (leb (digits_value bs) max_site) refl)
   where
     by : (b : Bool) → leb (digits_value bs) max_site ≡ b → None ≡ cond b (Some (digits_value bs)) None
     by true f = let l : digits_value bs < 2 ^ 16 = grind (arith, nat_tests) in absurd (counted 16 bs (Err x) h e (some_digit bs e, l))
     by false f = refl
+
+pub site_is : {E : Type 0} (bs : Bytes) (r : Result ℕ E) (o : Option ℕ) → ParsesUnsigned 16 10 bs r → o ≡ result_ok r → is_number bs ≡ true → o ≡ cond (is_site bs) (Some (digits_value bs)) None
+site_is {E} bs (Ok n) o h e k = e ∙ site_read {E = E} bs (Ok n) n h refl k
+site_is {E} bs (Err x) o h e k = e ∙ site_past {E = E} bs x h k
 
 -- ---- times
 

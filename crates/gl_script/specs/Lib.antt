@@ -1,3 +1,4 @@
+pub mod Asked
 pub mod Feed
 pub mod FeedView
 pub mod Framer

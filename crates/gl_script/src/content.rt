@@ -49,7 +49,10 @@ fn read_formula(alloc: Global, text: &str) -> Result<Content, CommandFault>
     ensures { IsContent (61 ∷ text.now) result }
 {
     match parse(alloc, text) {
-        Ok(formula) => Ok(Content::Form(Rc::new(alloc, formula)?)),
+        Ok(formula) => match Rc::new(alloc, formula) {
+            Ok(formula) => Ok(Content::Form(formula)),
+            Err(_) => Err(CommandFault::NoMemory),
+        },
         Err(fault) => Err(formula_fault(fault)),
     }
 }

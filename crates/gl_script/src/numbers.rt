@@ -17,10 +17,7 @@ pub(crate) fn site_of(digits: &str) -> Option<u16>
     if !is_number(digits.as_bytes()) {
         return None;
     }
-    match digits.parse::<u16>() {
-        Ok(site) => Some(site),
-        Err(_) => None,
-    }
+    digits.parse::<u16>().ok()
 }
 
 // The time that digits write: from 1 to `MAX_TIME`, without a leading zero.

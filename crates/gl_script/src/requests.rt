@@ -3,7 +3,10 @@ ghost use Rattle.std.specs.Prelude.{◌≡◌, IsFalse, option_copied};
 ghost use Rattle.gl_language.specs.Text.{Bytes};
 ghost use Rattle.gl_protocol.specs.Commands.{is_comment};
 ghost use Rattle.gl_protocol.specs.Commands as C;
-ghost use Rattle.gl_script.specs.{Command.Answers, Parts.HasWords, Parts.words_tree};
+ghost use Rattle.gl_protocol.specs.Commands.{ReadsLine};
+ghost use Rattle.gl_script.specs.{Command.Answers, Command.Asks, Parts.HasWords, Parts.words_tree};
+ghost use Rattle.gl_script.specs.Asked.{asked_request, asked_words};
+ghost use Rattle.gl_script.specs.declared.requests.CommandFault.TheVariants.{NoMemory};
 
 use crate::content::{read_content, read_text};
 use crate::header::count_of;
@@ -13,7 +16,7 @@ use crate::words::{Words, words_of};
 use gl_cells::Content;
 use gl_parse::ParseFault;
 use gl_plane::{Addr, NoMemory, Range};
-use std::alloc::{AllocFailed, Global};
+use std::alloc::Global;
 use std::str;
 
 /// What a line asks.
@@ -86,23 +89,9 @@ pub enum CommandFault {
 pub const MAX_VIEW: u32 = gl_plane::MAX_CELLS;
 
 impl From<NoMemory> for CommandFault {
-    ghost use Rattle.std.specs.Prelude.{◌≡◌};
-    ghost use Rattle.gl_script.specs.declared.requests.CommandFault.TheVariants.{NoMemory};
-
     ghost from_gives = { λ _ e. e ≡ NoMemory };
 
     fn from(_: NoMemory) -> CommandFault {
-        CommandFault::NoMemory
-    }
-}
-
-impl<T: Drop> From<AllocFailed<T>> for CommandFault {
-    ghost use Rattle.std.specs.Prelude.{◌≡◌};
-    ghost use Rattle.gl_script.specs.declared.requests.CommandFault.TheVariants.{NoMemory};
-
-    ghost from_gives = { λ _ e. e ≡ NoMemory };
-
-    fn from(_: AllocFailed<T>) -> CommandFault {
         CommandFault::NoMemory
     }
 }
@@ -153,10 +142,10 @@ fn read_words(alloc: Global, words: Words<'_>) -> Result<Request, CommandFault>
         Words::Set(place, text) => set(alloc, place, text),
         Words::Clear(place) => clear(place),
         Words::View(place) => view(place),
-        Words::Show(place) => show(place),
-        Words::Get(place) => get(place),
-        Words::Why(place) => why(place),
-        Words::Explain(place) => explain(place),
+        Words::Show(place) => ask(Asked::Show, place),
+        Words::Get(place) => ask(Asked::Get, place),
+        Words::Why(place) => ask(Asked::Why, place),
+        Words::Explain(place) => ask(Asked::Explain, place),
         Words::Import(place, count) => import(place, count),
         Words::Site(digits) => site(digits),
         Words::Edit(time, site, place, text) => edit(alloc, time, site, place, text),
@@ -203,38 +192,31 @@ fn view(place: &str) -> Result<Request, CommandFault>
     }
 }
 
-fn show(place: &str) -> Result<Request, CommandFault>
-    ensures { (l : Bytes) → HasWords l (C.ShowWords place.now) → Answers l result }
+// What is asked of one address.
+#[derive(Clone, Copy)]
+enum Asked {
+    Show,
+    Get,
+    Why,
+    Explain,
+}
+
+fn asked_of(asked: Asked, a: Addr) -> Request
+    ensures { (l : Bytes) → ReadsLine l (C.Is (asked_request asked a)) → Asks l result }
 {
-    match read_address(place) {
-        Some(a) => Ok(Request::Show(a)),
-        None => Err(CommandFault::Address),
+    match asked {
+        Asked::Show => Request::Show(a),
+        Asked::Get => Request::Get(a),
+        Asked::Why => Request::Why(a),
+        Asked::Explain => Request::Explain(a),
     }
 }
 
-fn get(place: &str) -> Result<Request, CommandFault>
-    ensures { (l : Bytes) → HasWords l (C.GetWords place.now) → Answers l result }
+fn ask(asked: Asked, place: &str) -> Result<Request, CommandFault>
+    ensures { (l : Bytes) → HasWords l (asked_words asked place.now) → Answers l result }
 {
     match read_address(place) {
-        Some(a) => Ok(Request::Get(a)),
-        None => Err(CommandFault::Address),
-    }
-}
-
-fn why(place: &str) -> Result<Request, CommandFault>
-    ensures { (l : Bytes) → HasWords l (C.WhyWords place.now) → Answers l result }
-{
-    match read_address(place) {
-        Some(a) => Ok(Request::Why(a)),
-        None => Err(CommandFault::Address),
-    }
-}
-
-fn explain(place: &str) -> Result<Request, CommandFault>
-    ensures { (l : Bytes) → HasWords l (C.ExplainWords place.now) → Answers l result }
-{
-    match read_address(place) {
-        Some(a) => Ok(Request::Explain(a)),
+        Some(a) => Ok(asked_of(asked, a)),
         None => Err(CommandFault::Address),
     }
 }

@@ -1,14 +1,9 @@
 use Rattle.std.proofs.Common.{◌≡◌, true, arith}
 use Rattle.gl_protocol.specs.Pieces.{is_number}
-use Rattle.gl_script.proofs.Stamped.{site_read, site_past}
+use Rattle.gl_script.proofs.Stamped.{site_is}
 use Rattle.gl_script.proofs.numbers.site_of.Goals as goal
 
-pub returns-in-Ok : goal.returns-in-Ok
-returns-in-Ok c =
+pub returns : goal.returns
+returns c =
     let e : is_number c.args.digits.now ≡ true = grind arith in
-    site_read c.args.digits.now c.parse.result c.in-Ok.site c.parse.ensures.value.0 c.in-Ok.is e
-
-pub returns-in-Err : goal.returns-in-Err
-returns-in-Err c =
-    let e : is_number c.args.digits.now ≡ true = grind arith in
-    site_past c.args.digits.now c.in-Err.field-0 c.in-Err.ensures.value.0 e
+    site_is c.args.digits.now c.parse.result c.ok.result c.parse.ensures.value.0 c.ok.ensures.value e
