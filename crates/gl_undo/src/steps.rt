@@ -64,7 +64,8 @@ impl Step {
         alloc: Global,
         side: Side,
     ) -> Result<Vec<(Addr, Option<Content>)>, NoMemory>
-        ensures value { IfOk result (λ v. changes_tree v.items ≡ changes_on side (step_tree self.now)) }
+        ensures value { IfOk result (λ v.
+            changes_tree v.items ≡ changes_on side (step_tree self.now)) }
         ensures apart { IfOk result (λ v. AreDistinct (places v.items)) }
         ensures proper { IfOk result (λ v. AreProperChanges v.items) }
     {
