@@ -1,7 +1,7 @@
 -- The addresses with content in a frame, one after the other.
 use Rattle.std.specs.Prelude.{◌≡◌, Bool, true, ◌&&◌, ◌||◌, is_some, List, Option, Some, None, map}
 use Rattle.std.specs.List.{find}
-use Rattle.gl_calculus.specs.Grid.{Addr, Range, is_before, covers}
+use Rattle.gl_calculus.specs.Grid.{Addr, Range, is_before}
 use Rattle.gl_calculus.specs.Value.{Overrides, SheetValue, Frame}
 use Rattle.gl_calculus.specs.Sheet.{override_at}
 use Rattle.gl_calculus.specs.Formula.{Cells, content}

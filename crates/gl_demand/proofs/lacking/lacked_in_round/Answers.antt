@@ -1,4 +1,4 @@
-use Rattle.std.proofs.Common.{◌≤◌, ◌+◌, length, arith, refl, subst, sym}
+use Rattle.std.proofs.Common.{◌≤◌, ◌+◌, length, arith, refl, subst}
 use Rattle.gl_calculus.specs.Grid.{addresses}
 use Rattle.gl_calculus.specs.Facts.{fact}
 use Rattle.gl_ahead.specs.Demands.{own_keys}

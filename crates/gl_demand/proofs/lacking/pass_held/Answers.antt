@@ -1,4 +1,4 @@
-use Rattle.std.proofs.Common.{◌≡◌, [], true, ap, sym, subst, ◌∙◌}
+use Rattle.std.proofs.Common.{◌≡◌, [], sym, subst, ◌∙◌}
 use Rattle.gl_calculus.specs.Facts.{fact}
 use Rattle.gl_ahead.specs.Demands.{own_keys}
 use Rattle.gl_cells.specs.Sheet.{sheet}
