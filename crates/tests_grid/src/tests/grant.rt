@@ -61,29 +61,63 @@ fn obstacle_of(
     Ok(blocker(w, root, &bound, blocks))
 }
 
-// The permits of two arrays beside content, and what is in the way of one of them.
+/// What stands in the way of a root, if anything does; addresses are written as texts.
+#[derive(Clone, Copy)]
+enum Way {
+    Free,
+    Root(&'static str),
+    Content(&'static str),
+    Edge,
+}
+
+fn obstacle(way: Way) -> Result<Option<Obstacle>, Fail> {
+    match way {
+        Way::Free => Ok(None),
+        Way::Root(name) => Ok(Some(Obstacle::Root(address(name)?))),
+        Way::Content(name) => Ok(Some(Obstacle::Content(address(name)?))),
+        Way::Edge => Ok(Some(Obstacle::Edge)),
+    }
+}
+
+/// The address with content, the roots of an array of three rows and of one of so many rows and
+/// columns, and what is in the way of one of them.
+type Row = (
+    &'static str,
+    &'static str,
+    &'static str,
+    u16,
+    u16,
+    &'static str,
+    Way,
+);
+
+const ROWS: &[Row] = &[
+    ("D1", "B1", "A2", 1, 3, "B1", Way::Free),
+    ("D1", "B1", "A2", 1, 3, "A2", Way::Root("B1")),
+    ("A2", "B1", "A2", 1, 1, "A2", Way::Free),
+    ("A2", "A1", "B1", 3, 1, "A1", Way::Content("A2")),
+    ("A2", "A1", "B1", 3, 1, "B1", Way::Free),
+    ("D1", "B1", "A9998", 3, 1, "A9998", Way::Edge),
+    ("D1", "B1", "A9998", 2, 1, "A9998", Way::Free),
+    ("D1", "B1", "ZY2", 1, 3, "ZY2", Way::Edge),
+];
+
+/// What is in the way of the root that the row asks of.
+fn found_at(alloc: Global, row: &Row) -> Result<Option<Obstacle>, Fail> {
+    let (held, first, root, rows, cols, asked, _) = row;
+    let blocks = OneContent { at: address(held)? };
+    let mut sizes = Sizes::new(alloc);
+    append(&mut sizes, address(first)?, 3, 1)?;
+    append(&mut sizes, address(root)?, *rows, *cols)?;
+    let w = granted(alloc, &sizes, &blocks)?;
+    obstacle_of(&w, &sizes, address(asked)?, &blocks)
+}
+
 #[test]
 fn permits_and_obstacles(rt: HostRuntime) -> Result<(), Fail> {
-    let met = Some(Obstacle::Root(address("B1")?));
-    let content = Some(Obstacle::Content(address("A2")?));
-    let edge = Some(Obstacle::Edge);
-    for (held, first, root, rows, cols, asked, want) in [
-        ("D1", "B1", "A2", 1, 3, "B1", None),
-        ("D1", "B1", "A2", 1, 3, "A2", met),
-        ("A2", "B1", "A2", 1, 1, "A2", None),
-        ("A2", "A1", "B1", 3, 1, "A1", content),
-        ("A2", "A1", "B1", 3, 1, "B1", None),
-        ("D1", "B1", "A9998", 3, 1, "A9998", edge),
-        ("D1", "B1", "A9998", 2, 1, "A9998", None),
-        ("D1", "B1", "ZY2", 1, 3, "ZY2", edge),
-    ] {
-        let blocks = OneContent { at: address(held)? };
-        let mut sizes = Sizes::new(rt.alloc());
-        append(&mut sizes, address(first)?, 3, 1)?;
-        append(&mut sizes, address(root)?, rows, cols)?;
-        let w = granted(rt.alloc(), &sizes, &blocks)?;
-        let found = obstacle_of(&w, &sizes, address(asked)?, &blocks)?;
-        assert_eq!(rt; found, want, "at {asked} beside {root}");
+    for row in ROWS {
+        let found = found_at(rt.alloc(), row)?;
+        assert!(rt; found == obstacle(row.6)?, "at {} beside {}", row.5, row.2);
     }
     Ok(())
 }
@@ -124,8 +158,8 @@ fn many_roots_are_looked_up(rt: HostRuntime) -> Result<(), Fail> {
         } else {
             None
         };
-        assert_eq!(rt; w.status(a), permit, "at {i}");
-        assert_eq!(rt; w.cover(a), Some((root, below % 2, right)), "at {i}");
+        assert!(rt; w.status(a) == permit, "at {i}");
+        assert!(rt; w.cover(a) == Some((root, below % 2, right)), "at {i}");
     }
     Ok(())
 }
