@@ -27,8 +27,9 @@ fn removal(time: u64, site: u16, place: &str) -> Result<Edit, Fail> {
     Ok(Edit::new(stamp, place, None))
 }
 
+/// A number as a content.
 #[tactic(auto, using(gl_value::specs::Forms::trees))]
-fn number(n: i64) -> Content
+pub fn number(n: i64) -> Content
     ensures { IsProperContent (content_tree result) }
 {
     Content::Const(Scalar::Int(n))
@@ -99,21 +100,26 @@ fn taken(alloc: Global, site: u16, order: &[u8]) -> Result<Replica, Fail> {
     Ok(replica)
 }
 
+/// Orders in which each of the edits is taken, some of them twice.
+const ORDERS: &[&[u8]] = &[
+    &[0, 1, 2, 3, 0, 1],
+    &[3, 2, 1, 0, 3, 3],
+    &[1, 0, 3, 2, 1, 1],
+    &[2, 2, 0, 0, 1, 3],
+    &[3, 1, 0, 2, 1, 0],
+];
+
+/// A replica that takes the edits in this order has the registers and the next stamp of all others.
+fn agrees(alloc: Global, order: &[u8]) -> Result<bool, Fail> {
+    let replica = taken(alloc, 9, order)?;
+    let told = registers(alloc, &replica)?;
+    Ok(told.as_str() == "4 3 1,1;3 2 2,1 =;" && replica.next() == Stamp::new(5, 9))
+}
+
 #[test]
 fn replicas_agree(rt: HostRuntime) -> Result<(), Fail> {
-    for order in [
-        [0, 1, 2, 3, 0, 1],
-        [3, 2, 1, 0, 3, 3],
-        [1, 0, 3, 2, 1, 1],
-        [2, 2, 0, 0, 1, 3],
-        [3, 1, 0, 2, 1, 0],
-    ] {
-        let replica = taken(rt.alloc(), 9, &order)?;
-        assert_eq!(rt;
-            registers(rt.alloc(), &replica)?.as_str(),
-            "4 3 1,1;3 2 2,1 =;"
-        );
-        assert_eq!(rt; replica.next(), Stamp::new(5, 9));
+    for order in ORDERS {
+        assert!(rt; agrees(rt.alloc(), order)?, "{order:?}");
     }
     Ok(())
 }

@@ -1,13 +1,14 @@
 //! Steps that are undone and done again, and their limit.
-ghost use Rattle.std.specs.Prelude.{IfSome};
+ghost use Rattle.std.specs.Prelude.{◌<◌, length, IfOk, IfSome, IsFalse, IsTrue};
 ghost use Rattle.gl_language.specs.Content.{IsProperContent};
 ghost use Rattle.gl_cells.specs.Content.{content_tree};
+ghost use Rattle.gl_undo.specs.History.{done, undone};
 ghost use Rattle.gl_undo.specs.View.{AreProperChanges};
 
+use crate::tests::replicas::number;
 use gl_cells::{Cells, Content};
-use gl_plane::{Addr, Range, Share};
+use gl_plane::{Addr, NoMemory, Range, Share};
 use gl_undo::{History, step_of};
-use gl_value::Scalar;
 use std::alloc::Global;
 use std::test::Fail;
 use tests_common::{address, content_of, scalar_text};
@@ -61,28 +62,51 @@ fn clear(alloc: Global, cells: &mut Cells, history: &mut History, place: Addr) -
     Ok(())
 }
 
+/// The changes of the latest step, or of the latest that was undone, if one is left.
+fn changes(
+    alloc: Global,
+    history: &History,
+    is_back: bool,
+) -> Result<Option<Vec<(Addr, Option<Content>)>>, NoMemory>
+    ensures proper { IfOk result (λ o. IfSome o (λ v. AreProperChanges v.items)) }
+    ensures back { IsTrue is_back → IfOk result (λ o. IfSome o (λ _. 0 < length (done history.now))) }
+    ensures forward { IsFalse is_back
+        → IfOk result (λ o. IfSome o (λ _. 0 < length (undone history.now))) }
+{
+    if is_back {
+        history.back(alloc)
+    } else {
+        history.forward(alloc)
+    }
+}
+
+/// Whether a step was left to undo, or to redo.
+fn moves(
+    alloc: Global,
+    cells: &mut Cells,
+    history: &mut History,
+    is_back: bool,
+) -> Result<bool, Fail> {
+    let Some(list) = changes(alloc, history, is_back)? else {
+        return Ok(false);
+    };
+    apply(cells, list)?;
+    if is_back {
+        history.moved_back();
+    } else {
+        history.moved_forward();
+    }
+    Ok(true)
+}
+
 /// Whether a step was left to undo.
 fn undo(alloc: Global, cells: &mut Cells, history: &mut History) -> Result<bool, Fail> {
-    match history.back(alloc)? {
-        None => Ok(false),
-        Some(list) => {
-            apply(cells, list)?;
-            history.moved_back();
-            Ok(true)
-        }
-    }
+    moves(alloc, cells, history, true)
 }
 
 /// Whether a step was left to redo.
 fn redo(alloc: Global, cells: &mut Cells, history: &mut History) -> Result<bool, Fail> {
-    match history.forward(alloc)? {
-        None => Ok(false),
-        Some(list) => {
-            apply(cells, list)?;
-            history.moved_forward();
-            Ok(true)
-        }
-    }
+    moves(alloc, cells, history, false)
 }
 
 /// The content of an address, `=` for a formula, and `-` for none.
@@ -99,34 +123,36 @@ fn is_told(alloc: Global, cells: &Cells, want: &str) -> Result<bool, Fail> {
     Ok(told(alloc, cells, "A1")?.as_str() == want)
 }
 
-/// Each step back leaves one of these in A1, and no step is left then.
-fn goes_back(
-    alloc: Global,
-    cells: &mut Cells,
-    history: &mut History,
-    contents: &[&str],
-) -> Result<bool, Fail> {
-    for want in contents {
-        if !undo(alloc, cells, history)? || !is_told(alloc, cells, want)? {
-            return Ok(false);
-        }
-    }
-    Ok(!undo(alloc, cells, history)?)
+/// Steps that are undone, or redone: what A1 has behind each of them, until none is left.
+struct Walk {
+    is_back: bool,
+    contents: &'static [&'static str],
 }
 
-/// Each step forward leaves one of these in A1, and no step is left then.
-fn goes_forward(
+const WALKS: &[Walk] = &[
+    Walk {
+        is_back: true,
+        contents: &["=", "1", "-"],
+    },
+    Walk {
+        is_back: false,
+        contents: &["1", "=", "-"],
+    },
+];
+
+/// Each step leaves in A1 what the walk says, and no step is left then.
+fn goes(
     alloc: Global,
     cells: &mut Cells,
     history: &mut History,
-    contents: &[&str],
+    walk: &Walk,
 ) -> Result<bool, Fail> {
-    for want in contents {
-        if !redo(alloc, cells, history)? || !is_told(alloc, cells, want)? {
+    for want in walk.contents {
+        if !moves(alloc, cells, history, walk.is_back)? || !is_told(alloc, cells, want)? {
             return Ok(false);
         }
     }
-    Ok(!redo(alloc, cells, history)?)
+    Ok(!moves(alloc, cells, history, walk.is_back)?)
 }
 
 #[test]
@@ -139,8 +165,9 @@ fn steps_back_and_forth(rt: HostRuntime) -> Result<(), Fail> {
     }
     clear(alloc, &mut cells, &mut history, address("A1")?)?;
     assert!(rt; is_told(alloc, &cells, "-")?);
-    assert!(rt; goes_back(alloc, &mut cells, &mut history, &["=", "1", "-"])?);
-    assert!(rt; goes_forward(alloc, &mut cells, &mut history, &["1", "=", "-"])?);
+    for walk in WALKS {
+        assert!(rt; goes(alloc, &mut cells, &mut history, walk)?);
+    }
     Ok(())
 }
 
@@ -159,11 +186,20 @@ fn a_new_step_ends_what_can_be_redone(rt: HostRuntime) -> Result<(), Fail> {
     Ok(())
 }
 
-#[tactic(auto, using(gl_value::specs::Forms::trees))]
-fn number(n: i64) -> Content
-    ensures { IsProperContent (content_tree result) }
-{
-    Content::Const(Scalar::Int(n))
+/// 256 steps are left and no more, and behind them A1 has this content.
+fn goes_all(
+    alloc: Global,
+    cells: &mut Cells,
+    history: &mut History,
+    is_back: bool,
+    want: &str,
+) -> Result<bool, Fail> {
+    for _ in 0..256 {
+        if !moves(alloc, cells, history, is_back)? {
+            return Ok(false);
+        }
+    }
+    Ok(is_told(alloc, cells, want)? && !moves(alloc, cells, history, is_back)?)
 }
 
 #[test]
@@ -174,15 +210,7 @@ fn the_latest_256_steps_are_kept(rt: HostRuntime) -> Result<(), Fail> {
     for n in 1..258 {
         put(alloc, &mut cells, &mut history, address("A1")?, number(n))?;
     }
-    for _ in 0..256 {
-        assert!(rt; undo(alloc, &mut cells, &mut history)?);
-    }
-    assert_eq!(rt; told(alloc, &cells, "A1")?.as_str(), "1");
-    assert!(rt; !undo(alloc, &mut cells, &mut history)?);
-    for _ in 0..256 {
-        assert!(rt; redo(alloc, &mut cells, &mut history)?);
-    }
-    assert_eq!(rt; told(alloc, &cells, "A1")?.as_str(), "257");
-    assert!(rt; !redo(alloc, &mut cells, &mut history)?);
+    assert!(rt; goes_all(alloc, &mut cells, &mut history, true, "1")?);
+    assert!(rt; goes_all(alloc, &mut cells, &mut history, false, "257")?);
     Ok(())
 }
