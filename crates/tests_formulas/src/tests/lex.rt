@@ -179,25 +179,30 @@ fn is_no_literal(alloc: Global, text: &str) -> bool {
     }
 }
 
+/// Literals, and their texts.
+const LITERALS: &[(&str, &str)] = &[
+    ("\"\"", ""),
+    ("\"a\\x41\\n\"", "aA\n"),
+    ("\"\u{1f600}\\\"\"", "\u{1f600}\""),
+];
+
+const NO_LITERALS: &[&str] = &[
+    "",
+    "a",
+    "\"a",
+    "\"a\" ",
+    "\"a\"b",
+    " \"a\"",
+    "\"\\q\"",
+    "\"a\"\"b\"",
+];
+
 #[test]
 fn literals(rt: HostRuntime) -> Result<(), Fail> {
-    for (text, want) in [
-        ("\"\"", ""),
-        ("\"a\\x41\\n\"", "aA\n"),
-        ("\"\u{1f600}\\\"\"", "\u{1f600}\""),
-    ] {
+    for (text, want) in LITERALS {
         assert!(rt; is_literal(rt.alloc(), text, want), "{text}");
     }
-    for text in [
-        "",
-        "a",
-        "\"a",
-        "\"a\" ",
-        "\"a\"b",
-        " \"a\"",
-        "\"\\q\"",
-        "\"a\"\"b\"",
-    ] {
+    for text in NO_LITERALS {
         assert!(rt; is_no_literal(rt.alloc(), text), "{text}");
     }
     Ok(())

@@ -235,22 +235,25 @@ fn read_within(
     read(alloc, text.as_str())
 }
 
+/// Two pieces so many times around a middle, and what is read of the text.
+const LIMITS: &[(&str, u32, &str, &str, &str)] = &[
+    ("(", 64, "1", ")", "1"),
+    ("(", 65, "1", ")", "deep"),
+    (")", 1, "", "(", "syntax"),
+    ("(", 4096, "", ")", "deep"),
+    ("(", 8192, "", "", "deep"),
+    ("-", 8, "1", "", "--------1"),
+    ("-", 9, "1", "", "deep"),
+    (" ", 8191, "1", "", "1"),
+    (" ", 8192, "1", "", "long"),
+    ("$", 8193, "", "", "long"),
+];
+
 #[test]
 fn limits(rt: HostRuntime) -> Result<(), Fail> {
-    for (before, count, middle, after, want) in [
-        ("(", 64, "1", ")", "1"),
-        ("(", 65, "1", ")", "deep"),
-        (")", 1, "", "(", "syntax"),
-        ("(", 4096, "", ")", "deep"),
-        ("(", 8192, "", "", "deep"),
-        ("-", 8, "1", "", "--------1"),
-        ("-", 9, "1", "", "deep"),
-        (" ", 8191, "1", "", "1"),
-        (" ", 8192, "1", "", "long"),
-        ("$", 8193, "", "", "long"),
-    ] {
-        let found = read_within(rt.alloc(), before, count, middle, after)?;
-        assert_eq!(rt; found.as_str(), want, "{count} {before}");
+    for (before, count, middle, after, want) in LIMITS {
+        let found = read_within(rt.alloc(), before, *count, middle, after)?;
+        assert!(rt; found.as_str() == *want, "{count} {before}");
     }
     Ok(())
 }
@@ -269,22 +272,25 @@ fn read_between(
     read(alloc, text.as_str())
 }
 
+/// A piece so many times between a beginning and an end, and what is read of the text.
+const PIECES: &[(&str, &str, u32, &str, &str)] = &[
+    (")", "(", 64, "", "syntax"),
+    (")", "(", 65, "", "deep"),
+    (
+        "SUM(1",
+        ",1",
+        15,
+        ")",
+        "SUM(1,1,1,1,1,1,1,1,1,1,1,1,1,1,1,1)",
+    ),
+    ("SUM(1", ",1", 16, ")", "arity"),
+];
+
 #[test]
 fn limits_of_pieces(rt: HostRuntime) -> Result<(), Fail> {
-    for (start, piece, count, end, want) in [
-        (")", "(", 64, "", "syntax"),
-        (")", "(", 65, "", "deep"),
-        (
-            "SUM(1",
-            ",1",
-            15,
-            ")",
-            "SUM(1,1,1,1,1,1,1,1,1,1,1,1,1,1,1,1)",
-        ),
-        ("SUM(1", ",1", 16, ")", "arity"),
-    ] {
-        let found = read_between(rt.alloc(), start, piece, count, end)?;
-        assert_eq!(rt; found.as_str(), want, "{start} and {count} {piece}");
+    for (start, piece, count, end, want) in PIECES {
+        let found = read_between(rt.alloc(), start, piece, *count, end)?;
+        assert!(rt; found.as_str() == *want, "{start} and {count} {piece}");
     }
     Ok(())
 }

@@ -74,14 +74,14 @@ fn told(alloc: Global, line: &[u8]) -> &'static str {
 
 fn assert_told(rt: &impl Abort, alloc: Global, rows: &[(&str, &str)]) {
     for (line, want) in rows {
-        assert_eq!(rt; told(alloc, line.as_bytes()), *want, "{line}");
+        assert!(rt; told(alloc, line.as_bytes()) == *want, "{line}");
     }
 }
 
 /// Of each of the lines the same is told.
 fn assert_all_told(rt: &impl Abort, alloc: Global, lines: &[&str], want: &str) {
     for line in lines {
-        assert_eq!(rt; told(alloc, line.as_bytes()), want, "{line}");
+        assert!(rt; told(alloc, line.as_bytes()) == want, "{line}");
     }
 }
 
@@ -369,22 +369,25 @@ fn told_between(
     Ok(told(alloc, line.as_bytes()))
 }
 
+/// A piece so many times between a beginning and an end, and what is told of the line.
+const LONG_LINES: &[(&str, &str, u32, &str, &str)] = &[
+    ("set A1 ", "a", 4096, "", "set text"),
+    ("set A1 ", "a", 4097, "", "error field"),
+    ("set A1 -", "0", 5000, "7", "set number"),
+    ("set A1 ", "9", 4097, "", "error field"),
+    ("set A1 \"", "\\\\", 4096, "\"", "set text"),
+    ("set A1 \"", "\\\\", 4097, "\"", "error text"),
+    ("set A1 =1", " ", 8191, "", "set formula"),
+    ("set A1 =1", " ", 8192, "", "long"),
+    ("set A1 =", "(", 65, "1", "deep"),
+    (";", "x", 32767, "", ""),
+];
+
 #[test]
 fn long_lines(rt: HostRuntime) -> Result<(), Fail> {
-    for (start, piece, count, end, want) in [
-        ("set A1 ", "a", 4096, "", "set text"),
-        ("set A1 ", "a", 4097, "", "error field"),
-        ("set A1 -", "0", 5000, "7", "set number"),
-        ("set A1 ", "9", 4097, "", "error field"),
-        ("set A1 \"", "\\\\", 4096, "\"", "set text"),
-        ("set A1 \"", "\\\\", 4097, "\"", "error text"),
-        ("set A1 =1", " ", 8191, "", "set formula"),
-        ("set A1 =1", " ", 8192, "", "long"),
-        ("set A1 =", "(", 65, "1", "deep"),
-        (";", "x", 32767, "", ""),
-    ] {
-        let found = told_between(rt.alloc(), start, piece, count, end)?;
-        assert_eq!(rt; found, want, "{start} and {count} {piece}");
+    for (start, piece, count, end, want) in LONG_LINES {
+        let found = told_between(rt.alloc(), start, piece, *count, end)?;
+        assert!(rt; found == *want, "{start} and {count} {piece}");
     }
     Ok(())
 }
@@ -422,25 +425,27 @@ fn ends_of(alloc: Global, script: &[u8]) -> Result<Vec<Ended>, NoMemory> {
     Ok(ends)
 }
 
+/// Scripts, and how their lines and payloads end.
+const FRAMED: &[(&[u8], &[Ended])] = &[
+    (b"", &[]),
+    (b"set A1 2\r\nshow A1", &[Ended::Line, Ended::Line]),
+    (
+        b"import A1 6\n1,\"\n\"\nlist\n",
+        &[Ended::Import, Ended::Line],
+    ),
+    (b"import A1 6\n1,\"\n", &[Ended::Truncated]),
+    (b"import A1 0\r\n\n", &[Ended::Import, Ended::Line]),
+    (b"import A1 1", &[Ended::Truncated]),
+    (b"import A1 01\nx", &[Ended::Line, Ended::Line]),
+    (b"import  1\nx", &[Ended::Line, Ended::Line]),
+    (b"import A1 1048577\nx", &[Ended::Line, Ended::Line]),
+];
+
 #[test]
 fn scripts_are_framed(rt: HostRuntime) -> Result<(), Fail> {
-    let cases: [(&[u8], &[Ended]); 9] = [
-        (b"", &[]),
-        (b"set A1 2\r\nshow A1", &[Ended::Line, Ended::Line]),
-        (
-            b"import A1 6\n1,\"\n\"\nlist\n",
-            &[Ended::Import, Ended::Line],
-        ),
-        (b"import A1 6\n1,\"\n", &[Ended::Truncated]),
-        (b"import A1 0\r\n\n", &[Ended::Import, Ended::Line]),
-        (b"import A1 1", &[Ended::Truncated]),
-        (b"import A1 01\nx", &[Ended::Line, Ended::Line]),
-        (b"import  1\nx", &[Ended::Line, Ended::Line]),
-        (b"import A1 1048577\nx", &[Ended::Line, Ended::Line]),
-    ];
-    for (script, expected) in cases {
+    for (script, expected) in FRAMED {
         let ends = ends_of(rt.alloc(), script)?;
-        assert_eq!(rt; ends.as_slice(), expected);
+        assert_eq!(rt; ends.as_slice(), *expected);
     }
     Ok(())
 }

@@ -1,10 +1,10 @@
 //! The texts of values, contents, tables and oracles.
-use gl_plane::{Entry, Oracle, Permit};
+use gl_plane::Permit;
 use gl_value::{ErrKind, Scalar, Shown};
 use gl_views::{content_text, oracle_text, shown_text, table};
 use std::alloc::Global;
 use std::test::Fail;
-use tests_common::{address, content_of, size, text};
+use tests_common::{content_of, one_entry, text};
 
 fn int(n: i64) -> Shown {
     Shown::Value(Scalar::Int(n))
@@ -44,18 +44,9 @@ fn texts(rt: HostRuntime) -> Result<(), Fail> {
     Ok(())
 }
 
-/// An oracle with one entry.
-fn one_entry(alloc: Global, permit: Permit) -> Result<Oracle, Fail> {
-    let root = address("B10")?;
-    let size = size(1, 3)?;
-    let mut oracle = Oracle::new(alloc);
-    oracle.push(Entry { root, size, permit })?;
-    Ok(oracle)
-}
-
 #[test]
 fn oracles(rt: HostRuntime) -> Result<(), Fail> {
-    let oracle = one_entry(rt.alloc(), Permit::Refused)?;
+    let oracle = one_entry(rt.alloc(), "B10", 1, 3, Permit::Refused)?;
     let lines = oracle_text(rt.alloc(), &oracle)?;
     assert_eq!(rt; lines.as_str(), "oracle 1\nB10 1x3 refused\n");
     Ok(())

@@ -26,24 +26,31 @@ fn over_elements(name: &str, values: &[Value]) -> Result<Scalar, Fail> {
     }
 }
 
+fn of_one_scalar(name: &str, values: &[Value]) -> Result<Scalar, Fail> {
+    let x = scalar_argument(values, 0)?;
+    match name {
+        "NOT" => Ok(not(x)),
+        "ISERROR" => Ok(is_error(x)),
+        "ISBLANK" => Ok(is_blank(x)),
+        "ABS" => Ok(abs(x)),
+        _ => Ok(len(x)),
+    }
+}
+
+fn of_two_scalars(alloc: Global, name: &str, values: &[Value]) -> Result<Scalar, Fail> {
+    let x = scalar_argument(values, 0)?;
+    let y = scalar_argument(values, 1)?;
+    match name {
+        "MOD" => Ok(modulo(x, y)),
+        "LEFT" => Ok(left(alloc, x, y)?),
+        _ => Ok(right(alloc, x, y)?),
+    }
+}
+
 fn scalar_answer(alloc: Global, name: &str, values: &[Value]) -> Result<Scalar, Fail> {
     match name {
-        "NOT" => Ok(not(scalar_argument(values, 0)?)),
-        "ISERROR" => Ok(is_error(scalar_argument(values, 0)?)),
-        "ISBLANK" => Ok(is_blank(scalar_argument(values, 0)?)),
-        "ABS" => Ok(abs(scalar_argument(values, 0)?)),
-        "LEN" => Ok(len(scalar_argument(values, 0)?)),
-        "MOD" => Ok(modulo(scalar_argument(values, 0)?, scalar_argument(values, 1)?)),
-        "LEFT" => Ok(left(
-            alloc,
-            scalar_argument(values, 0)?,
-            scalar_argument(values, 1)?,
-        )?),
-        "RIGHT" => Ok(right(
-            alloc,
-            scalar_argument(values, 0)?,
-            scalar_argument(values, 1)?,
-        )?),
+        "NOT" | "ISERROR" | "ISBLANK" | "ABS" | "LEN" => of_one_scalar(name, values),
+        "MOD" | "LEFT" | "RIGHT" => of_two_scalars(alloc, name, values),
         _ => over_elements(name, values),
     }
 }

@@ -23,7 +23,7 @@ fn told(alloc: Global, op: Op, x: &str, y: &str) -> Result<String, Fail> {
 }
 
 /// The kinds that an operator computes with.
-const PLAIN: [&str; 4] = [".", "7", "\"a\"", "TRUE"];
+const PLAIN: &[&str] = &[".", "7", "\"a\"", "TRUE"];
 
 /// What an operator gives at a first operand and each of these second ones.
 fn beside(alloc: Global, op: Op, x: &str, others: &[&str]) -> Result<String, Fail> {
@@ -65,9 +65,8 @@ const AT_EACH_KIND: &[(Op, &str, &str)] = &[
 #[test]
 fn operators_at_each_kind(rt: HostRuntime) -> Result<(), Fail> {
     for (op, x, want) in AT_EACH_KIND {
-        assert_eq!(rt;
-            beside(rt.alloc(), *op, x, &PLAIN)?.as_str(),
-            *want,
+        assert!(rt;
+            beside(rt.alloc(), *op, x, PLAIN)?.as_str() == *want,
             "{op:?} {x}"
         );
     }
@@ -89,7 +88,7 @@ fn truths(alloc: Global, op: Op) -> Result<String, Fail> {
         if !out.is_empty() {
             out.push(' ')?;
         }
-        let row = beside(alloc, op, x, &PLAIN)?;
+        let row = beside(alloc, op, x, PLAIN)?;
         for word in row.split(' ') {
             out.push_str(letter(word))?;
         }
@@ -97,57 +96,67 @@ fn truths(alloc: Global, op: Op) -> Result<String, Fail> {
     Ok(out)
 }
 
+/// What comparisons give at each pair of kinds.
+const COMPARISONS: &[(Op, &str)] = &[
+    (Op::Eq, "TFFF FTFF FFTF FFFT"),
+    (Op::Ne, "FTTT TFTT TTFT TTTF"),
+    (Op::Lt, "FTTT FFTT FFFT FFFF"),
+    (Op::Le, "TTTT FTTT FFTT FFFT"),
+    (Op::Gt, "FFFF TFFF TTFF TTTF"),
+    (Op::Ge, "TFFF TTFF TTTF TTTT"),
+];
+
 #[test]
 fn comparisons_at_each_kind(rt: HostRuntime) -> Result<(), Fail> {
-    for (op, want) in [
-        (Op::Eq, "TFFF FTFF FFTF FFFT"),
-        (Op::Ne, "FTTT TFTT TTFT TTTF"),
-        (Op::Lt, "FTTT FFTT FFFT FFFF"),
-        (Op::Le, "TTTT FTTT FFTT FFFT"),
-        (Op::Gt, "FFFF TFFF TTFF TTTF"),
-        (Op::Ge, "TFFF TTFF TTTF TTTT"),
-    ] {
-        assert_eq!(rt; truths(rt.alloc(), op)?.as_str(), want, "{op:?}");
+    for (op, want) in COMPARISONS {
+        assert!(rt; truths(rt.alloc(), *op)?.as_str() == *want, "{op:?}");
     }
     Ok(())
 }
 
-/// An error or a sheet value beside each kind, and each kind beside these.
+/// An error and a sheet value.
+const FAULTY: &[&str] = &["#N/A", "sheet(A1:A1)"];
+
+/// What any operator gives at an error or a sheet value beside each kind, and at each kind beside these.
+const FAULTS: &[(&str, &[&str], &str)] = &[
+    (".", FAULTY, "#N/A #VALUE!"),
+    ("7", FAULTY, "#N/A #VALUE!"),
+    ("\"a\"", FAULTY, "#N/A #VALUE!"),
+    ("TRUE", FAULTY, "#N/A #VALUE!"),
+    ("#REF!", PLAIN, "#REF! #REF! #REF! #REF!"),
+    ("#REF!", FAULTY, "#REF! #REF!"),
+    ("sheet(A1:A1)", PLAIN, "#VALUE! #VALUE! #VALUE! #VALUE!"),
+    ("sheet(A1:A1)", FAULTY, "#N/A #VALUE!"),
+];
+
+/// At a fault on either side the operator gives what the table says.
 fn faults(alloc: Global, op: Op) -> Result<bool, Fail> {
-    let faulty = ["#N/A", "sheet(A1:A1)"];
-    for x in PLAIN {
-        if beside(alloc, op, x, &faulty)?.as_str() != "#N/A #VALUE!" {
+    for (x, others, want) in FAULTS {
+        if beside(alloc, op, x, others)?.as_str() != *want {
             return Ok(false);
         }
     }
-    let error = beside(alloc, op, "#REF!", &PLAIN)?;
-    let sheet = beside(alloc, op, "sheet(A1:A1)", &PLAIN)?;
-    let errors = beside(alloc, op, "#REF!", &faulty)?;
-    let sheets = beside(alloc, op, "sheet(A1:A1)", &faulty)?;
-    Ok(
-        error.as_str() == "#REF! #REF! #REF! #REF!"
-            && sheet.as_str() == "#VALUE! #VALUE! #VALUE! #VALUE!"
-            && errors.as_str() == "#REF! #REF!"
-            && sheets.as_str() == "#N/A #VALUE!",
-    )
+    Ok(true)
 }
+
+const OPERATORS: &[Op] = &[
+    Op::Add,
+    Op::Sub,
+    Op::Mul,
+    Op::Div,
+    Op::Eq,
+    Op::Ne,
+    Op::Lt,
+    Op::Le,
+    Op::Gt,
+    Op::Ge,
+    Op::Join,
+];
 
 #[test]
 fn faults_at_each_kind(rt: HostRuntime) -> Result<(), Fail> {
-    for op in [
-        Op::Add,
-        Op::Sub,
-        Op::Mul,
-        Op::Div,
-        Op::Eq,
-        Op::Ne,
-        Op::Lt,
-        Op::Le,
-        Op::Gt,
-        Op::Ge,
-        Op::Join,
-    ] {
-        assert!(rt; faults(rt.alloc(), op)?, "{op:?}");
+    for op in OPERATORS {
+        assert!(rt; faults(rt.alloc(), *op)?, "{op:?}");
     }
     Ok(())
 }
@@ -201,9 +210,8 @@ const NUMBERS_AND_TEXTS: &[(Op, &str, &str, &str)] = &[
 #[test]
 fn numbers_at_their_limits_and_texts(rt: HostRuntime) -> Result<(), Fail> {
     for (op, x, y, want) in NUMBERS_AND_TEXTS {
-        assert_eq!(rt;
-            told(rt.alloc(), *op, x, y)?.as_str(),
-            *want,
+        assert!(rt;
+            told(rt.alloc(), *op, x, y)?.as_str() == *want,
             "{op:?} {x} {y}"
         );
     }
