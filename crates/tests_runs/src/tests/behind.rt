@@ -1,6 +1,6 @@
 //! No read follows a write that failed, and no write follows a read that failed: all reads and all
 //! writes of a run are counted, and there are as many as were needed up to the failure.
-use crate::tests::faults::{SCRIPT, WatchedSink, WatchedSource};
+use crate::tests::faults::{SCRIPT, Watched};
 use gl_demand::{Silent, Steps};
 use gl_order::{Order, by_kind};
 use gl_port::{MemSink, MemSource};
@@ -118,9 +118,9 @@ fn holds(alloc: Global, row: &Row) -> Result<bool, Fail> {
     let reads = row.reads.to_vec(alloc)?;
     let writes = row.writes.to_vec(alloc)?;
     let inner = MemSource::new(SCRIPT.to_vec(alloc)?, row.read_step.max(1), reads);
-    let mut source = WatchedSource::new(inner, false);
+    let mut source = Watched::new(inner, false);
     let inner = MemSink::new(alloc, 100, row.write_step.max(1), writes)?;
-    let mut sink = WatchedSink::new(inner, false);
+    let mut sink = Watched::new(inner, false);
     let order = Order::new(by_kind);
     let mut steps = Steps::new(Silent);
     let ended = run(alloc, &[], &order, &mut source, &mut sink, &mut steps);

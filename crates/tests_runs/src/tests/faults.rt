@@ -10,11 +10,11 @@ use gl_run::{Status, run};
 use std::alloc::Global;
 use std::test::Fail;
 
-/// It counts all reads and each that failed, and may try one that failed once more. It notes the
-/// reads behind the first that it answered as failed.
+/// A source or a sink that counts all calls and each that failed, and may try one that failed once
+/// more. It notes the calls behind the first that it answered as failed.
 #[derive(Drop)]
-pub struct WatchedSource {
-    inner: MemSource,
+pub struct Watched<T> {
+    pub inner: T,
     again: bool,
     pub calls: u64,
     pub faults: u64,
@@ -22,7 +22,51 @@ pub struct WatchedSource {
     pub behind: u64,
 }
 
-impl Source for WatchedSource {
+impl<T> Watched<T> {
+    ghost use Rattle.std.specs.Prelude.{◌≡◌, ◌≤◌};
+    ghost use Rattle.gl_port.specs.Causes.{HasCause};
+
+    /// No call yet.
+    pub fn new(inner: T, again: bool) -> Watched<T> {
+        Watched {
+            inner,
+            again,
+            calls: 0,
+            faults: 0,
+            ended: false,
+            behind: 0,
+        }
+    }
+
+    /// Counts a call, and whether it is tried once more where the first try came to this.
+    fn is_tried_again(&mut self, first: Result<usize, Failed>) -> bool
+        ensures { self.old.faults ≤ self.new.faults }
+    {
+        self.calls = self.calls.saturating_add(1);
+        if self.ended {
+            self.behind = self.behind.saturating_add(1);
+        }
+        let again = self.again && first.is_err();
+        if again {
+            self.faults = self.faults.saturating_add(1);
+        }
+        again
+    }
+
+    /// Notes the answer to a call, by the last try.
+    fn answered(&mut self, last: Result<usize, Failed>) -> Result<usize, Failed>
+        ensures same { result ≡ last }
+        ensures cause { HasCause self.old.faults self.new.faults last }
+    {
+        if last.is_err() {
+            self.faults = self.faults.saturating_add(1);
+            self.ended = true;
+        }
+        last
+    }
+}
+
+impl Source for Watched<MemSource> {
     ghost left = { λ _. None };
 
     ghost faults = { λ s. s.faults };
@@ -34,65 +78,14 @@ impl Source for WatchedSource {
     ghost never_fails = { λ _. ⊥ };
 
     fn read(&mut self, buf: &mut [u8]) -> Result<usize, Failed> {
-        self.calls = self.calls.saturating_add(1);
-        if self.ended {
-            self.behind = self.behind.saturating_add(1);
-        }
-        match self.inner.read(buf) {
-            Ok(count) => Ok(count),
-            Err(Failed) => self.failed(buf),
-        }
+        let first = self.inner.read(buf);
+        let again = self.is_tried_again(first);
+        let last = if again { self.inner.read(buf) } else { first };
+        self.answered(last)
     }
 }
 
-impl WatchedSource {
-    ghost use Rattle.std.specs.Prelude.{◌≡◌, ◌<◌, ◌≤◌, length};
-    ghost use Rattle.std.specs.Io.{ReadsAtMost};
-    ghost use Rattle.gl_port.specs.Causes.{HasCause};
-
-    /// No read yet.
-    pub fn new(inner: MemSource, again: bool) -> WatchedSource {
-        WatchedSource {
-            inner,
-            again,
-            calls: 0,
-            faults: 0,
-            ended: false,
-            behind: 0,
-        }
-    }
-
-    /// A read failed, and is tried once more where it may be.
-    fn failed(&mut self, buf: &mut [u8]) -> Result<usize, Failed>
-        requires { 0 < length buf.old }
-        ensures bound { ReadsAtMost result buf.new }
-        ensures cause { HasCause self.old.faults self.new.faults result }
-    {
-        self.faults = self.faults.saturating_add(1);
-        if self.again {
-            match self.inner.read(buf) {
-                Ok(count) => return Ok(count),
-                Err(Failed) => self.faults = self.faults.saturating_add(1),
-            }
-        }
-        self.ended = true;
-        Err(Failed)
-    }
-}
-
-/// It counts all writes and each that failed, and may try one that failed once more. It notes the
-/// writes behind the first that it answered as failed.
-#[derive(Drop)]
-pub struct WatchedSink {
-    pub inner: MemSink,
-    again: bool,
-    pub calls: u64,
-    pub faults: u64,
-    ended: bool,
-    pub behind: u64,
-}
-
-impl Sink for WatchedSink {
+impl Sink for Watched<MemSink> {
     ghost taken = { λ _. None };
 
     ghost faults = { λ s. s.faults };
@@ -104,48 +97,14 @@ impl Sink for WatchedSink {
     ghost takes = { λ _ _. ⊥ };
 
     fn write(&mut self, bytes: &[u8]) -> Result<usize, Failed> {
-        self.calls = self.calls.saturating_add(1);
-        if self.ended {
-            self.behind = self.behind.saturating_add(1);
-        }
-        match self.inner.write(bytes) {
-            Ok(count) => Ok(count),
-            Err(Failed) => self.failed(bytes),
-        }
-    }
-}
-
-impl WatchedSink {
-    ghost use Rattle.std.specs.Prelude.{◌≡◌, ◌<◌, ◌≤◌, length, ⊤, MatchResult};
-    ghost use Rattle.gl_port.specs.Causes.{HasCause};
-
-    /// No write yet.
-    pub fn new(inner: MemSink, again: bool) -> WatchedSink {
-        WatchedSink {
-            inner,
-            again,
-            calls: 0,
-            faults: 0,
-            ended: false,
-            behind: 0,
-        }
-    }
-
-    /// A write failed, and is tried once more where it may be.
-    fn failed(&mut self, bytes: &[u8]) -> Result<usize, Failed>
-        requires { 0 < length bytes.now }
-        ensures some { MatchResult result (λ n. (0 < n) × (n ≤ length bytes.now)) (λ _. ⊤) }
-        ensures cause { HasCause self.old.faults self.new.faults result }
-    {
-        self.faults = self.faults.saturating_add(1);
-        if self.again {
-            match self.inner.write(bytes) {
-                Ok(count) => return Ok(count),
-                Err(Failed) => self.faults = self.faults.saturating_add(1),
-            }
-        }
-        self.ended = true;
-        Err(Failed)
+        let first = self.inner.write(bytes);
+        let again = self.is_tried_again(first);
+        let last = if again {
+            self.inner.write(bytes)
+        } else {
+            first
+        };
+        self.answered(last)
     }
 }
 
@@ -227,8 +186,8 @@ fn holds(alloc: Global, row: &Row) -> Result<bool, Fail> {
     let reads = row.reads.to_vec(alloc)?;
     let writes = row.writes.to_vec(alloc)?;
     let inner = MemSource::new(SCRIPT.to_vec(alloc)?, 9, reads);
-    let mut source = WatchedSource::new(inner, row.again);
-    let mut sink = WatchedSink::new(MemSink::new(alloc, 100, 2, writes)?, row.again);
+    let mut source = Watched::new(inner, row.again);
+    let mut sink = Watched::new(MemSink::new(alloc, 100, 2, writes)?, row.again);
     let order = Order::new(by_kind);
     let mut steps = Steps::new(Silent);
     let ended = run(alloc, &[], &order, &mut source, &mut sink, &mut steps);
