@@ -104,7 +104,7 @@ fn assert_said(
     let cells = sheet_of(alloc, lines)?;
     let at = setting_of(alloc, &cells, w);
     for (i, change) in changes.iter().enumerate() {
-        assert_eq!(rt; said(at, name, change)?, change.3, "row {i}");
+        assert!(rt; said(at, name, change)? == change.3, "row {i}");
     }
     Ok(())
 }

@@ -1,10 +1,9 @@
 //! Certificates of as many keys as a calculation may demand, and of one more.
-use crate::tests::settings::{explained, found};
+use crate::tests::settings::{explained, is_found};
 use gl_cells::Cells;
 use gl_demand::{Silent, Steps};
 use gl_explain::Explained;
 use gl_plane::Oracle;
-use gl_views::shown_text;
 use std::alloc::Global;
 use std::test::Fail;
 use tests_common::{Form, first_column, put_line, setting_of, sheet_with};
@@ -31,18 +30,21 @@ const ALL: &str = "set B50 =VIEW(UPDATE(SHEET(A1:A9998),A9998,50),A1)";
 /// One more.
 const ONE_MORE: &str = "set B50 =VIEW(UPDATE(SHEET(A1:A9999),A9999,50),A1)";
 
+/// The sum of these cells has a certificate of as many keys.
+fn is_explained(alloc: Global, cells: &Cells) -> Result<bool, Fail> {
+    let w = Oracle::new(alloc);
+    // a step for each key, and one more for the sum, for each copy and for each settling
+    is_found(
+        setting_of(alloc, cells, &w),
+        "C1",
+        (500_000, 0, 500_101),
+        "50",
+    )
+}
+
 #[test]
 fn as_many_keys_as_may_be_demanded(rt: HostRuntime) -> Result<(), Fail> {
-    let alloc = rt.alloc();
-    let cells = copies(alloc, ALL)?;
-    let w = Oracle::new(alloc);
-    let at = setting_of(alloc, &cells, &w);
-    let mut steps = Steps::new(Silent);
-    let c = found(at, "C1", &mut steps)?;
-    assert_eq!(rt; (c.notes.len(), c.loops.len()), (500_000, 0));
-    assert_eq!(rt; shown_text(alloc, &c.shown)?.as_str(), "50");
-    // a step for each key, and one more for the sum, for each copy and for each settling
-    assert_eq!(rt; steps.done(), 500_101);
+    assert!(rt; is_explained(rt.alloc(), &copies(rt.alloc(), ALL)?)?);
     Ok(())
 }
 

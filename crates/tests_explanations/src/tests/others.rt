@@ -38,7 +38,7 @@ fn by_other_sheets(rt: HostRuntime) -> Result<(), Fail> {
     let at = setting_of(alloc, &cells, &w);
     let c = found(at, "B1", &mut Steps::new(Silent))?;
     for (i, row) in OTHERS.iter().enumerate() {
-        assert_eq!(rt; said(alloc, &c, row)?, row.2, "row {i}");
+        assert!(rt; said(alloc, &c, row)? == row.2, "row {i}");
     }
     Ok(())
 }

@@ -6,6 +6,7 @@ ghost use Rattle.gl_cert.specs.Claims.{claim_trees};
 use gl_cert::{Cert, Verdict, check};
 use gl_demand::{Key, Outcome, Silent, Steps};
 use gl_explain::{Explained, certificate};
+use gl_views::shown_text;
 use std::test::Fail;
 use tests_common::{Setting, address};
 
@@ -29,6 +30,17 @@ pub fn found(at: Setting<'_>, name: &str, steps: &mut Steps<Silent>) -> Result<C
         Explained::Work => Err("too much work".into()),
         Explained::Aborts(_) => Err("a spent budget".into()),
     }
+}
+
+/// How many notes and loops a certificate has, and how many steps its walk takes.
+pub type Counts = (usize, usize, u64);
+
+/// The certificate of an address has these counts, and says that this is shown.
+pub fn is_found(at: Setting<'_>, name: &str, counts: Counts, text: &str) -> Result<bool, Fail> {
+    let mut steps = Steps::new(Silent);
+    let c = found(at, name, &mut steps)?;
+    let counted = (c.notes.len(), c.loops.len(), steps.done());
+    Ok(counted == counts && shown_text(at.alloc, &c.shown)?.as_str() == text)
 }
 
 /// Whether all keys are sound.

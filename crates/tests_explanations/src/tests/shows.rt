@@ -1,15 +1,11 @@
 //! What is found of addresses.
-use crate::tests::settings::{explained, found, verdict_on};
+use crate::tests::settings::{Counts, explained, found, is_found, verdict_on};
 use gl_cert::Verdict;
 use gl_demand::{Budget, Silent, Steps};
 use gl_explain::Explained;
 use gl_plane::{Oracle, Permit};
-use gl_views::shown_text;
 use std::test::Fail;
 use tests_common::{Setting, one_entry, setting_of, sheet_of};
-
-/// How many notes and loops a certificate has, and how many steps its walk takes.
-type Counts = (usize, usize, u64);
 
 /// A sheet, the permit of two cells from A1 down, and of an address the counts of its certificate and
 /// what is shown.
@@ -30,7 +26,7 @@ const COLUMN: &[&str] = &[
 
 const CIRCLE: &[&str] = &["set A1 =B1", "set B1 =A1", "set C1 =IFERROR(A1,7)"];
 
-const ROWS: [Row; 11] = [
+const ROWS: &[Row] = &[
     (COLUMN, Permit::Permitted, "A1", (1, 0, 1), "1"),
     (COLUMN, Permit::Permitted, "A2", (1, 0, 1), "2"),
     (COLUMN, Permit::Permitted, "B1", (2, 0, 3), "3"),
@@ -45,29 +41,22 @@ const ROWS: [Row; 11] = [
     (CIRCLE, Permit::Permitted, "A2", (0, 2, 2), "."),
 ];
 
-/// The certificate of the row's address is as the row says, and it is accepted.
-fn holds(at: Setting<'_>, row: &Row) -> Result<bool, Fail> {
-    let mut steps = Steps::new(Silent);
-    let c = found(at, row.2, &mut steps)?;
-    let counts = (c.notes.len(), c.loops.len(), steps.done());
-    Ok(counts == row.3 && shown_text(at.alloc, &c.shown)?.as_str() == row.4)
-}
-
-/// The verdict on the certificate of the row's address.
-fn said(at: Setting<'_>, row: &Row) -> Result<Verdict, Fail> {
-    let c = found(at, row.2, &mut Steps::new(Silent))?;
-    verdict_on(at, row.2, &c, &mut Steps::new(Silent))
+/// The verdict on the certificate of an address.
+fn said(at: Setting<'_>, name: &str) -> Result<Verdict, Fail> {
+    let c = found(at, name, &mut Steps::new(Silent))?;
+    verdict_on(at, name, &c, &mut Steps::new(Silent))
 }
 
 #[test]
 fn what_is_found_is_accepted(rt: HostRuntime) -> Result<(), Fail> {
-    for row in &ROWS {
+    for row in ROWS {
         let cells = sheet_of(rt.alloc(), row.0)?;
         let w = one_entry(rt.alloc(), "A1", 2, 1, row.1)?;
         let at = setting_of(rt.alloc(), &cells, &w);
-        assert!(rt; holds(at, row)?, "{} of {:?}", row.2, row.0);
-        let verdict = said(at, row)?;
-        assert_eq!(rt; verdict, Verdict::Accepted, "{} of {:?}", row.2, row.0);
+        let holds = is_found(at, row.2, row.3, row.4)?;
+        assert!(rt; holds, "{} of {:?}", row.2, row.0);
+        let verdict = said(at, row.2)?;
+        assert!(rt; verdict == Verdict::Accepted, "{} of {:?}", row.2, row.0);
     }
     Ok(())
 }
@@ -115,7 +104,7 @@ fn copies_that_spend_a_budget(rt: HostRuntime) -> Result<(), Fail> {
         let cells = sheet_of(alloc, lines)?;
         let w = Oracle::new(alloc);
         let at = setting_of(alloc, &cells, &w);
-        assert_eq!(rt; spent(at, name)?, *budget, "{name}");
+        assert!(rt; spent(at, name)? == *budget, "{name}");
     }
     Ok(())
 }
@@ -132,18 +121,9 @@ fn copies_that_each_make_two(rt: HostRuntime) -> Result<(), Fail> {
     let cells = sheet_of(alloc, TREE)?;
     let w = Oracle::new(alloc);
     let at = setting_of(alloc, &cells, &w);
-    let mut steps = Steps::new(Silent);
-    let c = found(at, "B1", &mut steps)?;
     // a cell and a settling for each copy; a cell that makes two is evaluated three times, and each
     // settling twice
-    assert_eq!(rt;
-        (c.notes.len(), c.loops.len(), steps.done()),
-        (4_093, 0, 8_185)
-    );
-    assert_eq!(rt;
-        verdict_on(at, "B1", &c, &mut Steps::new(Silent))?,
-        Verdict::Accepted
-    );
-    assert_eq!(rt; shown_text(alloc, &c.shown)?.as_str(), "1024");
+    assert!(rt; is_found(at, "B1", (4_093, 0, 8_185), "1024")?);
+    assert_eq!(rt; said(at, "B1")?, Verdict::Accepted);
     Ok(())
 }
