@@ -213,7 +213,7 @@ fn a_history_is_as_anew(rt: HostRuntime) -> Result<(), Fail> {
 
 /// Arrays each of which knows its size only where the one before it spills: more rounds than tables
 /// are kept.
-const LONG: [(&str, &str); 12] = [
+const LONG: &[(&str, &str)] = &[
     ("A1", "=SEQUENCE(2,1)"),
     ("B1", "=SEQUENCE(A2,1)"),
     ("C1", "=SEQUENCE(B2,1)"),
@@ -229,7 +229,7 @@ const LONG: [(&str, &str); 12] = [
 ];
 
 /// Edits of it, each calculated in a version.
-const EDITS: [(&str, Option<&str>, Version); 8] = [
+const EDITS: &[(&str, Option<&str>, Version)] = &[
     ("A4", Some("=2+2"), Version::One),
     ("A1", Some("=SEQUENCE(3,1)"), Version::One),
     ("F2", Some("5"), Version::One),
@@ -246,7 +246,7 @@ fn settled_long(alloc: Global, lines: &mut Lines, kind: u8) -> Result<Calc, Fail
 {
     let mut calc = Calc::new(alloc);
     for (a, text) in LONG {
-        edit_at(alloc, &mut calc, lines, address(a)?, Some(text))?;
+        edit_at(alloc, &mut calc, lines, address(a)?, Some(*text))?;
     }
     let ends = refreshed(alloc, &mut calc, kind, Version::One)?;
     if ends.as_str() == "settled 12" {
@@ -263,8 +263,8 @@ fn long_is_as_anew(alloc: Global, kind: u8) -> Result<bool, Fail>
     let mut lines = BTreeMap::new(alloc);
     let mut calc = settled_long(alloc, &mut lines, kind)?;
     for (a, text, version) in EDITS {
-        edit_at(alloc, &mut calc, &mut lines, address(a)?, text)?;
-        if !is_as_anew(alloc, &mut calc, &lines, kind, version)? {
+        edit_at(alloc, &mut calc, &mut lines, address(a)?, *text)?;
+        if !is_as_anew(alloc, &mut calc, &lines, kind, *version)? {
             return Ok(false);
         }
     }

@@ -56,16 +56,18 @@ fn seen_of(alloc: Global, names: &[&str]) -> Result<(u64, u64, u64), Fail> {
     Ok((steps.done(), seen.wanted_seen, seen.others_seen))
 }
 
+/// Cells that are evaluated, and what is seen then.
+const SEEN: &[(&[&str], (u64, u64, u64))] = &[
+    (&[], (0, 0, 0)),
+    (&["A1"], (1, 1, 0)),
+    (&["A1", "B1"], (2, 1, 1)),
+    (&["A1", "B1", "A1"], (3, 2, 1)),
+];
+
 #[test]
 fn each_evaluation_is_seen_once(rt: HostRuntime) -> Result<(), Fail> {
-    let rows: [(&[&str], (u64, u64, u64)); 4] = [
-        (&[], (0, 0, 0)),
-        (&["A1"], (1, 1, 0)),
-        (&["A1", "B1"], (2, 1, 1)),
-        (&["A1", "B1", "A1"], (3, 2, 1)),
-    ];
-    for (names, want) in rows {
-        assert_eq!(rt; seen_of(rt.alloc(), names)?, want, "{names:?}");
+    for (names, want) in SEEN {
+        assert!(rt; seen_of(rt.alloc(), names)? == *want, "{names:?}");
     }
     Ok(())
 }
@@ -103,14 +105,17 @@ fn spills(alloc: Global, rows: u16, cols: u16, text: &str) -> Result<bool, Fail>
     Ok(scalar_text(alloc, &spilled(v, rows, cols)?)?.as_str() == text)
 }
 
+/// What the array shows at its address under each permit.
+const AT_ITS_ADDRESS: &[(Option<Permit>, &str)] = &[
+    (None, "1"),
+    (Some(Permit::Permitted), "1"),
+    (Some(Permit::Refused), "#SPILL!"),
+];
+
 #[test]
 fn an_array_at_its_address(rt: HostRuntime) -> Result<(), Fail> {
-    for (permit, text) in [
-        (None, "1"),
-        (Some(Permit::Permitted), "1"),
-        (Some(Permit::Refused), "#SPILL!"),
-    ] {
-        assert!(rt; shows(rt.alloc(), permit, text)?, "{permit:?}");
+    for (permit, text) in AT_ITS_ADDRESS {
+        assert!(rt; shows(rt.alloc(), *permit, text)?, "{permit:?}");
     }
     Ok(())
 }

@@ -67,9 +67,9 @@ fn counts(alloc: Global, chain: &Chain, kind: u8) -> Result<Counts, Fail>
 fn a_settling_takes_two_steps(rt: HostRuntime) -> Result<(), Fail> {
     for chain in CHAINS {
         for kind in 0u8..3 {
-            assert_eq!(rt;
-                counts(rt.alloc(), chain, kind)?,
-                (604, 2, chain.others, Sight::Number(307), Sight::Number(308)),
+            assert!(rt;
+                counts(rt.alloc(), chain, kind)?
+                    == (604, 2, chain.others, Sight::Number(307), Sight::Number(308)),
                 "{} by {kind}",
                 chain.held
             );
