@@ -8,7 +8,7 @@ use gl_lift::extents;
 use gl_value::{Scalar, Value};
 
 /// A number of rows or columns, or the scalar error of the value.
-fn extent(v: &Value, count: u16) -> Scalar
+fn extent_scalar(v: &Value, count: u16) -> Scalar
     ensures sound { IsTrue (is_sound_scalar (scalar_tree result)) }
     ensures value { (side : Size → ℕ) → count ≡ side (shape (value_tree v.now))
         → V.Value.One (scalar_tree result) ≡ extent side (value_tree v.now) }
@@ -24,7 +24,7 @@ pub fn extent_rows(v: &Value) -> Scalar
     ensures sound { IsTrue (is_sound_scalar (scalar_tree result)) }
     ensures value { V.Value.One (scalar_tree result) ≡ extent (λ s. s.rows) (value_tree v.now) }
 {
-    extent(v, extents(v).0)
+    extent_scalar(v, extents(v).0)
 }
 
 /// COLUMNS: how many columns a value has. A scalar has one, and a scalar error passes.
@@ -32,5 +32,5 @@ pub fn extent_columns(v: &Value) -> Scalar
     ensures sound { IsTrue (is_sound_scalar (scalar_tree result)) }
     ensures value { V.Value.One (scalar_tree result) ≡ extent (λ s. s.cols) (value_tree v.now) }
 {
-    extent(v, extents(v).1)
+    extent_scalar(v, extents(v).1)
 }
