@@ -11,3 +11,4 @@ pub mod Ending
 pub mod Single
 pub mod Progress
 pub mod Kept
+pub mod Engine

@@ -6,6 +6,7 @@ mod calc;
 mod calculating;
 mod collecting;
 mod ending;
+mod engine;
 mod holding;
 mod keeping;
 mod marking;
@@ -18,6 +19,7 @@ mod tables;
 
 pub use answers::{Answer, SpentKind, Why};
 pub use calc::Calc;
+pub use engine::Engine;
 
 /// The rounds that may be made beyond one for each formula.
 pub const EXTRA_ROUNDS: u32 = 8;

@@ -8,13 +8,13 @@ ghost use Rattle.gl_core.specs.State.{notes_in, IsFor};
 ghost use Rattle.gl_calc.specs.{Kept.IsKeptBy, Starting.IsEvaluated, Round.Gives, Round.Fails};
 ghost use Rattle.gl_calc.specs.{Engine.rule_in};
 
+use crate::Engine;
 use crate::collecting::collected;
 use crate::ending::RoundFault;
 use crate::keeping::begun;
 use crate::starting::evaluated;
 use crate::table::Table;
 use crate::tables::Tables;
-use crate::Engine;
 use gl_ast::Version;
 use gl_cells::Cells;
 use gl_core::Quiet;

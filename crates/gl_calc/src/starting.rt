@@ -13,8 +13,8 @@ ghost use Rattle.gl_calc.specs.{Kept.AreKept, Round.Stops, Starting.IsStarted, E
 ghost use Rattle.gl_calc.specs.{Starting.IsEvaluated};
 ghost use Rattle.gl_demand.specs.{Evaluators.program_of};
 
-use crate::ending::RoundFault;
 use crate::Engine;
+use crate::ending::RoundFault;
 use gl_core::{Core, CoreFault, Quiet, Results};
 use gl_demand::{Evaluator, Steps, Watch};
 use gl_plane::Addr;

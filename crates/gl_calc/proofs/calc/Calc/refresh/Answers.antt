@@ -1,13 +1,13 @@
 use Rattle.std.proofs.Common.{◌≡◌, [], List, Vec, Global, OnErr, Some, if◌then◌else◌, sym, ap, subst, ◌∙◌, arith}
 use Rattle.gl_calculus.specs.Memory as M
-use Rattle.gl_calculus.specs.Memory.{Table, tables_for}
+use Rattle.gl_calculus.specs.Memory.{Table, AreTables, tables_for}
 use Rattle.gl_ast.specs.View.{version_tree}
 use Rattle.gl_cells.specs.Sheet.{sheet}
 use Rattle.gl_calc.specs.View.{View, sheet_of, memory_of}
 use Rattle.gl_calc.specs.Answers.{Answers, Takes}
 use Rattle.gl_calc.specs.Kept.{AreEarlier}
 use Rattle.gl_calc.specs.Held.{answer_of, Parts, held_by, IsCalc}
-use Rattle.gl_calc.proofs.Calcs.{standing_answers, standing_takes, tables_passed, passed_earlier, emptied, on_err, left_answers, left_calc}
+use Rattle.gl_calc.proofs.Calcs.{standing_answers, standing_takes, standing_tables, tables_passed, passed_earlier, emptied, on_err, left_answers, left_calc}
 use Rattle.gl_calc.proofs.calc.Calc.refresh.Goals as goal
 
 pub returns-in-Some-clause-answer : goal.returns-in-Some-clause-answer
@@ -23,6 +23,20 @@ returns-in-Some-clause-answer g c =
     let x = c.in-Some.answer in
     subst (λ (v : View). Answers V (sheet_of v) x v.held v.held) c.self.view_is
     (standing_answers S held tables version marks ended c.self.invariant V x same.result same.ensures (sym c.in-Some.is ∙ c.standing.ensures))
+
+pub returns-in-Some-clause-tables : goal.returns-in-Some-clause-tables
+returns-in-Some-clause-tables g c =
+    let S = sheet c.self.inside.cells in
+    let held = c.self.inside.held in
+    let tables = c.self.inside.tables.items in
+    let version = version_tree c.self.inside.version in
+    let marks = c.self.inside.touched in
+    let ended = c.self.inside.ended in
+    let V = version_tree c.args.version in
+    let same = c.same_version-is_same in
+    let x = c.in-Some.answer in
+    subst (λ (v : View). AreTables V (sheet_of v) v.tables) c.self.view_is
+    (standing_tables S held tables version marks ended c.self.invariant V x same.result same.ensures (sym c.in-Some.is ∙ c.standing.ensures))
 
 pub returns-in-Some-clause-steps : goal.returns-in-Some-clause-steps
 returns-in-Some-clause-steps g c =
