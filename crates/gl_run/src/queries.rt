@@ -54,14 +54,12 @@ pub(crate) fn answer_query<F: Fn(u8, u64, u64) -> u64, L: Watch>(
         (known_of script.old) (known_of script.new) steps.old steps.new) }
     ensures script { script_of script.new ≡ script_of script.old }
 {
-    match script
-        .calc
-        .refresh(engine.alloc, engine.order, engine.kind, version, steps)
-    {
+    let (alloc, order, kind) = (engine.alloc, engine.order, engine.kind);
+    match script.calc.refresh(alloc, order, kind, version, steps) {
         Ok(Answer::Settled { rounds }) => {
-            settled_reply(engine.alloc, &script.calc, version, rounds, steps, query)
+            settled_reply(alloc, &script.calc, version, rounds, steps, query)
         }
-        Ok(Answer::Spent(spent)) => spent_line(engine.alloc, spent),
+        Ok(Answer::Spent(spent)) => spent_line(alloc, spent),
         Err(NoMemory) => Err(NoMemory),
     }
 }

@@ -9,7 +9,7 @@ ghost use Rattle.gl_core.specs.State.{state_of, seeds_of, notes_in, IsFor};
 use crate::tests::runs::{Sight, are_seeds, run, seen_as};
 use crate::tests::turns::cell;
 use gl_core::{Core, MAX_DEMANDED, Quiet, Results, top_keys};
-use gl_demand::{Key, Steps, Watch};
+use gl_demand::{Evaluator, Key, Steps, Watch};
 use gl_plane::Addr;
 use std::alloc::Global;
 use std::test::Fail;
@@ -83,7 +83,13 @@ pub fn resumed(at: &Setting<'_>, places: &[Addr], results: Results) -> Result<Co
     if !are_seeds(at.cells, &keys) {
         return Err("no seeds".into());
     }
-    match Core::resume(at.alloc, places, results, at.cells, at.w, at.version) {
+    let evaluator = Evaluator {
+        alloc: at.alloc,
+        cells: at.cells,
+        oracle: at.w,
+        version: at.version,
+    };
+    match Core::resume(&evaluator, places, results) {
         Ok(core) => Ok(core),
         Err(e) => Err(e.into()),
     }
