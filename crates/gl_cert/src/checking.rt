@@ -59,8 +59,8 @@ fn check_shown(
 /// The verdict on the loops and on what is shown, where all notes are right.
 fn check_loops<L: Watch>(
     evaluator: &Evaluator,
-    c: &Cert,
     a: Addr,
+    c: &Cert,
     notes: &Notes,
     steps: &mut Steps<L>,
 ) -> Result<Verdict, NoMemory>
@@ -116,7 +116,7 @@ pub fn check<L: Watch>(
     };
     let mut notes = Notes::new(alloc);
     match first_stray(&evaluator, &c.notes, &mut notes, steps) {
-        Ok(None) => check_loops(&evaluator, c, a, &notes, steps),
+        Ok(None) => check_loops(&evaluator, a, c, &notes, steps),
         Ok(Some(at)) => Ok(Verdict::Note { at }),
         Err(NoMemory) => Err(NoMemory),
     }

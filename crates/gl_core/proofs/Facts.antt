@@ -1,6 +1,6 @@
 -- A core is for a sheet, an oracle and a version exactly where it says what is true there.
-use Rattle.std.proofs.Common.{◌≡◌, ℕ, zero, suc, List, [], ◌∷◌, take, inl, inr, Bool, Option, Some, None, refl, sym, ap, subst, ◌∙◌}
-use Rattle.gl_query.specs.Lists.{Member, AreDistinct, IsEquality}
+use Rattle.std.proofs.Common.{◌≡◌, ℕ, zero, suc, List, [], ◌∷◌, take, inl, inr, Bool, Option, Some, None, refl, ap, ◌∙◌}
+use Rattle.gl_query.specs.Lists.{Member, AreDistinct}
 use Rattle.gl_query.specs.Query.{Query, Return, Look, Ask, next, run, val, Has, IsTrueTable, IsAsked}
 use Rattle.gl_query.specs.Machine.{Resolved, Entry, at, outcome_of, table, keys, IsKnown, IsSound}
 use Rattle.gl_query.specs.Laws.{IsRight}

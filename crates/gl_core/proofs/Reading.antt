@@ -9,7 +9,6 @@ use Rattle.gl_ahead.specs.Ahead.{first_lacked, IsAhead, LackSame}
 use Rattle.gl_ahead.specs.Demands.{is_value}
 use Rattle.gl_ahead.specs.Reading.{Ahead, Nothing, keys_from}
 use Rattle.gl_ahead.proofs.Onward.{ahead_onward}
-use Rattle.gl_demand.specs.Reading.{ahead_tree}
 use Rattle.gl_demand.specs.Marks.{PlainMark, mark_tree, mark_trees}
 use Rattle.gl_core.specs.Marks.{IsMark, MarksStay, MarksBy, TellNothing}
 use Rattle.gl_demand.specs.declared.mark.Mark.{Mark}

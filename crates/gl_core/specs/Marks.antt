@@ -1,5 +1,5 @@
 -- What keys that wait will need next: what each was reading, and a place in it.
-use Rattle.std.specs.Prelude.{◌≡◌, ◌⊎◌, ℕ, List, map, slice_get, Option, Some}
+use Rattle.std.specs.Prelude.{◌≡◌, ◌⊎◌, ℕ, List, slice_get, Option, Some}
 use Rattle.std.proofs.Common.{inl, inr, refl}
 use base.Stored.{Coded, coded_unit, coded⊎, coded×, coded_ℕ}
 use Rattle.std.specs.Coded.{code_by}
@@ -12,7 +12,6 @@ use Rattle.gl_calculus.specs.Key as K
 use Rattle.gl_ahead.specs.Ahead.{IsAhead}
 use Rattle.gl_ahead.specs.Demands.{is_value}
 use Rattle.gl_ahead.specs.Reading.{Ahead, Nothing, Area, Round, Own, keys_from}
-use Rattle.gl_demand.specs.Reading.{ahead_tree}
 use Rattle.gl_demand.specs.Marks.{PlainMark}
 
 -- the keys from there on are ahead of the query, over these outcomes

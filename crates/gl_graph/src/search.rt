@@ -1,7 +1,8 @@
 //! The search: from a node along steps, with the nodes on the way in segments that lead to each
 //! other. A step back to an open node joins the segments down to it into one; where the first node
 //! of the last segment has no step left, the whole segment is known.
-ghost use Rattle.std.specs.Prelude.{◌≡◌, ◌<◌, ◌++◌, ◌∷◌, [], true, length, OnOk, IfOk, vec_len, set};
+ghost use Rattle.std.specs.Prelude.{◌≡◌, ◌<◌, ◌++◌, ◌∷◌, [], true, length, OnOk, IfOk};
+ghost use Rattle.std.specs.Prelude.{vec_len, set};
 ghost use Rattle.std.specs.Prelude.{if◌then◌else◌};
 ghost use Rattle.gl_graph.specs.Search.{is_shut, is_new, fresh_frame};
 ghost use Rattle.gl_graph.specs.Searches.{known_of, nodes_in, IsSearchOf, IsSearchWith, Turns};

@@ -60,8 +60,9 @@ fn explain_by<L: Watch>(
     requires { (rounds : ℕ)
         × IsAnswer (version_tree evaluator.now.version) (sheet evaluator.now.cells.now)
         (A.Settled evaluator.now.oracle.now rounds) }
-    ensures { IfOk result (λ reply. IsExplanation (version_tree evaluator.now.version)
-        (sheet evaluator.now.cells.now) evaluator.now.oracle.now a steps.old steps.new reply.items) }
+    ensures { IfOk result (λ reply.
+        IsExplanation (version_tree evaluator.now.version) (sheet evaluator.now.cells.now)
+        evaluator.now.oracle.now a steps.old steps.new reply.items) }
 {
     match certificate(
         evaluator.alloc,

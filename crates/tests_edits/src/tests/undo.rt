@@ -69,7 +69,8 @@ fn changes(
     is_back: bool,
 ) -> Result<Option<Vec<(Addr, Option<Content>)>>, NoMemory>
     ensures proper { IfOk result (λ o. IfSome o (λ v. AreProperChanges v.items)) }
-    ensures back { IsTrue is_back → IfOk result (λ o. IfSome o (λ _. 0 < length (done history.now))) }
+    ensures back { IsTrue is_back
+        → IfOk result (λ o. IfSome o (λ _. 0 < length (done history.now))) }
     ensures forward { IsFalse is_back
         → IfOk result (λ o. IfSome o (λ _. 0 < length (undone history.now))) }
 {

@@ -1,8 +1,7 @@
-use Rattle.std.proofs.Common.{◌≡◌, ◌<◌, ◌^◌, arith, length, Some, position, slice_get, ap, subst}
+use Rattle.std.proofs.Common.{◌≡◌, ◌<◌, ◌^◌, arith, length, Some, position, slice_get, ap}
 use Rattle.std.proofs.lemmas.Result.{IfOk-weaker, on_err_weaker}
 use Rattle.gl_demand.specs.View.{key_tree}
 use Rattle.gl_intern.specs.Numbered.{firsts, seconds}
-use Rattle.gl_core.specs.Numbers.{Grows}
 use Rattle.gl_core.specs.Shorts.{key_pairs}
 use Rattle.gl_core.specs.contracts.short.ShortPartialEq.TheImpl.{ghosts as form}
 use Rattle.gl_core.proofs.Shorts.{short_grown, short_after, keys_after, members_after, key_there, entry_count}
