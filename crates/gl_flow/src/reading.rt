@@ -125,9 +125,20 @@ pub fn last_row(all: &[Vec<Piece>]) -> u16
 {
     let mut row = 0;
     for list in all {
-        for p in list {
-            row = row.max(piece_row(p));
-        }
+        row = row.max(formula_row(list));
+    }
+    row
+}
+
+/// The last row that a formula reads, or 0.
+fn formula_row(list: &[Piece]) -> u16
+    ensures value { result ≡ last_read (piece_trees list.now) }
+    ensures sound { AreReadPieces (piece_trees list.now) }
+    ensures small { result ≤ grid_rows }
+{
+    let mut row = 0;
+    for p in list {
+        row = row.max(piece_row(p));
     }
     row
 }

@@ -47,18 +47,22 @@ const PARTS_AND_ARRAYS: &[Row] = &[
     ("set A1 =LOOKUP(5,6,9)", None, "#N/A"),
 ];
 
-/// The value of A1 has these extents and elements.
-fn comes_to(alloc: Global, row: &Row) -> Result<bool, Fail> {
-    let (line, size, text) = *row;
-    let cells = sheet_of(alloc, &[line])?;
-    let w = Oracle::new(alloc);
-    let turn = turn_under(alloc, &cells, &w, "A1")?;
-    match &turn.found {
+/// The value that was found has the extents and elements of the row.
+fn has_elements(alloc: Global, found: &Found, row: &Row) -> Result<bool, Fail> {
+    let (_, size, text) = *row;
+    match found {
         Found::Ready(Outcome::Value(v)) => {
             Ok(extents(v) == size && value_text(alloc, v)?.as_str() == text)
         }
         _ => Err("no value".into()),
     }
+}
+
+/// The value of A1 has the extents and elements of the row.
+fn comes_to(alloc: Global, row: &Row) -> Result<bool, Fail> {
+    let cells = sheet_of(alloc, &[row.0])?;
+    let w = Oracle::new(alloc);
+    has_elements(alloc, &turn_under(alloc, &cells, &w, "A1")?.found, row)
 }
 
 fn extents(v: &Value) -> Option<(u16, u16)> {

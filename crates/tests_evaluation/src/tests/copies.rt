@@ -2,6 +2,7 @@
 use crate::tests::texts::found_text;
 use crate::tests::turns::{cell, first_turn, last_turn};
 use gl_ast::Version;
+use gl_demand::Found;
 use gl_plane::Oracle;
 use std::alloc::Global;
 use std::process::Abort;
@@ -70,16 +71,23 @@ const IN_TWO: &[End] = &[
     ("A4", "1", "1"),
 ];
 
-/// The first evaluation of a cell finds this, and the last one that, where `cycle` is none.
-fn ends(at: Setting<'_>, name: &str, first: &str, last: &str) -> Result<bool, Fail> {
-    let turn = first_turn(at, &cell(name)?)?;
-    if found_text(at.alloc, &turn.found)?.as_str() != first {
-        return Ok(false);
-    }
+/// What was found is written so.
+fn is_written(alloc: Global, found: &Found, text: &str) -> Result<bool, Fail> {
+    Ok(found_text(alloc, found)?.as_str() == text)
+}
+
+/// The last evaluation of a cell finds this, where `cycle` is none.
+fn ends_last(at: Setting<'_>, name: &str, last: &str) -> Result<bool, Fail> {
     match last_turn(at, name)? {
-        Some(turn) => Ok(found_text(at.alloc, &turn.found)?.as_str() == last),
+        Some(turn) => is_written(at.alloc, &turn.found, last),
         None => Ok(last == "cycle"),
     }
+}
+
+/// The first evaluation of a cell finds this, and the last one that, where `cycle` is none.
+fn ends(at: Setting<'_>, name: &str, first: &str, last: &str) -> Result<bool, Fail> {
+    let starts = is_written(at.alloc, &first_turn(at, &cell(name)?)?.found, first)?;
+    Ok(starts && ends_last(at, name, last)?)
 }
 
 /// In this version evaluations of the cells of a sheet find what they must.

@@ -1,6 +1,7 @@
 //! What references look at, read and come to.
 use crate::tests::texts::{found_text, keys_text, ranges_text};
 use crate::tests::turns::turn_under;
+use gl_demand::Turn;
 use gl_plane::{Oracle, Permit};
 use std::alloc::Global;
 use std::test::Fail;
@@ -66,18 +67,22 @@ pub fn oracle_of(alloc: Global, entry: Option<Entry>) -> Result<Oracle, Fail> {
     }
 }
 
-/// The formula of the row is as it says.
-fn refers(alloc: Global, row: &Row) -> Result<bool, Fail> {
-    let (entry, line, looked, reads, want) = *row;
-    let mut cells = sheet_of(alloc, REFERENCES)?;
-    put_line(alloc, &mut cells, line)?;
-    let w = oracle_of(alloc, entry)?;
-    let turn = turn_under(alloc, &cells, &w, "Z1")?;
+/// The evaluation looked at, read and found what the row says.
+fn is_as_said(alloc: Global, turn: &Turn, row: &Row) -> Result<bool, Fail> {
+    let (_, _, looked, reads, want) = *row;
     Ok(
         ranges_text(alloc, &turn.looked)?.as_str() == looked
             && keys_text(alloc, &turn.reads)?.as_str() == reads
             && found_text(alloc, &turn.found)?.as_str() == want,
     )
+}
+
+/// The formula of the row is as it says.
+fn refers(alloc: Global, row: &Row) -> Result<bool, Fail> {
+    let mut cells = sheet_of(alloc, REFERENCES)?;
+    put_line(alloc, &mut cells, row.1)?;
+    let w = oracle_of(alloc, row.0)?;
+    is_as_said(alloc, &turn_under(alloc, &cells, &w, "Z1")?, row)
 }
 
 #[test]
