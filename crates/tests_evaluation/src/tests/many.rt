@@ -1,5 +1,9 @@
 //! Results of many keys, which stay, go and are given back.
-ghost use Rattle.std.specs.Prelude.{◌≤◌};
+ghost use Rattle.std.specs.Prelude.{◌≤◌, IfOk};
+ghost use Rattle.gl_query.specs.Remembered.{AreTrue};
+ghost use Rattle.gl_calculus.specs.{Key.same_key, Evaluation.program};
+ghost use Rattle.gl_ast.specs.View.{version_tree};
+ghost use Rattle.gl_cells.specs.Sheet.{sheet};
 
 use crate::tests::large::chain;
 use crate::tests::results::kept_after;
@@ -62,17 +66,28 @@ const LAST: Sight = Sight::Number(200_000);
 /// A range that nothing of the chain looks at.
 const APART: &str = "D1:E9999";
 
+/// The results of the chain behind a run by the rule of a kind where nothing of it has changed.
+fn chain_again(at: &Setting<'_>, results: Results, kind: u8) -> Result<Results, Fail>
+    requires kind { kind ≤ 2 }
+    requires true_notes { AreTrue same_key
+        (program (version_tree at.now.version) (sheet at.now.cells.now) at.now.w.now) results }
+    ensures { IfOk result
+        (AreTrue same_key
+        (program (version_tree at.now.version) (sheet at.now.cells.now) at.now.w.now)) }
+{
+    let count = results.len();
+    let kept = kept_after(at, results, APART)?;
+    by_results(at, kept, &["A1"], kind, count, LAST)
+}
+
 /// How many results of a long chain there are, how many are left behind a run by each rule where
 /// nothing of it has changed, and how many stay where the last formula has changed.
 fn chain_kept(at: &Setting<'_>) -> Result<(usize, usize, usize), Fail> {
     let first = run_with(at, &["A1"], Results::new(at.alloc), 0)?;
     let count = first.results.len();
-    let kept = kept_after(at, first.results, APART)?;
-    let results = by_results(at, kept, &["A1"], 0, count, LAST)?;
-    let kept = kept_after(at, results, APART)?;
-    let results = by_results(at, kept, &["A1"], 1, count, LAST)?;
-    let kept = kept_after(at, results, APART)?;
-    let results = by_results(at, kept, &["A1"], 2, count, LAST)?;
+    let results = chain_again(at, first.results, 0)?;
+    let results = chain_again(at, results, 1)?;
+    let results = chain_again(at, results, 2)?;
     let left = results.len();
     let rest = kept_after(at, results, "A5000:A5000")?;
     Ok((count, left, rest.len()))

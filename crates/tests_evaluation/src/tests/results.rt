@@ -8,7 +8,7 @@ ghost use Rattle.gl_cells.specs.Sheet.{sheet};
 use crate::tests::resumed::{Ran, run_with, seen_of};
 use crate::tests::runs::{Sight, fresh, outcome_seen, run, seen_as};
 use crate::tests::turns::cell;
-use gl_core::Results;
+use gl_core::{Quiet, Results};
 use gl_demand::{Silent, Steps};
 use gl_plane::{Changes, Oracle};
 use std::alloc::Global;
@@ -36,6 +36,16 @@ const SEEN: [Sight; 4] = [
 /// The formulas that don't loop.
 const CHAIN: &[&str] = &["B1", "C1", "D1"];
 
+/// By its key and by its place a run sees of each formula what it must.
+fn sees_all(alloc: Global, quiet: &Quiet) -> Result<bool, Fail> {
+    for (i, name) in FORMULAS.iter().enumerate() {
+        if seen_as(quiet.seen(&cell(name)?)) != SEEN[i] {
+            return Ok(false);
+        }
+    }
+    Ok(seen_of(alloc, quiet, 4)?.as_slice() == SEEN.as_slice())
+}
+
 /// A run without results is as one from the start: the steps, the keys that are known, and what is
 /// seen of each formula by its place and by its key.
 fn begins_alike(at: &Setting<'_>, kind: u8) -> Result<bool, Fail>
@@ -43,15 +53,9 @@ fn begins_alike(at: &Setting<'_>, kind: u8) -> Result<bool, Fail>
 {
     let mut steps = Steps::new(Silent);
     let quiet = run(at, fresh(at, FORMULAS)?, kind, &mut steps)?;
-    for (i, name) in FORMULAS.iter().enumerate() {
-        if seen_as(quiet.seen(&cell(name)?)) != SEEN[i] {
-            return Ok(false);
-        }
-    }
-    let seen = seen_of(at.alloc, &quiet, 4)?;
     let ran = run_with(at, FORMULAS, Results::new(at.alloc), kind)?;
     Ok(
-        seen.as_slice() == SEEN.as_slice()
+        sees_all(at.alloc, &quiet)?
             && ran.seen.as_slice() == SEEN.as_slice()
             && ran.known == quiet.len()
             && ran.steps == steps.done(),
