@@ -1,10 +1,11 @@
 use Rattle.std.proofs.Common.{◌≡◌, subst, sym, refl, ap, ◌∙◌, [], ◌∷◌, ◌+◌, ◌*◌, ◌<◌, ◌≤◌, drop, map, length, arith, Ok, Err, IfOk, IsTrue}
+use borrow.Author.Tests.{ltb-true, ltb-false}
+use Rattle.std.proofs.lemmas.Grind.{common_steps}
 use Rattle.std.specs.Rc.{rc_str_bytes}
 use Rattle.std.proofs.lemmas.List.{drop_more, at_drop_all, take_rest}
 use Rattle.std.proofs.Math.Nat.{le_trans}
-use borrow.Author.Tests.{ltb-true, ltb-false}
-use denote.Param.Weighed.{most, at_most}
 use Rattle.std.proofs.lemmas.List.Elements.{All-append}
+use denote.Param.Weighed.{most, at_most}
 use Rattle.gl_ast.specs.View.{version_tree, formula_tree, op_tree, operand_trees, fun_tree}
 use Rattle.gl_ast.proofs.Formula.TheLaws.{the_size}
 use Rattle.gl_calculus.specs.Evaluation as E
@@ -585,3 +586,39 @@ calls::call_group-returns-in-Err-clause-walk g t c =
     let bs = bindings_of c.args.scope.now.bindings.items in
     group.group_halts w v e bs c.place-item.result c.args.xs.now (drop 1 c.args.xs.now) c.args.trail.now c.in-Err.halt
     (first_item c.args.xs.now c.place-item.result c.in-len1-up.len_at_least c.place-item.is) (c.in-Err.ensures.walk w c.args.trail.now)
+
+pub calls::call_if-eval-requires : goal.calls::call_if-eval-requires
+calls::call_if-eval-requires t c = grind (arith, common_steps)
+
+pub calls::call_if-eval-requires-in-Each : goal.calls::call_if-eval-requires-in-Each
+calls::call_if-eval-requires-in-Each t c = grind (arith, common_steps)
+
+pub calls::call_if-eval-requires-in-First : goal.calls::call_if-eval-requires-in-First
+calls::call_if-eval-requires-in-First t c = grind (arith, common_steps)
+
+pub calls::call_if-eval-requires-in-Ok-eval : goal.calls::call_if-eval-requires-in-Ok-eval
+calls::call_if-eval-requires-in-Ok-eval t c = grind (arith, common_steps)
+
+pub calls::call_if-eval-requires-in-Second : goal.calls::call_if-eval-requires-in-Second
+calls::call_if-eval-requires-in-Second t c = grind (arith, common_steps)
+
+pub calls::call_if_error-eval-requires : goal.calls::call_if_error-eval-requires
+calls::call_if_error-eval-requires t c = grind (arith, common_steps)
+
+pub calls::call_if_error-eval-requires-in-Each : goal.calls::call_if_error-eval-requires-in-Each
+calls::call_if_error-eval-requires-in-Each t c = grind (arith, common_steps)
+
+pub calls::call_if_error-eval-requires-in-Other : goal.calls::call_if_error-eval-requires-in-Other
+calls::call_if_error-eval-requires-in-Other t c = grind (arith, common_steps)
+
+pub calls::call_update-eval-requires : goal.calls::call_update-eval-requires
+calls::call_update-eval-requires t c = grind (arith, common_steps)
+
+pub calls::call_update-eval-requires-in-Ok : goal.calls::call_update-eval-requires-in-Ok
+calls::call_update-eval-requires-in-Ok t c = grind (arith, common_steps)
+
+pub calls::call_view-eval-requires : goal.calls::call_view-eval-requires
+calls::call_view-eval-requires t c = grind (arith, common_steps)
+
+pub formulas::eval-returns-in-Ok-eval-3-clause-walk : goal.formulas::eval-returns-in-Ok-eval-3-clause-walk
+formulas::eval-returns-in-Ok-eval-3-clause-walk t c = grind (arith, common_steps)

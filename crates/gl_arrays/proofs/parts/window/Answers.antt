@@ -1,4 +1,5 @@
 use Rattle.std.proofs.Common.{◌≡◌, ◌+◌, ◌<◌, subst, sym, arith, rules, IfOk}
+use Rattle.gl_value.specs.Forms.{trees}
 use Rattle.gl_calculus.specs.ErrKind.{ErrKind}
 use Rattle.gl_calculus.specs.Lift.{item}
 use Rattle.gl_value.specs.View.{value_tree}
@@ -13,3 +14,9 @@ returns-clause-value c =
     let some_cols : 0 < c.args.cols.count = omega arith in
     subst (λ t. IfOk c.table.result (λ r. value_tree r ≡ t)) (sym (some_rows_are ErrKind.Value f c.args.rows.count c.args.cols.count some_rows some_cols))
     (c.table.ensures.value f (λ i j r bi bj post. search rules))
+
+pub returns-then-rows-eq0-clause-sound : goal.returns-then-rows-eq0-clause-sound
+returns-then-rows-eq0-clause-sound c = grind (arith, trees)
+
+pub returns-then-rows-eq0-clause-value : goal.returns-then-rows-eq0-clause-value
+returns-then-rows-eq0-clause-value c = grind (arith, trees)

@@ -1,5 +1,5 @@
 use Rattle.std.proofs.Common.{◌≡◌, map, subst, arith, rules, IfOk}
-use Rattle.gl_value.specs.Forms.{scalar_tree-Err, value_tree-One}
+use Rattle.gl_value.specs.Forms.{scalar_tree-Err, value_tree-One, trees}
 use Rattle.gl_value.specs.View.{value_tree}
 use Rattle.gl_arrays.specs.Stacks.{total, greatest}
 use Rattle.gl_arrays.specs.declared.stacks.Axis.TheVariants.{Rows, Columns}
@@ -41,3 +41,6 @@ returns-in-None-clause-value c =
     let parts = map value_tree c.args.parts.now in
     rw (value_tree-One, scalar_tree-Err)
     (vstack_large parts c.total.result c.from-cols.result (are_sound_trees c.args.parts.now c.requires.2) (some_trees c.args.parts.now c.requires.0) c.total.ensures (omega arith) c.in-None.ensures.none)
+
+pub returns-in-None-clause-sound : goal.returns-in-None-clause-sound
+returns-in-None-clause-sound c = grind (arith, trees)

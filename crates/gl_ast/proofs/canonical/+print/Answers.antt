@@ -1,4 +1,5 @@
-use Rattle.std.proofs.Common.{ap, sym, ◌∙◌, ◌+◌}
+use Rattle.std.proofs.Common.{ap, sym, ◌∙◌, ◌+◌, arith}
+use Rattle.std.proofs.lemmas.Grind.{common_steps}
 use Rattle.gl_ast.proofs.Printing.{chain_arm, compare_arm, call_arm, let_arm}
 use Rattle.gl_ast.proofs.canonical.+print.Goals as goal
 
@@ -22,3 +23,18 @@ pub body-returns-in_ok-put-in-Let-2 : goal.body-returns-in_ok-put-in-Let-2
 body-returns-in_ok-put-in-Let-2 t c =
     let_arm _ _ _ _ _ _ c.args.minus c.args.f.now c.deref-in-Let-2.result.now c.deref-in-Let-3.result.now c.in-Let.v c.in-Let.x c.in-Let.y c.deref-in-Let.result.now
     c.in-Let.is c.deref-in-Let-2.ensures c.deref-in-Let-3.ensures c.deref-in-Let.ensures.value c.in_ok-put_let-in-Let.ensures c.in_ok-body-in-Let.ensures c.in_ok-put-in-Let.ensures c.in_ok-body-in-Let-2.ensures c.in_ok-put-in-Let-2.ensures
+
+pub arguments-loop-x-preserved : goal.arguments-loop-x-preserved
+arguments-loop-x-preserved t c = grind (arith, common_steps)
+
+pub arguments-returns : goal.arguments-returns
+arguments-returns t c = grind (arith, common_steps)
+
+pub operands-loop-operand-preserved : goal.operands-loop-operand-preserved
+operands-loop-operand-preserved t c = grind (arith, common_steps)
+
+pub operands-returns : goal.operands-returns
+operands-returns t c = grind (arith, common_steps)
+
+pub placed-returns-in_ok-put-2 : goal.placed-returns-in_ok-put-2
+placed-returns-in_ok-put-2 t c = grind (arith, common_steps)

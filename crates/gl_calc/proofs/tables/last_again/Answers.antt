@@ -1,4 +1,5 @@
-use Rattle.std.proofs.Common.{◌≡◌, [], List, None, sym, ap, ◌∙◌}
+use Rattle.std.proofs.Common.{◌≡◌, [], List, None, sym, ap, ◌∙◌, arith}
+use Rattle.std.proofs.lemmas.Grind.{common_steps}
 use Rattle.std.proofs.lemmas.Result.{IfOk-weaker}
 use Rattle.gl_calculus.specs.Grid.{Addr}
 use Rattle.gl_calculus.specs.Memory.{Table, base_by}
@@ -13,3 +14,6 @@ returns-in-Some c =
     (λ (t : Table). (touched : List Addr) → ◌≡◌ {A = Table × List Addr} (t, []) (next_base (record { earlier = []; made = c.args.made.now; beyond = None }) touched))
     (λ t e touched. ap (λ (u : Table). (u, [])) e ∙ ap (base_by None touched) (c.in-Some.ensures.value ∙ sym (last_slice c.args.made.now)))
     c.copy.ensures
+
+pub returns-in-None : goal.returns-in-None
+returns-in-None c = grind (arith, common_steps)

@@ -1,4 +1,5 @@
 use Rattle.std.proofs.Common.{Option, ◌∙◌, List, length, ap, subst, sym, arith}
+use Rattle.std.proofs.lemmas.Grind.{common_steps}
 use Rattle.std.specs.Vec.Iter.{into_iter_items}
 use Rattle.gl_calculus.specs.Grid.{Addr}
 use Rattle.gl_cells.specs.declared.content.Content.{Content}
@@ -22,3 +23,6 @@ loop-a-preserved c =
         rest = ap (put_each (into_iter_items c.next.new.self)) c.in_ok-was.ensures.ok ∙ ap (λ (xs : Table). put_each xs s) (sym e) ∙ inv.rest;
       },
     )
+
+pub returns-clause-ok : goal.returns-clause-ok
+returns-clause-ok c = grind (arith, common_steps)

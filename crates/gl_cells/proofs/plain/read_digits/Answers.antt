@@ -1,4 +1,5 @@
 use Rattle.std.proofs.Common.{◌≡◌, length, arith, subst}
+use Rattle.std.proofs.lemmas.Grind.{common_steps}
 use Rattle.gl_cells.proofs.Digits.{Read, read_all, read_stops}
 use Rattle.gl_cells.proofs.plain.read_digits.Goals as goal
 
@@ -9,3 +10,6 @@ pub returns : goal.returns
 returns c =
     let e : c.loop-b.b-index ≡ length c.args.bytes.now = omega arith in
     read_all c.args.bytes.now c.loop-b.n (subst (λ i. Read c.args.bytes.now c.loop-b.n i) e c.loop-b.invariant)
+
+pub loop-b-preserved : goal.loop-b-preserved
+loop-b-preserved c = grind (arith, common_steps)

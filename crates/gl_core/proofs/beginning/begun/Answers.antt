@@ -1,4 +1,5 @@
-use Rattle.std.proofs.Common.{List, ℕ, length, slice_index, ap, sym, subst, ◌∙◌}
+use Rattle.std.proofs.Common.{List, ℕ, length, slice_index, ap, sym, subst, ◌∙◌, arith}
+use Rattle.std.proofs.lemmas.Grind.{elements}
 use Rattle.gl_core.specs.Numbers.{IsIndex}
 use Rattle.gl_core.specs.Table.{AreBegun}
 use Rattle.gl_core.specs.declared.entries.Entries.{Entries}
@@ -20,3 +21,6 @@ returns-clause-core c =
     (sym c.in_ok-passed.passed.ok.0 ∙ c.in_ok-passed.ensures.len ∙ c.len-3.ensures ∙ c.args.known.ok.0)
     (c.in_ok-marks.ensures.size ∙ c.len-4.ensures ∙ c.args.known.ok.0)
     (λ q. ap (λ (xs : List ℕ). slice_index xs q) (c.in_ok-passed.ensures.items_if_clones_equal (λ y e. e)) ∙ zeros c.len-3.result q)
+
+pub index_of-requires-clause-there : goal.index_of-requires-clause-there
+index_of-requires-clause-there c = grind (arith, elements)

@@ -1,4 +1,5 @@
-use Rattle.std.proofs.Common.{◌<◌, ◌+◌, length, take, slice_index, ap, sym, subst, ◌∙◌}
+use Rattle.std.proofs.Common.{◌<◌, ◌+◌, length, take, slice_index, ap, sym, subst, ◌∙◌, arith}
+use Rattle.std.proofs.lemmas.Grind.{common_steps}
 use Rattle.std.proofs.lemmas.List.{length-set}
 use Rattle.gl_core.specs.Numbers.{IsIndex}
 use Rattle.gl_core.proofs.Numbered.{all_at, get_of_index}
@@ -17,3 +18,12 @@ loop-p-preserved c =
       index = subst (IsIndex (take (p + 1) ns)) (sym c.put.ensures) (index_next ns at p n c.requires.apart there c.loop-p-test.true within c.loop-p.invariant.index);
       size = ap length c.put.ensures ∙ length-set at n (p + 1) ∙ c.loop-p.invariant.size;
     }
+
+pub loop-p-init : goal.loop-p-init
+loop-p-init c = grind (arith, common_steps)
+
+pub put-requires-clause-there : goal.put-requires-clause-there
+put-requires-clause-there c = grind (arith, common_steps)
+
+pub returns : goal.returns
+returns c = grind (arith, common_steps)

@@ -1,4 +1,5 @@
 use Rattle.std.proofs.Common.{◌≡◌, ℕ, List, Some, slice_get, option_map, sym, ap, ◌∙◌, arith}
+use Rattle.std.proofs.lemmas.Grind.{elements}
 use Rattle.gl_calculus.specs.Grid.{Range}
 use Rattle.gl_support.specs.declared.row.Row.{Row}
 use Rattle.gl_demand.specs.declared.outcome.Outcome.{Outcome}
@@ -47,3 +48,6 @@ returns-clause-core c =
     let is : c.deref.result.now ≡ x.reads.items = c.deref.ensures.value ∙ ap (λ (y : Row Outcome Range). y.reads.items) (same_item l.rows.items c.args.row c.index.result.now x c.index.ensures f) in
     let from = sym (index_of_get e.passed.items c.args.p c.index-2.result.now (item_at e.passed.items c.args.p c.index-2.result.now c.index-2.ensures (omega (arith, c.requires.there, c.requires.core.table.passed)))) in
     (pick_passes l e c.pass.new.self c.requires.core c.pass.ensures.table c.args.p c.args.row x f g c.deref.result.now is c.index-2.result.now c.first_unresolved-count.result from c.first_unresolved-count.ensures.passed c.pass.ensures.keys.known c.pass.ensures.keys.statuses c.pass.ensures.passed).0
+
+pub index-requires : goal.index-requires
+index-requires c = grind (arith, elements)

@@ -1,4 +1,5 @@
 use Rattle.std.proofs.Common.{◌≡◌, ◌<◌, ◌^◌, arith, length, Some, position, slice_get, ap}
+use Rattle.std.proofs.lemmas.Grind.{common_steps}
 use Rattle.std.proofs.lemmas.Result.{IfOk-weaker, on_err_weaker}
 use Rattle.gl_demand.specs.View.{key_tree}
 use Rattle.gl_intern.specs.Numbered.{firsts, seconds}
@@ -44,3 +45,6 @@ returns-clause-members c =
     let now = key_pairs c.place.new.keys.entries in
     let h = short_grown c.args.interner.now l c.in_ok-short.ensures.grows ps c.requires.short in
     members_after l ps h (key_tree c.args.key) c.in_ok-short.short c.in_ok-short.ensures.short c.place.result now c.place.ensures.pairs (on_err_weaker c.place.result (λ e. ap key_pairs e) c.place.ensures.err)
+
+pub place-requires : goal.place-requires
+place-requires c = grind (arith, common_steps)

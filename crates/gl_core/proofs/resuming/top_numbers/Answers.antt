@@ -1,4 +1,5 @@
-use Rattle.std.proofs.Common.{◌≡◌, ◌+◌, ◌++◌, ◌∷◌, [], List, ℕ, map, take, ap, sym, subst, ◌∙◌}
+use Rattle.std.proofs.Common.{◌≡◌, ◌+◌, ◌++◌, ◌∷◌, [], List, ℕ, map, take, ap, sym, subst, ◌∙◌, arith}
+use Rattle.std.proofs.lemmas.Grind.{common_steps}
 use Rattle.gl_calculus.specs.Value as V
 use Rattle.gl_calculus.specs.Key as K
 use Rattle.gl_core.specs.Numbers.{AreNumbers}
@@ -22,3 +23,12 @@ loop-a-preserved c =
       rows = s.rows ∙ inv.rows;
       kept = s.kept;
     }
+
+pub returns-clause-numbers : goal.returns-clause-numbers
+returns-clause-numbers c = grind (arith, common_steps)
+
+pub returns-in_err-n-clause-grows : goal.returns-in_err-n-clause-grows
+returns-in_err-n-clause-grows c = grind (arith, common_steps)
+
+pub returns-in_err-push-clause-grows : goal.returns-in_err-push-clause-grows
+returns-in_err-push-clause-grows c = grind (arith, common_steps)

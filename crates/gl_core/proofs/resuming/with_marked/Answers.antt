@@ -1,4 +1,5 @@
-use Rattle.std.proofs.Common.{◌<◌, ◌++◌, ◌∷◌, [], List, ℕ, length, if◌then◌else◌, ap, sym, ◌∙◌, append_assoc}
+use Rattle.std.proofs.Common.{◌<◌, ◌++◌, ◌∷◌, [], List, ℕ, length, if◌then◌else◌, ap, sym, ◌∙◌, append_assoc, arith}
+use Rattle.std.proofs.lemmas.Grind.{common_steps}
 use Rattle.gl_calculus.specs.Grid.{Range}
 use Rattle.gl_support.specs.Reach.{is_marked}
 use Rattle.gl_support.specs.declared.row.Row.{Row}
@@ -22,3 +23,6 @@ loop-row-preserved c =
     let here = if is_marked c.args.marks.now x.by then x.by ∷ [] else [] in
     c.in_ok-add_marked.ensures ∙ ap (λ (ns : List ℕ). ns ++ here) c.loop-row.invariant ∙ append_assoc c.args.numbers.items _ here
     ∙ ap (λ (ns : List ℕ). c.args.numbers.items ++ ns) (sym (marked_next c.args.marks.now rs i x (item_at rs i x c.row-item.is c.loop-row-test.true)))
+
+pub returns : goal.returns
+returns c = grind (arith, common_steps)

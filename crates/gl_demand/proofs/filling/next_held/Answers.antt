@@ -1,6 +1,6 @@
-use Rattle.std.proofs.Common.{ap, sym, subst, ◌∙◌}
+use Rattle.std.proofs.Common.{ap, sym, subst, ◌∙◌, arith}
 use Rattle.gl_cells.specs.Sheet.{sheet}
-use Rattle.gl_value.specs.Forms.{frame_tree-Top, frame_tree-In}
+use Rattle.gl_value.specs.Forms.{frame_tree-Top, frame_tree-In, trees}
 use Rattle.gl_value.specs.View.{frame_tree, sheet_tree}
 use Rattle.gl_demand.specs.Filling.{IsFirst, is_held, is_filled}
 use Rattle.gl_demand.proofs.Filled.{held_at_top, held_in_copy}
@@ -21,3 +21,6 @@ returns-in-In c =
     let own : IsFirst (is_filled S (sheet_tree c.in-In.s.value) r after) c.next_filled.result = rw c.deref.ensures at found in
     subst (λ e. IsFirst (is_held S e r after) c.next_filled.result) (sym (ap frame_tree c.in-In.is ∙ frame_tree-In c.in-In.s w))
     (held_in_copy S (sheet_tree c.in-In.s.value) w.value r after c.next_filled.result own)
+
+pub next_filled-requires : goal.next_filled-requires
+next_filled-requires c = grind (arith, trees)

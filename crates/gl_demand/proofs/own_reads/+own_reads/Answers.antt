@@ -1,4 +1,5 @@
 use Rattle.std.proofs.Common.{◌<◌, ◌≤◌, ◌++◌, [], drop, length, Ok, refl, subst, arith}
+use Rattle.std.proofs.lemmas.Grind.{common_steps}
 use Rattle.gl_calculus.specs.Grid.{addresses, single}
 use Rattle.gl_ast.specs.View.{argument_trees}
 use Rattle.gl_ahead.specs.Demands.{begun_reads, argument_reads}
@@ -138,3 +139,12 @@ pub pass_operands-returns : goal.pass_operands-returns
 pass_operands-returns g t c =
     let end : length c.args.rest.now ≤ c.loop-operand.operand-index = omega arith in
     parts_end (world (sheet c.args.x.now.cells.now) c.args.x.now.w.now (g.K.Known.outcomes c.args.x.now.known.now)) (frame_tree c.args.x.now.env.now) (operand_parts (world (sheet c.args.x.now.cells.now) c.args.x.now.w.now (g.K.Known.outcomes c.args.x.now.known.now)) (frame_tree c.args.x.now.env.now)) (operand_part (world (sheet c.args.x.now.cells.now) c.args.x.now.w.now (g.K.Known.outcomes c.args.x.now.known.now)) (frame_tree c.args.x.now.env.now)) c.args.rest.now c.args.way.now (λ on. refl) c.loop-operand.operand-index c.loop-operand.way end c.loop-operand.invariant
+
+pub pass_call-returns-in-Sheet : goal.pass_call-returns-in-Sheet
+pass_call-returns-in-Sheet g t c = grind (arith, common_steps)
+
+pub pass_first-pass_formula-requires : goal.pass_first-pass_formula-requires
+pass_first-pass_formula-requires g t c = grind (arith, common_steps)
+
+pub pass_first-returns-in-empty : goal.pass_first-returns-in-empty
+pass_first-returns-in-empty g t c = grind (arith, common_steps)

@@ -1,4 +1,5 @@
 use Rattle.std.proofs.Common.{◌≡◌, ◌+◌, count_by, take, get_or, sym, ap, ◌∙◌, arith}
+use Rattle.std.proofs.lemmas.Grind.{common_steps}
 use Rattle.std.proofs.lemmas.List.Sums.{count_by_more_yes, count_by_more_no}
 use Rattle.gl_calculus.specs.Evaluation.{takes_a_round}
 use Rattle.gl_cells.specs.Sheet.{sheet}
@@ -27,3 +28,6 @@ returns c = λ w.
     c.loop-a.invariant
     ∙ ap (λ l. count_by (takes S s) l + 8) (take_all c.args.places.now c.loop-a.a-index c.loop-a-test.false ∙ c.requires.all)
     ∙ budget_is S w s
+
+pub overflow_add-count : goal.overflow_add-count
+overflow_add-count c = grind (arith, common_steps)

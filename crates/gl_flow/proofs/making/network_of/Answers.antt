@@ -1,4 +1,5 @@
-use Rattle.std.proofs.Common.{◌≡◌, true, sym, subst, ap, ◌∙◌}
+use Rattle.std.proofs.Common.{◌≡◌, true, sym, subst, ap, ◌∙◌, arith}
+use Rattle.std.proofs.lemmas.Grind.{common_steps}
 use Rattle.gl_cells.specs.Sheet.{sheet}
 use Rattle.gl_flow.specs.Places.{are_in_order}
 use Rattle.gl_flow.specs.Pieces.{piece_lists, rows_read}
@@ -27,3 +28,6 @@ invariant_of-result c =
           (subst (λ t. IsShaped t (number_lists c.in_ok-columns.columns.items)) (c.last_row-rows.ensures.value ∙ ap (λ t. rows_read (piece_lists t)) c.deref-5.ensures.value) c.in_ok-columns.ensures.shaped)
           (subst (λ t. AreBottoms t c.in_ok-bottoms.bottoms.items) c.deref-8.ensures.value c.in_ok-bottoms.ensures);
     }
+
+pub areas_of-requires-clause-same : goal.areas_of-requires-clause-same
+areas_of-requires-clause-same c = grind (arith, common_steps)

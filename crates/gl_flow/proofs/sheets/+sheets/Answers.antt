@@ -1,4 +1,5 @@
-use Rattle.std.proofs.Common.{ap, sym, ◌∙◌}
+use Rattle.std.proofs.Common.{ap, sym, ◌∙◌, arith}
+use Rattle.std.proofs.lemmas.Grind.{common_steps}
 use Rattle.std.specs.List.{list_any}
 use Rattle.gl_ast.specs.View.{formula_tree}
 use Rattle.gl_ast.specs.Forms.{formula_tree-Int, formula_tree-Text, formula_tree-Bool, formula_tree-At, formula_tree-Spill, formula_tree-Area, formula_tree-Var}
@@ -25,3 +26,21 @@ makes_sheets-returns-in-Area t c = sym (ap (λ f. list_any Fo.piece_makes (Fo.pi
 
 pub makes_sheets-returns-in-Var : goal.makes_sheets-returns-in-Var
 makes_sheets-returns-in-Var t c = sym (ap (λ f. list_any Fo.piece_makes (Fo.pieces (formula_tree f))) c.in-Var.is ∙ ap (λ f. list_any Fo.piece_makes (Fo.pieces f)) (formula_tree-Var _))
+
+pub arguments-loop-x-preserved : goal.arguments-loop-x-preserved
+arguments-loop-x-preserved t c = grind (arith, common_steps)
+
+pub arguments-returns : goal.arguments-returns
+arguments-returns t c = grind (arith, common_steps)
+
+pub arguments-returns-then-makes_sheets : goal.arguments-returns-then-makes_sheets
+arguments-returns-then-makes_sheets t c = grind (arith, common_steps)
+
+pub operands-loop-x-preserved : goal.operands-loop-x-preserved
+operands-loop-x-preserved t c = grind (arith, common_steps)
+
+pub operands-returns : goal.operands-returns
+operands-returns t c = grind (arith, common_steps)
+
+pub operands-returns-then-makes_sheets : goal.operands-returns-then-makes_sheets
+operands-returns-then-makes_sheets t c = grind (arith, common_steps)

@@ -2,6 +2,7 @@ use Rattle.std.proofs.Common.{◌≡◌, ◌+ℤ◌, ◌∙◌, to_z, FitsSigned
 use Rattle.std.proofs.lemmas.Int.{to_z-of_z, fits_signed_from_abs}
 use Rattle.std.specs.Int.{w64, w128}
 use Rattle.std.specs.Int.Signed.{nat_abs-le}
+use Rattle.gl_value.specs.Forms.{trees}
 use Rattle.gl_funs.specs.Elements.{elements_of, elements_past}
 use Rattle.gl_funs.proofs.Counts.{elements_few}
 use Rattle.gl_funs.proofs.Folds.{total_int, sum_room}
@@ -33,3 +34,15 @@ loop-x-preserved-in-Int c =
     let sum : FitsSigned w128 ((to_z w128 c.loop-x.total-bits) +ℤ n) = fits_signed_from_abs w128 ((to_z w128 c.loop-x.total-bits) +ℤ n) (omega (arith, room)) in
     rw (to_z-of_z w128 c.from-total.result small, same, to_z-of_z w128 ((to_z w128 c.loop-x.total-bits) +ℤ n) sum)
     (tt, tt, c.loop-x.invariant.2 ∙ total_int c.in-Some.x.now _ _ (to_z w128 c.loop-x.total-bits) n c.in-Some.ensures.steps c.in-Int.is, room)
+
+pub returns-in-Err-clause-sound : goal.returns-in-Err-clause-sound
+returns-in-Err-clause-sound c = grind (arith, trees)
+
+pub returns-in-Err-clause-value : goal.returns-in-Err-clause-value
+returns-in-Err-clause-value c = grind (arith, trees)
+
+pub returns-in-Sheet-clause-sound : goal.returns-in-Sheet-clause-sound
+returns-in-Sheet-clause-sound c = grind (arith, trees)
+
+pub returns-in-Sheet-clause-value : goal.returns-in-Sheet-clause-value
+returns-in-Sheet-clause-value c = grind (arith, trees)

@@ -1,4 +1,5 @@
 use Rattle.std.proofs.Common.{◌≡◌, ◌+◌, ◌<◌, ◌++◌, ◌∷◌, [], true, length, take, drop, slice_get, ◌∙◌, ap, sym, subst, arith, length-append}
+use Rattle.std.proofs.lemmas.Grind.{common_steps}
 use Rattle.std.specs.List.{list_all}
 use Rattle.std.proofs.Math.Seq.{take-length}
 use Rattle.gl_calculus.specs.Oracle.{ArePermits, grant}
@@ -49,3 +50,6 @@ returns-clause-permits g c =
     all_reached c.args.bound.now held c.loop-array.granted c.args.sizes.now (length c.loop-array.granted)
     (ap (slice_get c.args.sizes.now) (sym c.len.ensures.value) ∙ sym c.at.ensures.value ∙ c.in_default.is) c.loop-array.invariant.same in
     subst (ArePermits c.args.bound.now held) (sym all) (grant_permits c.args.bound.now held c.args.sizes.now c.at.ensures.ordered).1
+
+pub entry_behind-entry-requires : goal.entry_behind-entry-requires
+entry_behind-entry-requires g c = grind (arith, common_steps)

@@ -1,4 +1,5 @@
 use Rattle.std.proofs.Common.{arith}
+use Rattle.std.proofs.lemmas.Grind.{common_steps}
 use Rattle.gl_graph.proofs.Closed.{close_start, close_on, close_opens}
 use Rattle.gl_graph.proofs.closing.close.Goals as goal
 
@@ -13,3 +14,6 @@ loop-mark-preserved-in-Some c = record {
 
 pub returns-clause-opens : goal.returns-clause-opens
 returns-clause-opens c = close_opens c.args.marks.now.items c.args.places.now.items c.requires.opens c.args.mark c.requires.shut c.loop-mark.marks.items c.loop-mark.places.items c.loop-mark.invariant.closing
+
+pub index_mut-requires : goal.index_mut-requires
+index_mut-requires c = grind (arith, common_steps)

@@ -1,10 +1,11 @@
-use Rattle.std.proofs.Common.{◌≡◌, subst}
+use Rattle.std.proofs.Common.{◌≡◌, subst, arith}
+use Rattle.std.proofs.lemmas.Grind.{common_steps}
 use Rattle.std.specs.Rc.{rc_str_bytes}
 use Rattle.gl_language.specs.Token.{IsRow, is_lower}
 use Rattle.gl_language.specs.Grammar.{function_of}
 use Rattle.gl_parse.specs.Raws.{letters}
 use Rattle.gl_parse.proofs.Naming.{let_is}
-use Rattle.gl_parse.proofs.Building.{built_bool, built_at, built_spill, built_corners, built_var, built_neg, built_chain, built_text, built_compare, apply_is, argument_built, operand_built, plain_is, built_let, built_call}
+use Rattle.gl_parse.proofs.Building.{built_bool, built_at, built_spill, built_corners, built_var, built_neg, built_chain, built_text, built_compare, apply_is, argument_built, operand_built, plain_is, built_let, built_call, build_rules}
 use Rattle.gl_parse.proofs.build.+build.Goals as goal
 
 pub build-returns-in_ok-clone-in-Text : goal.build-returns-in_ok-clone-in-Text
@@ -60,3 +61,12 @@ pub build-returns-in_ok-new-in-Chain : goal.build-returns-in_ok-new-in-Chain
 build-returns-in_ok-new-in-Chain t c =
     built_chain c.args.text.now c.args.raw.now c.in-Chain.level c.in-Chain.f c.in-Chain.rest _ _ _ _ _ c.in-Chain.is c.deref-in-Chain.ensures c.deref-in-Chain-2.ensures.value c.in_ok-new-in-Chain.ensures.ok c.in_ok-f-in-Chain.ensures
     c.in_ok-rest-in-Chain.ensures
+
+pub build-returns-in-Number : goal.build-returns-in-Number
+build-returns-in-Number t c = grind (arith, build_rules)
+
+pub build_call-build-requires : goal.build_call-build-requires
+build_call-build-requires t c = grind (arith, common_steps)
+
+pub build_call-build-requires-2 : goal.build_call-build-requires-2
+build_call-build-requires-2 t c = grind (arith, common_steps)

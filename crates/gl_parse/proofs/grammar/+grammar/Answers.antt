@@ -1,4 +1,5 @@
 use Rattle.std.proofs.Common.{arith, ap, refl}
+use Rattle.std.proofs.lemmas.Grind.{common_steps}
 use Rattle.gl_parse.specs.Raws.{plains, raws_of}
 use Rattle.gl_parse.proofs.Forms.{compare_is, neg_is, pairs_pushed}
 use Rattle.gl_parse.proofs.Rules.{expr_alone, expr_compared, so_far_step, so_far_done, unary_minus, arguments_empty, arguments_done}
@@ -27,3 +28,6 @@ arguments-returns-in-Some-clause-cases t c = arguments_empty c.in-Some.ensures.c
 
 pub arguments-returns-in-Some-after-2-clause-cases : goal.arguments-returns-in-Some-after-2-clause-cases
 arguments-returns-in-Some-after-2-clause-cases t c = arguments_done c.loop-behind.invariant.so_far c.in-Some-after-2.ensures.cases refl
+
+pub atom-returns-in_default-clause-cases : goal.atom-returns-in_default-clause-cases
+atom-returns-in_default-clause-cases t c = grind (arith, common_steps)

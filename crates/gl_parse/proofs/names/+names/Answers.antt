@@ -1,4 +1,5 @@
-use Rattle.std.proofs.Common.{◌∷◌, ◌||◌, not, bytes_eq, ap, sym, refl, ◌∙◌}
+use Rattle.std.proofs.Common.{◌∷◌, ◌||◌, not, bytes_eq, ap, sym, refl, ◌∙◌, arith}
+use Rattle.std.proofs.lemmas.Grind.{common_steps}
 use Rattle.std.specs.List.{list_any}
 use Rattle.gl_language.specs.Grammar.{has_bad_name, bad_name_in, bad_name_in_operands}
 use Rattle.gl_language.specs.Grammar as G
@@ -83,3 +84,30 @@ pub bad_name-returns-in_default-clause-value : goal.bad_name-returns-in_default-
 bad_name-returns-in_default-clause-value t c =
     let other = c.in_default in
     sym (no_name c.args.text.now (scope c.args.text.now c.args.scope.now.items) c.args.raw.now other.not-Var other.not-Neg other.not-Chain other.not-Compare other.not-Apply)
+
+pub bad_name_in_arguments-loop-raw-preserved : goal.bad_name_in_arguments-loop-raw-preserved
+bad_name_in_arguments-loop-raw-preserved t c = grind (arith, common_steps)
+
+pub bad_name_in_arguments-returns-clause-value : goal.bad_name_in_arguments-returns-clause-value
+bad_name_in_arguments-returns-clause-value t c = grind (arith, common_steps)
+
+pub bad_name_in_arguments-returns-then-bad-clause-value : goal.bad_name_in_arguments-returns-then-bad-clause-value
+bad_name_in_arguments-returns-then-bad-clause-value t c = grind (arith, common_steps)
+
+pub bad_name_in_body-returns-clause-same : goal.bad_name_in_body-returns-clause-same
+bad_name_in_body-returns-clause-same t c = grind (arith, common_steps)
+
+pub bad_name_in_call-bad_name-requires : goal.bad_name_in_call-bad_name-requires
+bad_name_in_call-bad_name-requires t c = grind (arith, common_steps)
+
+pub bad_name_in_call-bad_name_in_body-requires : goal.bad_name_in_call-bad_name_in_body-requires
+bad_name_in_call-bad_name_in_body-requires t c = grind (arith, common_steps)
+
+pub bad_name_in_operands-loop-operand-preserved : goal.bad_name_in_operands-loop-operand-preserved
+bad_name_in_operands-loop-operand-preserved t c = grind (arith, common_steps)
+
+pub bad_name_in_operands-returns-clause-value : goal.bad_name_in_operands-returns-clause-value
+bad_name_in_operands-returns-clause-value t c = grind (arith, common_steps)
+
+pub bad_name_in_operands-returns-then-bad-clause-value : goal.bad_name_in_operands-returns-then-bad-clause-value
+bad_name_in_operands-returns-then-bad-clause-value t c = grind (arith, common_steps)

@@ -1,4 +1,5 @@
-use Rattle.std.proofs.Common.{ap, sym, ◌∙◌}
+use Rattle.std.proofs.Common.{ap, sym, ◌∙◌, arith}
+use Rattle.std.proofs.lemmas.Grind.{common_steps}
 use Rattle.gl_language.specs.Grammar.{some_form, some_operand, some_argument}
 use Rattle.gl_parse.specs.Raws.{raw_tree, links, pairs, raws_of, plains}
 use Rattle.gl_parse.specs.Faults.{shows}
@@ -46,3 +47,21 @@ some_form-returns-in_default t c =
     let other = c.in_default in
     let none = no_part c.args.text.now (shows c.args.fault) c.args.raw.now other.not-Neg other.not-Chain other.not-Compare other.not-Apply in
     sym (none ∙ sym c.shows.ensures ∙ c.if-shows.false)
+
+pub some_argument-loop-raw-preserved : goal.some_argument-loop-raw-preserved
+some_argument-loop-raw-preserved t c = grind (arith, common_steps)
+
+pub some_argument-returns : goal.some_argument-returns
+some_argument-returns t c = grind (arith, common_steps)
+
+pub some_argument-returns-then-some_form : goal.some_argument-returns-then-some_form
+some_argument-returns-then-some_form t c = grind (arith, common_steps)
+
+pub some_operand-loop-operand-preserved : goal.some_operand-loop-operand-preserved
+some_operand-loop-operand-preserved t c = grind (arith, common_steps)
+
+pub some_operand-returns : goal.some_operand-returns
+some_operand-returns t c = grind (arith, common_steps)
+
+pub some_operand-returns-then-some_form : goal.some_operand-returns-then-some_form
+some_operand-returns-then-some_form t c = grind (arith, common_steps)

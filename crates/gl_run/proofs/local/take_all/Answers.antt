@@ -1,4 +1,5 @@
-use Rattle.std.proofs.Common.{◌∙◌, List, sym, ap, subst}
+use Rattle.std.proofs.Common.{◌∙◌, List, sym, ap, subst, arith}
+use Rattle.std.proofs.lemmas.Grind.{common_steps}
 use Rattle.std.specs.Vec.Iter.{into_iter_items}
 use Rattle.gl_edits.specs.Replicas.{Replica, taking_all}
 use Rattle.gl_merge.specs.Edit.{EditValue}
@@ -31,3 +32,6 @@ loop-e-preserved c =
             ∙ ap (λ (es : List EditValue). taking_all (replica_tree c.loop-e.replica) (trees es)) (sym c.in-Some.ensures.steps.0) ∙ c.loop-e.invariant.1.taken;
       },
     )
+
+pub returns : goal.returns
+returns c = grind (arith, common_steps)

@@ -1,4 +1,5 @@
 use Rattle.std.proofs.Common.{◌≡◌, ◌∙◌, ◌+◌, ◌≤◌, map, ap, arith}
+use Rattle.std.proofs.lemmas.Grind.{common_steps}
 use Rattle.gl_calculus.specs.Grid.{Addr}
 use Rattle.gl_value.specs.Made.{shown_tree}
 use Rattle.gl_run.proofs.Viewing.{goes_on, ends, rows_ordered}
@@ -21,3 +22,6 @@ returns-clause-shown c =
     let ordered : r.first.row ≤ r.last.row = rows_ordered r c.first.ensures.ordered in
     let e : c.loop-row.row ≡ r.last.row + 1 = omega arith in
     (ends c.args.calc.now r c.loop-row.row (map shown_tree c.loop-row.items.items) e c.loop-row.invariant).1
+
+pub returns-clause-count : goal.returns-clause-count
+returns-clause-count c = grind (arith, common_steps)

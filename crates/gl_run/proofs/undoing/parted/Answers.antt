@@ -1,4 +1,5 @@
-use Rattle.std.proofs.Common.{◌∙◌, ◌++◌, [], List, Option, option_map, sym, ap, subst, append_assoc}
+use Rattle.std.proofs.Common.{◌∙◌, ◌++◌, [], List, Option, option_map, sym, ap, subst, append_assoc, arith}
+use Rattle.std.proofs.lemmas.Grind.{common_steps}
 use Rattle.std.specs.Vec.Iter.{into_iter_items}
 use Rattle.gl_calculus.specs.Grid.{Addr}
 use Rattle.gl_calculus.specs.Formula.{Cells}
@@ -34,3 +35,9 @@ loop-a-preserved c =
         rest = (subst AreProperChanges e inv.rest).1;
       },
     )
+
+pub returns-clause-coming : goal.returns-clause-coming
+returns-clause-coming c = grind (arith, common_steps)
+
+pub returns-clause-going : goal.returns-clause-going
+returns-clause-going c = grind (arith, common_steps)

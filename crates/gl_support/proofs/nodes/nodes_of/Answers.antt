@@ -1,4 +1,5 @@
 use Rattle.std.proofs.Common.{◌≡◌, ◌∙◌, ◌∷◌, [], ◌++◌, ◌+◌, ◌<◌, take, map, length, sym, ap, arith}
+use Rattle.std.proofs.lemmas.Grind.{common_steps}
 use Rattle.std.proofs.lemmas.List.{take_more, map-append}
 use Rattle.gl_support.proofs.Keys.{insert_all-push}
 use Rattle.gl_support.proofs.nodes.nodes_of.Goals as goal
@@ -13,3 +14,6 @@ loop-t-preserved g c =
       keys = rw (more, c.in_ok-insert.ensures.keys) (insert_all-push g.met.K.Eq.laws (map (λ t. t.by) (take i ts)) c.loop-t.nodes.keys _ _ c.loop-t.invariant.keys c.in_ok-another.ensures);
       unique = c.insert.ensures.unique;
     }
+
+pub returns-clause-keys : goal.returns-clause-keys
+returns-clause-keys g c = grind (arith, common_steps)

@@ -1,4 +1,5 @@
 use Rattle.std.proofs.Common.{◌≡◌, ◌∙◌, ◌<◌, true, length, Vec, ap, arith}
+use Rattle.std.proofs.lemmas.Grind.{common_steps}
 use Rattle.std.specs.declared.alloc.Global.{Global}
 use Rattle.gl_support.proofs.Places.{picked_one, picked_none}
 use Rattle.gl_support.proofs.nodes.picked.Goals as goal
@@ -16,3 +17,6 @@ loop-i-preserved g c =
           picked_none (λ x y. g.K.PartialEq.eq x y ≡ true) c.args.marks.now c.args.keys.now c.loop-i.i in_marks in_keys c.loop-i.found.items c.if-marks-i.found.items c.loop-i.invariant
           c.index-keys-i.result w.if-marks-i.false (ap (λ (v : Vec g.row.K.Denot Global). v.items) w.found-is)
     ]
+
+pub returns : goal.returns
+returns g c = grind (arith, common_steps)

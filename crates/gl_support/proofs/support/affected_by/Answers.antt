@@ -1,4 +1,5 @@
 use Rattle.std.proofs.Common.{◌≡◌, ◌∙◌, ◌&&◌, true, [], map, length, subst, arith}
+use Rattle.std.proofs.lemmas.Grind.{common_steps}
 use Rattle.std.specs.List.{AllZip}
 use Rattle.indexmap.specs.IndexSet.{insert_all}
 use Rattle.gl_support.specs.Affected.{is_touched}
@@ -25,3 +26,6 @@ returns g c =
     graph (λ a n. c.in_ok-add_triples.ensures.edges a n ∙ any_plain (λ t. reads_at same ks t.reads a && stands_at same ks t.by n) c.args.triples.now)
     seeds (λ n. c.in_ok-add_triples.ensures.seeds n ∙ any_plain (λ t. is_touched touches t.looked c.args.changed.now && stands_at same ks t.by n) c.args.triples.now)
     marks least size v.items (subst (λ us. AllZip (λ x y. same x y ≡ true) (marked_keys marks us) v.items) c.as_slice.ensures.keys (subst (λ ms. AllZip (λ x y. same x y ≡ true) (marked_keys ms c.as_slice.result.now) v.items) c.deref-3.ensures.value is))) c.picked.ensures
+
+pub add_triples-requires-clause-no_seeds : goal.add_triples-requires-clause-no_seeds
+add_triples-requires-clause-no_seeds g c = grind (arith, common_steps)

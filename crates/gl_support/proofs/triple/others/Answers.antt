@@ -1,4 +1,5 @@
 use Rattle.std.proofs.Common.{◌≡◌, ◌∙◌, ◌∷◌, [], ◌++◌, ◌+◌, ◌<◌, take, length, sym, ap, arith}
+use Rattle.std.proofs.lemmas.Grind.{common_steps}
 use Rattle.std.proofs.lemmas.List.{take_more}
 use Rattle.std.proofs.lemmas.List.Elements.{AllZip-push}
 use Rattle.gl_support.proofs.triple.others.Goals as goal
@@ -8,3 +9,6 @@ loop-k-preserved g c =
     let inside : c.loop-k.k-index < length c.args.keys.now = omega arith in
     let more : take (c.loop-k.k-index + 1) c.args.keys.now ≡ take c.loop-k.k-index c.args.keys.now ++ c.k-item.result ∷ [] = take_more c.args.keys.now c.loop-k.k-index c.k-item.result inside ∙ ap (λ x. take c.loop-k.k-index c.args.keys.now ++ x ∷ []) (sym c.k-item.is) in
     rw (more, c.in_ok-push.ensures.items) (AllZip-push _ _ _ _ _ c.loop-k.invariant c.in_ok-another.ensures)
+
+pub returns : goal.returns
+returns g c = grind (arith, common_steps)

@@ -1,4 +1,5 @@
 use Rattle.std.proofs.Common.{◌≡◌, ◌++◌, length, map, ap, sym, subst, ◌∙◌, arith}
+use Rattle.std.proofs.lemmas.Grind.{common_steps}
 use Rattle.gl_calculus.specs.Formula.{content}
 use Rattle.gl_protocol.proofs.SheetChanges.{sets_these}
 use Rattle.gl_ast.specs.View.{version_tree}
@@ -24,3 +25,6 @@ invariant_of-self-in-Ok-put_all c =
     (c.mark_all.ensures.items ∙ ap (λ ys. ys ++ c.deref-in-Ok-put_all.result.now) c.reserve.ensures.items ∙ ap (λ ys. c.self.inside.touched.items ++ ys) listed)
     (λ b f. subst (λ T. content T b ≡ content S b) (sym goal) (sets_these S xs b f))
     (omega (arith, longer, most, many, marked, places, c.mark_all.ensures.len, c.mark_all.ensures.capacity, c.reserve.ensures.len, c.in-Ok.ensures.ok, c.contents.ensures.count, c.len.ensures, c.len-2.ensures, c.args.list.ok.0))
+
+pub mark_all-requires : goal.mark_all-requires
+mark_all-requires c = grind (arith, common_steps)

@@ -1,3 +1,5 @@
+use Rattle.std.proofs.Common.{arith}
+use Rattle.std.proofs.lemmas.Grind.{common_steps}
 use Rattle.gl_demand.specs.View.{key_tree}
 use Rattle.gl_intern.specs.Numbered.{seconds}
 use Rattle.gl_core.specs.Shorts.{key_pairs}
@@ -24,3 +26,6 @@ invariant_of-self-2 c =
     let before = words_stay c.self.inside.guesses.entries es ks c.remember.ensures.keeps c.self.invariant.1 in
     let placed = words_of_more es ks js k (this_word es k c.args.word c.requires.word c.in_ok-remember.ensures.has) c.place_key.ensures.members before in
     (c.place_key.ensures.short, words_stay es c.replace.new.guesses.entries js c.replace.ensures.keeps placed)
+
+pub overflow_cast-next : goal.overflow_cast-next
+overflow_cast-next c = grind (arith, common_steps)

@@ -1,4 +1,5 @@
 use Rattle.std.proofs.Common.{subst, sym, ap, ◌∙◌, ◌∷◌, [], arith}
+use Rattle.std.proofs.lemmas.Grind.{elements}
 use Rattle.gl_flow.specs.Plans.{plan}
 use Rattle.gl_flow.specs.Places.{StandsAt}
 use Rattle.gl_flow.proofs.Stepping.{spill_taken, spill_none}
@@ -11,3 +12,6 @@ returns-in-Some-clause-some c =
 
 pub returns-in-None-clause-none : goal.returns-in-None-clause-none
 returns-in-None-clause-none c = spill_none (plan c.args.self.now) c.args.a c.args.offset (λ k s. c.in-None.ensures.none k (subst (λ ps. StandsAt ps c.args.a k) (sym c.deref.ensures.value) s))
+
+pub top-requires : goal.top-requires
+top-requires c = grind (arith, elements)

@@ -1,4 +1,5 @@
 use Rattle.std.proofs.Common.{refl, ◌∙◌, arith}
+use Rattle.std.proofs.lemmas.Grind.{common_steps}
 use Rattle.gl_flow.specs.Plans.{plan}
 use Rattle.gl_flow.proofs.Stepping.{piece_read, pieces_within, value_taken, value_passed}
 use Rattle.gl_flow.proofs.network.Network.value_step.Goals as goal
@@ -26,3 +27,9 @@ loop-part-preserved c =
     c.loop-part.invariant
     ∙ value_passed s.pieces.items (plan s) refl c.args.k c.loop-part.part c.index-pieces.result.now c.index.result.now (pieces_within s.pieces.items s.places.items c.args.k s.sound.same_pieces c.requires) c.index-pieces.ensures (omega (arith, c.loop-part-test.true, c.loop-part.auto.part-end, c.len-part-end.ensures)) c.index.ensures
     c.loop-part.offset c.in_default.ensures.none
+
+pub index-pieces-requires : goal.index-pieces-requires
+index-pieces-requires c = grind (arith, common_steps)
+
+pub returns-clause-none : goal.returns-clause-none
+returns-clause-none c = grind (arith, common_steps)

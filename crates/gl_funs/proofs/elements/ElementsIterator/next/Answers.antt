@@ -1,5 +1,6 @@
-use Rattle.std.proofs.Common.{◌∙◌, IsTrue}
+use Rattle.std.proofs.Common.{◌∙◌, IsTrue, arith}
 use Rattle.std.proofs.lemmas.List.Elements.{All-rest}
+use Rattle.gl_value.specs.Forms.{trees}
 use Rattle.gl_calculus.specs.Sound.{is_sound_value}
 use Rattle.gl_value.specs.View.{value_tree}
 use Rattle.gl_funs.proofs.Items.{one_given, next_value, longer}
@@ -22,3 +23,6 @@ invariant_of-self-in-Some c = record {
 pub loop-first-preserved : goal.loop-first-preserved
 loop-first-preserved c =
     c.loop-first.invariant ∙ next_value c.loop-first.self.values.now c.in-Some.rest.now c.in-Some.first.now c.loop-first.self.given c.in-Some.ensures.cases.0 c.in_default-element.ensures
+
+pub element-requires : goal.element-requires
+element-requires c = grind (arith, trees)

@@ -1,4 +1,5 @@
 use Rattle.std.proofs.Common.{◌≡◌, ◌+◌, ◌<◌, Some, None, IfOk, option_map, drop, arith, refl, sym, ap, subst, ◌∙◌}
+use Rattle.std.proofs.lemmas.Grind.{common_steps}
 use Rattle.std.proofs.lemmas.List.{at_drop_all}
 use Rattle.std.proofs.lemmas.Result.{IfOk-weaker}
 use Rattle.gl_value.specs.View.{scalar_tree, value_tree, frame_tree, sheet_tree, item_trees, override_trees}
@@ -162,3 +163,12 @@ add_sheet_within-returns-clause-ok t c =
     let short = c.in_ok-short.short in
     let there = sheet_stays now end c.place_sheet.ensures.grows s short c.in_ok-short.ensures.ok in
     IfOk-weaker c.place_sheet.result (λ n. place_of_sheet end short ≡ Some n) (λ n. sheet_place end s ≡ Some n) (λ n h. ap (then_some (place_of_sheet end)) there ∙ h) c.place_sheet.ensures.ok
+
+pub add_sheet-returns-clause-grows : goal.add_sheet-returns-clause-grows
+add_sheet-returns-clause-grows t c = grind (arith, common_steps)
+
+pub add_sheet_within-returns-clause-grows : goal.add_sheet_within-returns-clause-grows
+add_sheet_within-returns-clause-grows t c = grind (arith, common_steps)
+
+pub add_short_sheet-returns-clause-grows : goal.add_short_sheet-returns-clause-grows
+add_short_sheet-returns-clause-grows t c = grind (arith, common_steps)

@@ -1,4 +1,5 @@
-use Rattle.std.proofs.Common.{ap, ◌∙◌}
+use Rattle.std.proofs.Common.{ap, ◌∙◌, arith}
+use Rattle.std.proofs.lemmas.Grind.{common_steps}
 use Rattle.gl_value.specs.View.{sheet_tree}
 use Rattle.gl_intern.specs.Tables.{tables}
 use Rattle.gl_intern.specs.Places.{then_some, place_of_frame}
@@ -12,3 +13,9 @@ returns-clause-ok c =
     let now = tables c.add_copy.new.self in
     let there = sheet_stays before now c.in_ok-i.ensures.grows (sheet_tree c.args.s.now) c.in_ok-short.short c.in_ok-short.ensures.ok in
     ap (then_some (place_of_frame now w)) there ∙ c.in_ok-i.ensures.ok
+
+pub returns-clause-grows : goal.returns-clause-grows
+returns-clause-grows c = grind (arith, common_steps)
+
+pub returns-in_err-i-clause-grows : goal.returns-in_err-i-clause-grows
+returns-in_err-i-clause-grows c = grind (arith, common_steps)

@@ -1,0 +1,6 @@
+use Rattle.std.proofs.Common.{arith}
+use Rattle.std.proofs.lemmas.Grind.{common_steps}
+use Rattle.gl_plane.proofs.differences.push_minus.Goals as goal
+
+pub returns-in_ok-push-2 : goal.returns-in_ok-push-2
+returns-in_ok-push-2 c = grind (arith, common_steps)

@@ -1,0 +1,6 @@
+use Rattle.std.proofs.Common.{arith}
+use Rattle.gl_value.specs.Forms.{trees}
+use Rattle.gl_value.proofs.sheets.make.Goals as goal
+
+pub returns : goal.returns
+returns c = grind (arith, trees)
