@@ -1,20 +1,24 @@
 -- The derived `==` of formulas is the test of their trees.
-use Rattle.std.proofs.Common.{◌≡◌, Bool as Truth, true, false, ◌&&◌, List, [], ◌∷◌, map, rules, refl, subst}
+use Rattle.std.proofs.Common.{◌≡◌, Bool as Truth, true, false, ◌&&◌, List, [], ◌∷◌, map, refl, subst, ap, sym, ◌∙◌}
+use denote.Hole.Carrier as carrier
 use lib.Pointwise.{pointwise}
 use Rattle.gl_ast.specs.Ints.{int_test}
 use Rattle.gl_ast.specs.Same.{same_op, same_level, same_fun, same_formula, same_formulas, same_operands}
 use Rattle.gl_calculus.specs.Same.{same_bool}
-use Rattle.gl_ast.specs.View.{level_tree, op_tree, fun_tree, formula_tree, argument_trees, operand_trees}
+use Rattle.gl_ast.specs.View.{level_tree, op_tree, fun_tree, formula_tree, argument_trees, operand_trees, formula_step as tree_step}
+use Rattle.gl_calculus.specs.Formula as F
 use Rattle.gl_ast.specs.declared.Level.{Level}
 use Rattle.gl_ast.specs.declared.Level.TheVariants as level
 use Rattle.gl_ast.specs.declared.Op.{Op}
 use Rattle.gl_ast.specs.declared.Op.TheVariants as op
 use Rattle.gl_ast.specs.declared.Fun.{Fun}
 use Rattle.gl_ast.specs.declared.Fun.TheVariants as fun
-use Rattle.gl_ast.specs.declared.Formula.{Formula, roll-Formula, out-Formula, roll-out-Formula, map-Formula, ind-Formula, the_lemmas}
+use Rattle.gl_ast.specs.declared.Formula.{Formula, roll-Formula, out-Formula, roll-out-Formula, map-Formula, ind-Formula, fold-roll-Formula}
+use Rattle.gl_ast.specs.declared.Formula.TheBlock.{seen-the_row-Formula-Chain-2-2-0, seen-the_row-Formula-1}
 use Rattle.gl_ast.specs.declared.Formula.TheOpen.{Formula-F}
 use Rattle.gl_ast.specs.contracts.FormulaPartialEq.TheImpl.{ghosts as formula}
-use Rattle.gl_ast.specs.contracts.FormulaPartialEq.TheImpl.Laws.{is as formula_is}
+use Rattle.gl_ast.specs.contracts.FormulaPartialEq.TheImpl.Laws.{is as formula_is, unfolded}
+use Rattle.std.specs.contracts.prelude.BoolPartialEq.TheImpl.{ghosts as truth_eq}
 use Rattle.gl_ast.specs.contracts.LevelPartialEq.TheImpl.{ghosts as level_eq}
 use Rattle.gl_ast.specs.contracts.OpPartialEq.TheImpl.{ghosts as op_eq}
 use Rattle.gl_ast.specs.contracts.FunPartialEq.TheImpl.{ghosts as fun_eq}
@@ -76,11 +80,11 @@ fun_test fun.G fun.G = refl
 fun_test fun.This fun.This = refl
 fun_test _ _ = refl
 
-truth_test : (a b : Truth) → formula.eq (roll-Formula (Formula-F.Bool a)) (roll-Formula (Formula-F.Bool b)) ≡ same_bool a b
-truth_test true true = search (rules, the_lemmas, formula_is)
-truth_test true false = search (rules, the_lemmas, formula_is)
-truth_test false true = search (rules, the_lemmas, formula_is)
-truth_test false false = search (rules, the_lemmas, formula_is)
+truth_test : (a b : Truth) → truth_eq.eq a b ≡ same_bool a b
+truth_test true true = refl
+truth_test true false = refl
+truth_test false true = refl
+truth_test false false = refl
 
 -- what is claimed of a formula: its test agrees with that of the trees, at every other formula
 abbrev P : Formula → Type 0
@@ -89,8 +93,14 @@ P x = (y : Formula) → formula.eq x y ≡ same_formula (formula_tree x) (formul
 abbrev S : Type 0
 S = (x : Formula) × P x
 
+abbrev layer_of : Formula-F S → Formula-F Formula
+layer_of l = map-Formula S Formula (λ e. e.0) l
+
 abbrev formula_of : Formula-F S → Formula
-formula_of l = roll-Formula (map-Formula S Formula (λ e. e.0) l)
+formula_of l = roll-Formula (layer_of l)
+
+abbrev layer_tree : Formula-F Formula → F.Formula
+layer_tree x = tree_step (map-Formula Formula F.Formula formula_tree x)
 
 abbrev formulas_of : List S → List Formula
 formulas_of ls = map (λ e. e.0) ls
@@ -110,36 +120,30 @@ operands_eq [] (y ∷ ys) = refl
 operands_eq (x ∷ xs) [] = refl
 operands_eq (x ∷ xs) (y ∷ ys) = rw (op_test x.0 y.0, x.1.1 y.1, operands_eq xs ys) refl
 
-formula_cases : (l : Formula-F S) (z : Formula-F Formula) → formula.eq (formula_of l) (roll-Formula z) ≡ same_formula (formula_tree (formula_of l)) (formula_tree (roll-Formula z))
-formula_cases (Formula-F.Int m) (Formula-F.Int n) = let h = int_test m n in search (rules, the_lemmas, formula_is, h)
-formula_cases (Formula-F.Text s) (Formula-F.Text t) = search (rules, the_lemmas, formula_is)
-formula_cases (Formula-F.Bool a) (Formula-F.Bool b) = let h = truth_test a b in search (rules, the_lemmas, h)
-formula_cases (Formula-F.At a) (Formula-F.At b) = search (rules, the_lemmas, formula_is)
-formula_cases (Formula-F.Spill a) (Formula-F.Spill b) = search (rules, the_lemmas, formula_is)
-formula_cases (Formula-F.Area r) (Formula-F.Area s) = search (rules, the_lemmas, formula_is)
-formula_cases (Formula-F.Var s) (Formula-F.Var t) = search (rules, the_lemmas, formula_is)
-formula_cases (Formula-F.Neg f) (Formula-F.Neg g) = let h = f.value.1 g.value in search (rules, the_lemmas, formula_is, h)
-formula_cases (Formula-F.Chain l f os) (Formula-F.Chain m g ps) =
-    let h = level_test l m in
-    let k = f.value.1 g.value in
-    let t = operands_eq os.items ps.items in
-    search (rules, the_lemmas, formula_is, h, k, t)
-formula_cases (Formula-F.Compare o f a) (Formula-F.Compare p g b) =
-    let h = op_test o p in
-    let k = f.value.1 g.value in
-    let t = a.value.1 b.value in
-    search (rules, the_lemmas, formula_is, h, k, t)
-formula_cases (Formula-F.Call f xs) (Formula-F.Call g ys) =
-    let h = fun_test f g in
-    let t = arguments_eq xs.items ys.items in
-    search (rules, the_lemmas, formula_is, h, t)
-formula_cases (Formula-F.Let s f a) (Formula-F.Let t g b) =
-    let k = f.value.1 g.value in
-    let u = a.value.1 b.value in
-    search (rules, the_lemmas, formula_is, k, u)
-formula_cases _ _ = search (rules, the_lemmas, formula_is)
+-- the derived test opened once: with both formulas built up, two of different kinds differ as they stand
+layers : (l : Formula-F S) (z : Formula-F Formula) → unfolded (formula_of l) (roll-Formula z) ≡ same_formula (layer_tree (layer_of l)) (layer_tree z)
+unfolding roll-Formula out-Formula carrier.roll carrier.out
+layers (Formula-F.Int m) (Formula-F.Int n) = int_test m n
+layers (Formula-F.Text s) (Formula-F.Text t) = refl
+layers (Formula-F.Bool a) (Formula-F.Bool b) = truth_test a b
+layers (Formula-F.At a) (Formula-F.At b) = refl
+layers (Formula-F.Spill a) (Formula-F.Spill b) = refl
+layers (Formula-F.Area r) (Formula-F.Area s) = refl
+layers (Formula-F.Var s) (Formula-F.Var t) = refl
+layers (Formula-F.Neg f) (Formula-F.Neg g) = f.value.1 g.value
+layers (Formula-F.Chain l f os) (Formula-F.Chain m g ps) = rw (seen-the_row-Formula-Chain-2-2-0 ps, seen-the_row-Formula-Chain-2-2-0, level_test l m, f.value.1 g.value, operands_eq os.items ps.items) refl
+layers (Formula-F.Compare o f a) (Formula-F.Compare p g b) = rw (op_test o p, f.value.1 g.value, a.value.1 b.value) refl
+layers (Formula-F.Call f xs) (Formula-F.Call g ys) = rw (seen-the_row-Formula-1 ys, seen-the_row-Formula-1, fun_test f g, arguments_eq xs.items ys.items) refl
+layers (Formula-F.Let s f a) (Formula-F.Let t g b) = rw (f.value.1 g.value, a.value.1 b.value) refl
+layers _ _ = refl
 
-formula_step : (x : Formula-F Formula) (l : Formula-F S) → map-Formula S Formula (λ e. e.0) l ≡ x → P (roll-Formula x)
+formula_cases : (l : Formula-F S) (z : Formula-F Formula) → formula.eq (formula_of l) (roll-Formula z) ≡ same_formula (formula_tree (formula_of l)) (formula_tree (roll-Formula z))
+formula_cases l z =
+    formula_is (formula_of l) (roll-Formula z) ∙ layers l z
+    ∙ sym (ap (λ t. same_formula t (layer_tree z)) (fold-roll-Formula F.Formula tree_step (layer_of l)))
+    ∙ sym (ap (λ t. same_formula (formula_tree (formula_of l)) t) (fold-roll-Formula F.Formula tree_step z))
+
+formula_step : (x : Formula-F Formula) (l : Formula-F S) → layer_of l ≡ x → P (roll-Formula x)
 formula_step x l e = subst (λ x. P (roll-Formula x)) e (λ y. subst (λ y. formula.eq (formula_of l) y ≡ same_formula (formula_tree (formula_of l)) (formula_tree y)) (roll-out-Formula y) (formula_cases l (out-Formula y)))
 
 -- the derived `==` compares the trees
