@@ -1,15 +1,15 @@
 //! The canonical text of formulas.
 
-ghost use Rattle.std.specs.Prelude.{◌≡◌, ◌++◌, ◌∷◌, [], ◌≤◌, OnOk, IfOk, Bool, if◌then◌else◌};
+ghost use Rattle.std.specs.Prelude.{◌≡◌, ◌+◌, ◌++◌, ◌∷◌, [], ◌≤◌, OnOk, IfOk, Bool, if◌then◌else◌};
 ghost use Rattle.std.specs.{List.join_with_byte, String.string_bytes};
 ghost use Rattle.gl_calculus.specs.Notation as notation;
 ghost use Rattle.gl_language.specs.Text as text;
 ghost use Rattle.gl_ast.specs.View.{formula_tree, argument_trees, operand_trees, level_tree};
-ghost use Rattle.gl_ast.specs.View.{op_tree};
+ghost use Rattle.gl_ast.specs.View.{op_tree, fun_tree};
 
 use crate::literal::{put, put_literal};
 use crate::notation::{put_address, put_int, put_range, put_truth};
-use crate::{Formula, Level, Op};
+use crate::{Formula, Fun, Level, Op};
 use gl_plane::{Addr, NoMemory};
 use std::alloc::Global;
 
@@ -123,7 +123,7 @@ fn placed(alloc: Global, out: &mut String, at: u8, minus: u8, f: &Formula) -> Re
 
 /// A form without parentheses around it.
 #[cycle(print)]
-#[tactic(auto, using(crate::proofs::Printing::body_rules))]
+#[tactic(auto, using(crate::specs::Forms::trees))]
 fn body(alloc: Global, out: &mut String, minus: u8, f: &Formula) -> Result<(), NoMemory>
     ensures { OnOk result (
         string_bytes out.new
@@ -137,38 +137,111 @@ fn body(alloc: Global, out: &mut String, minus: u8, f: &Formula) -> Result<(), N
         Formula::Spill(a) => put_spill(alloc, out, *a),
         Formula::Area(r) => put_range(alloc, out, *r),
         Formula::Var(v) => put(out, v),
-        Formula::Neg(x) => {
-            put(out, "-")?;
-            placed(alloc, out, 4, one_more(minus), x)?;
-            Ok(())
-        }
-        Formula::Chain(level, x, rest) => {
-            placed(alloc, out, place(*level) + 1, minus, x)?;
-            operands(alloc, out, place(*level) + 1, rest)?;
-            Ok(())
-        }
-        Formula::Compare(op, x, y) => {
-            placed(alloc, out, 1, minus, x)?;
-            put(out, op.sign())?;
-            placed(alloc, out, 1, 0, y)?;
-            Ok(())
-        }
-        Formula::Call(g, xs) => {
-            put(out, g.word())?;
-            put(out, "(")?;
-            arguments(alloc, out, xs)?;
-            put(out, ")")?;
-            Ok(())
-        }
-        Formula::Let(v, x, y) => {
-            put_let(out, v)?;
-            body(alloc, out, 0, x)?;
-            put(out, ",")?;
-            body(alloc, out, 0, y)?;
-            put(out, ")")?;
-            Ok(())
-        }
+        Formula::Neg(x) => negated(alloc, out, one_more(minus), x),
+        Formula::Chain(level, x, rest) => chain(alloc, out, *level, minus, x, rest),
+        Formula::Compare(op, x, y) => comparison(alloc, out, minus, x, *op, y),
+        Formula::Call(g, xs) => call(alloc, out, *g, xs),
+        Formula::Let(v, x, y) => binding(alloc, out, v, x, y),
     }
+}
+
+/// A `-` and its operand, which stands behind so many of them.
+#[cycle(print)]
+fn negated(alloc: Global, out: &mut String, minus: u8, x: &Formula) -> Result<(), NoMemory>
+    ensures { OnOk result (
+        string_bytes out.new
+        ≡ string_bytes out.old ++ 45 ∷ text.placed_text 4 minus (formula_tree x.now)) }
+{
+    put(out, "-")?;
+    placed(alloc, out, 4, minus, x)?;
+    Ok(())
+}
+
+/// Operands of one level, with their operators between them.
+#[cycle(print)]
+fn chain(
+    alloc: Global,
+    out: &mut String,
+    level: Level,
+    minus: u8,
+    x: &Formula,
+    rest: &[(Op, Formula)],
+) -> Result<(), NoMemory>
+    ensures { OnOk result (
+        string_bytes out.new
+        ≡ string_bytes out.old
+        ++ (text.placed_text (text.level_place (level_tree level) + 1) minus (formula_tree x.now)
+        ++ text.operands_text (text.level_place (level_tree level) + 1)
+        (operand_trees rest.now))) }
+{
+    let at = place(level) + 1;
+    placed(alloc, out, at, minus, x)?;
+    operands(alloc, out, at, rest)?;
+    Ok(())
+}
+
+/// One comparison.
+#[cycle(print)]
+fn comparison(
+    alloc: Global,
+    out: &mut String,
+    minus: u8,
+    x: &Formula,
+    op: Op,
+    y: &Formula,
+) -> Result<(), NoMemory>
+    ensures { OnOk result (
+        string_bytes out.new
+        ≡ string_bytes out.old
+        ++ (text.placed_text 1 minus (formula_tree x.now)
+        ++ text.op_text (op_tree op)
+        ++ text.placed_text 1 0 (formula_tree y.now))) }
+{
+    placed(alloc, out, 1, minus, x)?;
+    put(out, op.sign())?;
+    placed(alloc, out, 1, 0, y)?;
+    Ok(())
+}
+
+/// The call of a function.
+#[cycle(print)]
+fn call(alloc: Global, out: &mut String, g: Fun, xs: &[Formula]) -> Result<(), NoMemory>
+    ensures { OnOk result (
+        string_bytes out.new
+        ≡ string_bytes out.old
+        ++ (text.fun_text (fun_tree g)
+        ++ text.in_parens (join_with_byte 44 (text.texts (argument_trees xs.now))))) }
+{
+    put(out, g.word())?;
+    put(out, "(")?;
+    arguments(alloc, out, xs)?;
+    put(out, ")")?;
+    Ok(())
+}
+
+/// A `LET` with its variable, what that is bound to, and its body.
+#[cycle(print)]
+fn binding(
+    alloc: Global,
+    out: &mut String,
+    v: &str,
+    x: &Formula,
+    y: &Formula,
+) -> Result<(), NoMemory>
+    ensures { OnOk result (
+        string_bytes out.new
+        ≡ string_bytes out.old
+        ++ (76 ∷ 69 ∷ 84 ∷ text.in_parens
+        (join_with_byte 44
+        (v.now ∷ text.text_behind 0 (formula_tree x.now)
+        ∷ text.text_behind 0 (formula_tree y.now) ∷ [])))) }
+{
+    put_let(out, v)?;
+    body(alloc, out, 0, x)?;
+    put(out, ",")?;
+    body(alloc, out, 0, y)?;
+    put(out, ")")?;
+    Ok(())
 }
 
 /// Operators, each with its operand.
