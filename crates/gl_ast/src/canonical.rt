@@ -1,6 +1,7 @@
 //! The canonical text of formulas.
 
-ghost use Rattle.std.specs.Prelude.{◌≡◌, ◌+◌, ◌++◌, ◌∷◌, [], ◌≤◌, OnOk, IfOk, Bool, if◌then◌else◌};
+ghost use Rattle.std.specs.Prelude.{◌≡◌, ◌+◌, ◌≤◌, ◌++◌, ◌∷◌, [], OnOk, IfOk, Bool};
+ghost use Rattle.std.specs.Prelude.{if◌then◌else◌};
 ghost use Rattle.std.specs.{List.join_with_byte, String.string_bytes};
 ghost use Rattle.gl_calculus.specs.Notation as notation;
 ghost use Rattle.gl_language.specs.Text as text;
@@ -99,8 +100,7 @@ fn put_let(out: &mut String, v: &str) -> Result<(), NoMemory>
 {
     put(out, "LET(")?;
     put(out, v)?;
-    put(out, ",")?;
-    Ok(())
+    put(out, ",")
 }
 
 /// A form in a place, behind so many `-`, with the parentheses that it needs there.
@@ -114,8 +114,7 @@ fn placed(alloc: Global, out: &mut String, at: u8, minus: u8, f: &Formula) -> Re
     if needs_parens(minus, at, f) {
         put(out, "(")?;
         body(alloc, out, 0, f)?;
-        put(out, ")")?;
-        Ok(())
+        put(out, ")")
     } else {
         body(alloc, out, minus, f)
     }
@@ -153,8 +152,7 @@ fn negated(alloc: Global, out: &mut String, minus: u8, x: &Formula) -> Result<()
         ≡ string_bytes out.old ++ 45 ∷ text.placed_text 4 minus (formula_tree x.now)) }
 {
     put(out, "-")?;
-    placed(alloc, out, 4, minus, x)?;
-    Ok(())
+    placed(alloc, out, 4, minus, x)
 }
 
 /// Operands of one level, with their operators between them.
@@ -176,8 +174,7 @@ fn chain(
 {
     let at = place(level) + 1;
     placed(alloc, out, at, minus, x)?;
-    operands(alloc, out, at, rest)?;
-    Ok(())
+    operands(alloc, out, at, rest)
 }
 
 /// One comparison.
@@ -199,8 +196,7 @@ fn comparison(
 {
     placed(alloc, out, 1, minus, x)?;
     put(out, op.sign())?;
-    placed(alloc, out, 1, 0, y)?;
-    Ok(())
+    placed(alloc, out, 1, 0, y)
 }
 
 /// The call of a function.
@@ -215,8 +211,7 @@ fn call(alloc: Global, out: &mut String, g: Fun, xs: &[Formula]) -> Result<(), N
     put(out, g.word())?;
     put(out, "(")?;
     arguments(alloc, out, xs)?;
-    put(out, ")")?;
-    Ok(())
+    put(out, ")")
 }
 
 /// A `LET` with its variable, what that is bound to, and its body.
@@ -240,8 +235,7 @@ fn binding(
     body(alloc, out, 0, x)?;
     put(out, ",")?;
     body(alloc, out, 0, y)?;
-    put(out, ")")?;
-    Ok(())
+    put(out, ")")
 }
 
 /// Operators, each with its operand.

@@ -20,6 +20,3 @@ operands-loop-operand-preserved t c = grind (arith, common_steps)
 
 pub operands-returns : goal.operands-returns
 operands-returns t c = grind (arith, common_steps)
-
-pub placed-returns-in_ok-put-2 : goal.placed-returns-in_ok-put-2
-placed-returns-in_ok-put-2 t c = grind (arith, common_steps)
