@@ -1,9 +1,10 @@
 -- The derived `==` of formulas is the test of their trees.
-use Rattle.std.proofs.Common.{◌≡◌, Bool as Truth, true, false, ◌&&◌, List, [], ◌∷◌, map, refl, subst, ap, sym, ◌∙◌}
+use Rattle.std.proofs.Common.{◌≡◌, Bool as Truth, true, false, ◌&&◌, ◌==◌, List, [], ◌∷◌, map, refl, subst, ap, sym, ◌∙◌}
+use denote.Enum.Declared.{tag_of}
 use denote.Hole.Carrier as carrier
 use lib.Pointwise.{pointwise}
 use Rattle.gl_ast.specs.Ints.{int_test}
-use Rattle.gl_ast.specs.Same.{same_op, same_level, same_fun, same_formula, same_formulas, same_operands}
+use Rattle.gl_ast.specs.Same.{fun_place, same_op, same_level, same_fun, same_formula, same_formulas, same_operands}
 use Rattle.gl_calculus.specs.Same.{same_bool}
 use Rattle.gl_ast.specs.View.{level_tree, op_tree, fun_tree, formula_tree, argument_trees, operand_trees, formula_step as tree_step}
 use Rattle.gl_calculus.specs.Formula as F
@@ -22,6 +23,7 @@ use Rattle.std.specs.contracts.prelude.BoolPartialEq.TheImpl.{ghosts as truth_eq
 use Rattle.gl_ast.specs.contracts.LevelPartialEq.TheImpl.{ghosts as level_eq}
 use Rattle.gl_ast.specs.contracts.OpPartialEq.TheImpl.{ghosts as op_eq}
 use Rattle.gl_ast.specs.contracts.FunPartialEq.TheImpl.{ghosts as fun_eq}
+use Rattle.gl_ast.specs.contracts.Fun.{the_type as fun_type}
 
 level_test : (l m : Level) → level_eq.eq l m ≡ same_level (level_tree l) (level_tree m)
 level_test level.Cat level.Cat = refl
@@ -43,42 +45,45 @@ op_test op.Mul op.Mul = refl
 op_test op.Div op.Div = refl
 op_test _ _ = refl
 
+-- the derived test of functions is that of their places
+fun_tag : (f : Fun) → tag_of fun_type f ≡ fun_place (fun_tree f)
+fun_tag fun.Sum = refl
+fun_tag fun.Count = refl
+fun_tag fun.Min = refl
+fun_tag fun.Max = refl
+fun_tag fun.And = refl
+fun_tag fun.Or = refl
+fun_tag fun.Not = refl
+fun_tag fun.If = refl
+fun_tag fun.IfError = refl
+fun_tag fun.IsError = refl
+fun_tag fun.IsBlank = refl
+fun_tag fun.Abs = refl
+fun_tag fun.Mod = refl
+fun_tag fun.Len = refl
+fun_tag fun.Left = refl
+fun_tag fun.Right = refl
+fun_tag fun.Rows = refl
+fun_tag fun.Columns = refl
+fun_tag fun.Index = refl
+fun_tag fun.Sequence = refl
+fun_tag fun.Transpose = refl
+fun_tag fun.Take = refl
+fun_tag fun.Drop = refl
+fun_tag fun.HStack = refl
+fun_tag fun.VStack = refl
+fun_tag fun.Filter = refl
+fun_tag fun.Unique = refl
+fun_tag fun.Lookup = refl
+fun_tag fun.Na = refl
+fun_tag fun.Sheet = refl
+fun_tag fun.Update = refl
+fun_tag fun.View = refl
+fun_tag fun.G = refl
+fun_tag fun.This = refl
+
 fun_test : (f g : Fun) → fun_eq.eq f g ≡ same_fun (fun_tree f) (fun_tree g)
-fun_test fun.Sum fun.Sum = refl
-fun_test fun.Count fun.Count = refl
-fun_test fun.Min fun.Min = refl
-fun_test fun.Max fun.Max = refl
-fun_test fun.And fun.And = refl
-fun_test fun.Or fun.Or = refl
-fun_test fun.Not fun.Not = refl
-fun_test fun.If fun.If = refl
-fun_test fun.IfError fun.IfError = refl
-fun_test fun.IsError fun.IsError = refl
-fun_test fun.IsBlank fun.IsBlank = refl
-fun_test fun.Abs fun.Abs = refl
-fun_test fun.Mod fun.Mod = refl
-fun_test fun.Len fun.Len = refl
-fun_test fun.Left fun.Left = refl
-fun_test fun.Right fun.Right = refl
-fun_test fun.Rows fun.Rows = refl
-fun_test fun.Columns fun.Columns = refl
-fun_test fun.Index fun.Index = refl
-fun_test fun.Sequence fun.Sequence = refl
-fun_test fun.Transpose fun.Transpose = refl
-fun_test fun.Take fun.Take = refl
-fun_test fun.Drop fun.Drop = refl
-fun_test fun.HStack fun.HStack = refl
-fun_test fun.VStack fun.VStack = refl
-fun_test fun.Filter fun.Filter = refl
-fun_test fun.Unique fun.Unique = refl
-fun_test fun.Lookup fun.Lookup = refl
-fun_test fun.Na fun.Na = refl
-fun_test fun.Sheet fun.Sheet = refl
-fun_test fun.Update fun.Update = refl
-fun_test fun.View fun.View = refl
-fun_test fun.G fun.G = refl
-fun_test fun.This fun.This = refl
-fun_test _ _ = refl
+fun_test f g = ap (λ n. n == tag_of fun_type g) (fun_tag f) ∙ ap (λ n. fun_place (fun_tree f) == n) (fun_tag g)
 
 truth_test : (a b : Truth) → truth_eq.eq a b ≡ same_bool a b
 truth_test true true = refl
