@@ -13,7 +13,7 @@ pub or_false : (b : Bool) → (b || false) ≡ b
 or_false true = refl
 or_false false = refl
 
-or_right : (b : Bool) → (b || true) ≡ true
+pub or_right : (b : Bool) → (b || true) ≡ true
 or_right true = refl
 or_right false = refl
 

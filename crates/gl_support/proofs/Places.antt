@@ -7,7 +7,9 @@ use Rattle.std.proofs.lemmas.List.Elements.{AllZip-push}
 use Rattle.std.specs.List.{list_any, IsDistinct, AllByRecursion, AllZip}
 use Rattle.std.proofs.lemmas.Map.Keys.{IsDistinct-head, IsDistinct-tail}
 use Rattle.gl_support.specs.Nodes.{stands_at, marked_keys}
+use Rattle.std.proofs.Math.ListN.{set}
 use Rattle.gl_support.specs.Reach.{is_marked}
+use Rattle.gl_support.proofs.Keys.{or_false, or_right}
 
 pub and_true : (a b : Bool) → (a && b) ≡ true → (a ≡ true) × (b ≡ true)
 and_true true b h = (refl, h)
@@ -146,6 +148,14 @@ marked_keys-more ms ks i d h g = rw (add-one) (by ms ks i d h g)
         pulled true = refl
         pulled false = refl
     by (false ∷ ms) (k ∷ ks) (suc i) d h g = by ms ks i d (omega arith) (omega arith)
+
+-- one more mark
+pub marked_set : (ms : List Bool) (a i : ℕ) → a < length ms → is_marked (set ms a true) i ≡ (is_marked ms i || nat_eq i a)
+marked_set [] a i h = absurd (omega arith)
+marked_set (m ∷ ms) zero zero h = sym (or_right m)
+marked_set (m ∷ ms) zero (suc i) h = sym (or_false (is_marked ms i)) ∙ ap (λ b. is_marked ms i || b) (sym (eqb-suc-zero i))
+marked_set (m ∷ ms) (suc a) zero h = sym (or_false m) ∙ ap (λ b. m || b) (sym (eqb-zero-suc a))
+marked_set (m ∷ ms) (suc a) (suc i) h = marked_set ms a i (omega arith) ∙ ap (λ b. is_marked ms i || b) (sym (eqb-suc-suc i a))
 
 module _ {K : Type 0} (same : K → K → Bool) (ks : List K) (k : K) where
   -- where the search for a key ends

@@ -2,4 +2,5 @@ pub mod Reach
 pub mod Affected
 pub mod Nodes
 pub mod Triples
+pub mod Marks
 pub mod Rows

@@ -7,6 +7,7 @@ mod nodes;
 mod pass;
 mod reach;
 mod row;
+mod seeds;
 mod site;
 mod support;
 mod touched;

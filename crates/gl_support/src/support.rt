@@ -1,14 +1,19 @@
 //! The keys with what they read and looked at.
 ghost use Rattle.std.specs.Prelude.{◌≡◌, ◌∷◌, ◌++◌, [], true, List, map, OnOk, OnErr, IfOk};
+ghost use Rattle.std.specs.Prelude.{vec_len};
 ghost use Rattle.std.specs.List.{AllZip};
+ghost use Rattle.indexmap.specs.IndexSet.{index_set_len};
 ghost use Rattle.gl_support.specs.{Affected.AreAffected, Triples.plain_triple, Triples.triples_of};
+ghost use Rattle.gl_support.specs.{Marks.AreLeast};
 
-use crate::edges::{add_triples, no_edges};
+use crate::edges::edges_of;
 use crate::nodes::{nodes_of, picked};
 use crate::reach::reached;
+use crate::seeds::seeds_of;
 use crate::site::Site;
 use crate::triple::{Triple, others};
 use gl_plane::{NoMemory, Share};
+use indexmap::IndexSet;
 use std::alloc::Global;
 use std::hash::Hash;
 
@@ -66,9 +71,28 @@ fn affected_by<K: Share + Hash + Drop, A: Site>(
         AreAffected K.eq A.touches (map plain_triple triples.now) changed.now v.items) }
 {
     let nodes = nodes_of(alloc, triples)?;
-    let mut edges = no_edges(alloc, nodes.len())?;
-    let mut seeds = vec![in alloc; false; nodes.len()]?;
-    add_triples(&nodes, &mut edges, &mut seeds, triples, changed)?;
-    let marks = reached(alloc, &edges, &seeds)?;
+    let marks = marks_of(alloc, &nodes, triples, changed)?;
     picked(alloc, nodes.as_slice(), &marks)
+}
+
+/// Marks the numbers of the keys that the change may affect.
+fn marks_of<K: Share + Hash + Drop, A: Site>(
+    alloc: Global,
+    nodes: &IndexSet<K>,
+    triples: &[Triple<K, A>],
+    changed: &[A],
+) -> Result<Vec<bool>, NoMemory>
+    ensures least { IfOk result (λ m.
+        AreLeast
+        K.eq
+        A.touches
+        nodes.now.keys
+        (map plain_triple triples.now)
+        changed.now
+        m.items) }
+    ensures size { IfOk result (λ m. vec_len m ≡ index_set_len nodes.now) }
+{
+    let edges = edges_of(alloc, nodes, triples)?;
+    let seeds = seeds_of(alloc, nodes, triples, changed)?;
+    Ok(reached(alloc, &edges, &seeds)?)
 }

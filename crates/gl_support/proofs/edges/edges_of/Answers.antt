@@ -1,24 +1,20 @@
 use Rattle.std.proofs.Common.{◌∙◌, ◌<◌, ◌&&◌, length, ap, arith}
 use Rattle.std.specs.List.{list_any}
 use Rattle.std.proofs.lemmas.List.{take_all}
-use Rattle.gl_support.specs.Affected.{is_touched}
 use Rattle.gl_support.specs.Nodes.{stands_at, reads_at}
 use Rattle.gl_support.proofs.Graph.{any_step}
-use Rattle.gl_support.proofs.edges.add_triples.Goals as goal
+use Rattle.gl_support.proofs.edges.edges_of.Goals as goal
 
 pub loop-t-preserved : goal.loop-t-preserved
 loop-t-preserved g c =
     let same = g.K.PartialEq.eq in
-    let touches = g.A.Site.touches in
     let ks = c.args.nodes.now.keys in
     let ts = c.args.triples.now in
     let inside : c.loop-t.t-index < length ts = omega arith in
     record {
       edges = λ i n. any_step (λ t. reads_at same ks t.reads.items i && stands_at same ks t.by n) ts c.loop-t.t-index c.t-item.result _ _ inside c.t-item.is (c.loop-t.invariant.edges i n) (c.in_ok-add_triple.ensures.edges i n);
-      seeds = λ n. any_step (λ t. is_touched touches t.looked.items c.args.changed.now && stands_at same ks t.by n) ts c.loop-t.t-index c.t-item.result _ _ inside c.t-item.is (c.loop-t.invariant.seeds n) (c.in_ok-add_triple.ensures.seeds n);
       graph = c.add_triple.ensures.graph;
       size = c.add_triple.ensures.size ∙ c.loop-t.invariant.size;
-      seeds_size = c.add_triple.ensures.seeds_size ∙ c.loop-t.invariant.seeds_size;
     }
 
 pub returns-clause-edges : goal.returns-clause-edges
@@ -27,11 +23,3 @@ returns-clause-edges g c =
     let ks = c.args.nodes.now.keys in
     let all = take_all c.loop-t.t-index c.args.triples.now (omega arith) in
     λ i n. c.loop-t.invariant.edges i n ∙ ap (list_any (λ t. reads_at same ks t.reads.items i && stands_at same ks t.by n)) all
-
-pub returns-clause-seeds : goal.returns-clause-seeds
-returns-clause-seeds g c =
-    let same = g.K.PartialEq.eq in
-    let touches = g.A.Site.touches in
-    let ks = c.args.nodes.now.keys in
-    let all = take_all c.loop-t.t-index c.args.triples.now (omega arith) in
-    λ n. c.loop-t.invariant.seeds n ∙ ap (list_any (λ t. is_touched touches t.looked.items c.args.changed.now && stands_at same ks t.by n)) all

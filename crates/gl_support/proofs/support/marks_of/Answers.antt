@@ -1,0 +1,21 @@
+use Rattle.std.proofs.Common.{◌∙◌, ◌&&◌, subst}
+use Rattle.gl_support.specs.Affected.{is_touched}
+use Rattle.gl_support.specs.Nodes.{stands_at, reads_at}
+use Rattle.gl_support.specs.Reach.{IsLeast}
+use Rattle.gl_support.proofs.Views.{any_plain}
+use Rattle.gl_support.proofs.support.marks_of.Goals as goal
+
+pub returns-clause-least : goal.returns-clause-least
+returns-clause-least g c =
+    let same = g.K.PartialEq.eq in
+    let ks = c.args.nodes.now.keys in
+    let ts = c.args.triples.now in
+    let edges = c.in_ok-edges.edges.items in
+    let marks = c.in_ok-reached.field-0.items in
+    record {
+      graph = edges;
+      seeds = c.in_ok-seeds.seeds.items;
+      edges = λ a n. c.in_ok-edges.ensures.edges a n ∙ any_plain (λ t. reads_at same ks t.reads a && stands_at same ks t.by n) ts;
+      seeded = λ n. c.in_ok-seeds.ensures.seeds n ∙ any_plain (λ t. is_touched g.A.Site.touches t.looked c.args.changed.now && stands_at same ks t.by n) ts;
+      least = subst (λ (s : _). IsLeast edges s marks) c.deref-2.ensures.value (subst (λ (e : _). IsLeast e c.deref-2.result.now marks) c.deref.ensures.value c.in_ok-reached.ensures.least);
+    }
