@@ -1,14 +1,26 @@
 //! Keys by numbers.
-ghost use Rattle.std.specs.Prelude.{◌≡◌, true, [], map, length, IfOk};
+ghost use Rattle.std.specs.Prelude.{◌≡◌, true, [], map, length, IfOk, OnOk};
 ghost use Rattle.std.specs.List.{AllZip};
-ghost use Rattle.indexmap.specs.IndexSet.{insert_all, IsUnique};
+ghost use Rattle.indexmap.specs.IndexSet.{insert_all, insert_key, IsUnique};
 ghost use Rattle.gl_support.specs.Nodes.{marked_keys};
 
-use crate::triple::{Triple, another};
+use crate::triple::{Triple, another, push_another};
 use gl_plane::{NoMemory, Share};
 use indexmap::IndexSet;
 use std::alloc::Global;
 use std::hash::Hash;
+
+/// Gives the key the next number, if no equal key has one.
+fn add_node<K: Share + Hash + Drop>(nodes: &mut IndexSet<K>, k: &K) -> Result<(), NoMemory>
+    ensures keys { OnOk result (
+        (x : K)
+        × (K.eq k.now x ≡ true)
+        × (nodes.new.keys ≡ insert_key K.eq nodes.old.keys x)) }
+    ensures unique { OnOk result (IsUnique K.eq nodes.new) }
+{
+    nodes.insert(another(k)?)?;
+    Ok(())
+}
 
 /// The keys of the triples, each once, in the order of adding. A key's number is its place.
 pub fn nodes_of<K: Share + Hash + Drop, A>(
@@ -21,7 +33,7 @@ pub fn nodes_of<K: Share + Hash + Drop, A>(
 {
     let mut nodes = IndexSet::new(alloc);
     for t in triples {
-        nodes.insert(another(&t.by)?)?;
+        add_node(&mut nodes, &t.by)?;
     }
     Ok(nodes)
 }
@@ -39,7 +51,7 @@ pub fn picked<K: Share + Drop>(
     let mut found = Vec::new(alloc);
     for (i, k) in keys.iter().enumerate() {
         if marks[i] {
-            found.push(another(k)?)?;
+            push_another(&mut found, k)?;
         }
     }
     Ok(found)

@@ -1,5 +1,5 @@
 //! What is known of one key.
-ghost use Rattle.std.specs.Prelude.{◌≡◌, true, IfOk};
+ghost use Rattle.std.specs.Prelude.{◌≡◌, ◌∷◌, ◌++◌, [], true, IfOk, OnOk};
 ghost use Rattle.std.specs.List.{AllZip};
 
 use gl_plane::{NoMemory, Share};
@@ -20,13 +20,22 @@ pub fn another<K: Share>(k: &K) -> Result<K, NoMemory>
     k.share()
 }
 
+/// Adds a second owner of an equal key at the end.
+pub fn push_another<K: Share + Drop>(keys: &mut Vec<K>, k: &K) -> Result<(), NoMemory>
+    ensures { OnOk result (
+        (x : K) × (K.eq k.now x ≡ true) × (keys.new.items ≡ keys.old.items ++ x ∷ [])) }
+{
+    keys.push(another(k)?)?;
+    Ok(())
+}
+
 /// Second owners of equal keys, in their order.
 pub fn others<K: Share + Drop>(alloc: Global, keys: &[K]) -> Result<Vec<K>, NoMemory>
     ensures { IfOk result (λ v. AllZip (λ x y. K.eq x y ≡ true) keys.now v.items) }
 {
     let mut all = Vec::new(alloc);
     for k in keys {
-        all.push(another(k)?)?;
+        push_another(&mut all, k)?;
     }
     Ok(all)
 }

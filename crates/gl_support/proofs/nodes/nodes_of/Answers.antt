@@ -10,9 +10,10 @@ loop-t-preserved g c =
     let i = c.loop-t.t-index in
     let inside : i < length ts = omega arith in
     let more : map (λ t. t.by) (take (i + 1) ts) ≡ map (λ t. t.by) (take i ts) ++ c.t-item.result.by ∷ [] = ap (map (λ t. t.by)) (take_more ts i c.t-item.result inside ∙ ap (λ x. take i ts ++ x ∷ []) (sym c.t-item.is)) ∙ map-append (λ t. t.by) (take i ts) (c.t-item.result ∷ []) in
+    let added = c.in_ok-add_node.ensures.keys in
     record {
-      keys = rw (more, c.in_ok-insert.ensures.keys) (insert_all-push g.met.K.Eq.laws (map (λ t. t.by) (take i ts)) c.loop-t.nodes.keys _ _ c.loop-t.invariant.keys c.in_ok-another.ensures);
-      unique = c.insert.ensures.unique;
+      keys = rw (more, added.2) (insert_all-push g.met.K.Eq.laws (map (λ t. t.by) (take i ts)) c.loop-t.nodes.keys _ added.0 c.loop-t.invariant.keys added.1);
+      unique = c.in_ok-add_node.ensures.unique;
     }
 
 pub returns-clause-keys : goal.returns-clause-keys

@@ -8,7 +8,8 @@ pub loop-k-preserved : goal.loop-k-preserved
 loop-k-preserved g c =
     let inside : c.loop-k.k-index < length c.args.keys.now = omega arith in
     let more : take (c.loop-k.k-index + 1) c.args.keys.now ≡ take c.loop-k.k-index c.args.keys.now ++ c.k-item.result ∷ [] = take_more c.args.keys.now c.loop-k.k-index c.k-item.result inside ∙ ap (λ x. take c.loop-k.k-index c.args.keys.now ++ x ∷ []) (sym c.k-item.is) in
-    rw (more, c.in_ok-push.ensures.items) (AllZip-push _ _ _ _ _ c.loop-k.invariant c.in_ok-another.ensures)
+    let added = c.in_ok-push_another.ensures in
+    rw (more, added.2) (AllZip-push _ _ _ _ _ c.loop-k.invariant added.1)
 
 pub returns : goal.returns
 returns g c = grind (arith, common_steps)
