@@ -47,14 +47,18 @@ fn marked(alloc: Global, marks: &[bool]) -> Result<Vec<usize>, AllocError>
 
 /// The least set of nodes that has the seeds and is closed under edges. Each node is visited once.
 #[tactic(auto, using(crate::proofs::Steps::starts_least))]
-pub fn reached(alloc: Global, graph: &[Vec<usize>], seeds: &[bool]) -> Result<Vec<bool>, AllocError>
-    requires size { length seeds.now ≡ length graph.now }
+pub fn reached(
+    alloc: Global,
+    graph: &[Vec<usize>],
+    seeds: Vec<bool>,
+) -> Result<Vec<bool>, AllocError>
+    requires size { vec_len seeds ≡ length graph.now }
     requires graph { IsGraph graph.now }
-    ensures least { IfOk result (λ marks. IsLeast graph.now seeds.now marks.items) }
+    ensures least { IfOk result (λ marks. IsLeast graph.now seeds.items marks.items) }
     ensures size { IfOk result (λ marks. vec_len marks ≡ length graph.now) }
 {
-    let mut marks = Vec::from_slice(alloc, seeds)?;
-    let mut stack = marked(alloc, seeds)?;
+    let mut stack = marked(alloc, &seeds)?;
+    let mut marks = seeds;
     while let Some(k) = stack.pop() {
         mark_row(graph[k].as_slice(), &mut marks, &mut stack)?;
     }

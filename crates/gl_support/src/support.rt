@@ -94,5 +94,5 @@ fn marks_of<K: Share + Hash + Drop, A: Site>(
 {
     let edges = edges_of(alloc, nodes, triples)?;
     let seeds = seeds_of(alloc, nodes, triples, changed)?;
-    Ok(reached(alloc, &edges, &seeds)?)
+    Ok(reached(alloc, &edges, seeds)?)
 }

@@ -17,5 +17,5 @@ returns-clause-least g c =
       seeds = c.in_ok-seeds.seeds.items;
       edges = λ a n. c.in_ok-edges.ensures.edges a n ∙ any_plain (λ t. reads_at same ks t.reads a && stands_at same ks t.by n) ts;
       seeded = λ n. c.in_ok-seeds.ensures.seeds n ∙ any_plain (λ t. is_touched g.A.Site.touches t.looked c.args.changed.now && stands_at same ks t.by n) ts;
-      least = subst (λ (s : _). IsLeast edges s marks) c.deref-2.ensures.value (subst (λ (e : _). IsLeast e c.deref-2.result.now marks) c.deref.ensures.value c.in_ok-reached.ensures.least);
+      least = subst (λ (e : _). IsLeast e c.in_ok-seeds.seeds.items marks) c.deref.ensures.value c.in_ok-reached.ensures.least;
     }
