@@ -1,5 +1,5 @@
 -- Edges that are added to a graph.
-use Rattle.std.proofs.Common.{All, ◌≡◌, ◌∙◌, ℕ, zero, suc, ◌<◌, ◌||◌, ◌&&◌, nat_eq, Bool, true, false, cond, List, [], ◌∷◌, ◌++◌, ◌+◌, take, length, get_or, Vec, refl, sym, ap, arith}
+use Rattle.std.proofs.Common.{All, ◌≡◌, ◌∙◌, ℕ, zero, suc, ◌<◌, ◌||◌, ◌&&◌, nat_eq, Bool, true, false, cond, List, [], ◌∷◌, ◌++◌, ◌+◌, take, length, get_or, Vec, refl, sym, ap, subst, arith}
 use Rattle.std.specs.List.{list_any}
 use Rattle.std.proofs.lemmas.List.{length-set}
 use Rattle.std.proofs.lemmas.List.Folds.{list_any_more}
@@ -51,6 +51,10 @@ row_push (v ∷ vs) w h e (suc a) = row_push vs w (λ b. h (suc b)) e a
 -- no row has an edge
 pub no_row : (g g' : List (Vec ℕ Global)) (w : Vec ℕ Global) → g' ≡ g ++ w ∷ [] → ((a : ℕ) → row_of g a ≡ []) → w.items ≡ [] → (a : ℕ) → row_of g' a ≡ []
 no_row g g' w e h i a = rw e (row_push g w h i a)
+
+-- with no edge none leads outside
+pub no_graph : (g : List (Vec ℕ Global)) → ((a : ℕ) → row_of g a ≡ []) → IsGraph g
+no_graph g h a = subst (λ (r : List ℕ). All (λ b. b < length g) r) (sym (h a)) (λ k d j. absurd (omega arith))
 
 -- the edges of the next one are joined to those before
 pub joined : (old before here all : Bool) (b : Bool) → all ≡ (before || here) → ((old || (before && b)) || (here && b)) ≡ (old || (all && b))

@@ -7,7 +7,7 @@ use Rattle.std.proofs.lemmas.List.Elements.{AllZip-push}
 use Rattle.std.specs.List.{list_any, IsDistinct, AllByRecursion, AllZip}
 use Rattle.std.proofs.lemmas.Map.Keys.{IsDistinct-head, IsDistinct-tail}
 use Rattle.gl_support.specs.Nodes.{stands_at, marked_keys}
-use Rattle.std.proofs.Math.ListN.{set}
+use Rattle.std.proofs.Math.ListN.{set, replicate}
 use Rattle.gl_support.specs.Reach.{is_marked}
 use Rattle.gl_support.proofs.Keys.{or_false, or_right}
 
@@ -148,6 +148,15 @@ marked_keys-more ms ks i d h g = rw (add-one) (by ms ks i d h g)
         pulled true = refl
         pulled false = refl
     by (false ∷ ms) (k ∷ ks) (suc i) d h g = by ms ks i d (omega arith) (omega arith)
+
+-- at first no number is marked
+pub none_marked : (ms : List Bool) (n : ℕ) → ms ≡ replicate n false → (i : ℕ) → is_marked ms i ≡ false
+none_marked ms n e i = ap (λ (m : List Bool). is_marked m i) e ∙ by n i
+  where
+    by : (n i : ℕ) → is_marked (replicate n false) i ≡ false
+    by zero i = refl
+    by (suc n) zero = refl
+    by (suc n) (suc i) = by n i
 
 -- one more mark
 pub marked_set : (ms : List Bool) (a i : ℕ) → a < length ms → is_marked (set ms a true) i ≡ (is_marked ms i || nat_eq i a)

@@ -2,8 +2,16 @@ use Rattle.std.proofs.Common.{◌∙◌, ◌<◌, ◌&&◌, length, ap, arith}
 use Rattle.std.specs.List.{list_any}
 use Rattle.std.proofs.lemmas.List.{take_all}
 use Rattle.gl_support.specs.Nodes.{stands_at, reads_at}
-use Rattle.gl_support.proofs.Graph.{any_step}
+use Rattle.gl_support.specs.Reach.{has}
+use Rattle.gl_support.proofs.Graph.{any_step, no_graph}
 use Rattle.gl_support.proofs.edges.edges_of.Goals as goal
+
+pub loop-t-init : goal.loop-t-init
+loop-t-init g c = record {
+  edges = λ i n. ap (λ r. has r n) (c.in_ok-edges.ensures.none i);
+  graph = no_graph c.in_ok-edges.edges.items c.in_ok-edges.ensures.none;
+  size = omega (arith, c.in_ok-edges.ensures.size, c.len.ensures);
+}
 
 pub loop-t-preserved : goal.loop-t-preserved
 loop-t-preserved g c =

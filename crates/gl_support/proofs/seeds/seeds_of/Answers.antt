@@ -4,7 +4,14 @@ use Rattle.std.proofs.lemmas.List.{take_all}
 use Rattle.gl_support.specs.Affected.{is_touched}
 use Rattle.gl_support.specs.Nodes.{stands_at}
 use Rattle.gl_support.proofs.Graph.{any_step}
+use Rattle.gl_support.proofs.Places.{none_marked}
 use Rattle.gl_support.proofs.seeds.seeds_of.Goals as goal
+
+pub loop-t-init : goal.loop-t-init
+loop-t-init g c = record {
+  seeds = none_marked c.in_ok-seeds.seeds.items _ (c.in_ok-seeds.ensures.items_if_clones_equal (λ b e. e));
+  size = omega (arith, c.in_ok-seeds.ensures.len, c.len.ensures);
+}
 
 pub loop-t-preserved : goal.loop-t-preserved
 loop-t-preserved g c =
