@@ -1,5 +1,5 @@
 -- Rows of a table, whose keys are numbers, as notes.
-use Rattle.std.specs.Prelude.{◌≡◌, ℕ, ◌<◌, Bool, true, ◌||◌, ◌&&◌, List, [], map, nat_eq, All}
+use Rattle.std.specs.Prelude.{◌≡◌, ℕ, ◌<◌, Bool, true, ◌||◌, ◌&&◌, List, [], ◌∷◌, map, nat_eq, All}
 use Rattle.gl_query.specs.Lists.{Member, has_member}
 use Rattle.gl_query.specs.Remembered.{Note, IsReached}
 use Rattle.gl_query.specs.InOrder.{must_go, gone_after}
@@ -23,6 +23,10 @@ AreBelow n rs = All (λ r. r.by < n) rs
 -- the numbers that one pass drops
 abbrev pub gone_numbers : {O A : Type 0} → (A → Bool) → List (Row O A) → List ℕ
 gone_numbers touched rs = gone_after nat_eq touched [] (notes_of rs)
+
+-- the numbers that are gone, with that of one more row if it goes
+abbrev pub gone_with : {O A : Type 0} → (A → Bool) → List ℕ → Row O A → List ℕ
+gone_with touched ks r = gone_after nat_eq touched ks (note_of r ∷ [])
 
 -- the answer is whether the row goes where the marked numbers are gone
 abbrev pub Goes : {O A : Type 0} → (A → Bool) → List Bool → Row O A → Bool → Type 0

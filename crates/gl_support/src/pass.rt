@@ -1,9 +1,9 @@
 //! One pass over rows in the order of noting.
-ghost use Rattle.std.specs.Prelude.{◌≡◌, ◌<◌, ℕ, true, [], All, IfOk, vec_len};
+ghost use Rattle.std.specs.Prelude.{◌≡◌, ◌<◌, ℕ, true, [], List, All, IfOk, vec_len};
 ghost use Rattle.std.specs.List.{list_any};
 ghost use Rattle.gl_query.specs.{Lists.Member, Lists.AreDistinct, InOrder.AreOrdered};
 ghost use Rattle.gl_query.specs.{InOrder.note_keys};
-ghost use Rattle.gl_support.specs.Rows.{notes_of, AreMarked, AreBelow, gone_numbers, Goes};
+ghost use Rattle.gl_support.specs.Rows.{notes_of, AreMarked, AreBelow, gone_numbers, gone_with, Goes};
 ghost use Rattle.gl_support.specs.Rows.{marked_or_read, AreFollowed, AreReached};
 ghost use Rattle.gl_support.specs.Reach.{is_marked};
 
@@ -26,11 +26,22 @@ pub fn mark<O, A, T: Touched<A>>(
 {
     let mut gone = vec![in alloc; false; numbers]?;
     for row in rows {
-        if goes(changed, &gone, row) {
-            gone[row.by as usize] = true;
-        }
+        mark_gone(&mut gone, changed, row);
     }
     Ok(gone)
+}
+
+/// Marks the number of the row, if the row goes.
+fn mark_gone<O, A, T: Touched<A>>(gone: &mut Vec<bool>, changed: &T, row: &Row<O, A>)
+    requires { row.now.by < vec_len gone.old }
+    ensures marks { (ks : List ℕ)
+        → AreMarked gone.old.items ks
+        → AreMarked gone.new.items (gone_with (T.touches changed.now) ks row.now) }
+    ensures size { vec_len gone.new ≡ vec_len gone.old }
+{
+    if goes(changed, gone, row) {
+        gone[row.by as usize] = true;
+    }
 }
 
 fn any_marked(marks: &[bool], reads: &[u32]) -> bool
