@@ -1,4 +1,4 @@
-use Rattle.std.proofs.Common.{◌∙◌, ◌<◌, ◌&&◌, length, ap, arith}
+use Rattle.std.proofs.Common.{◌∙◌, ◌<◌, ◌&&◌, length, sym, ap, arith}
 use Rattle.std.specs.List.{list_any}
 use Rattle.std.proofs.lemmas.List.{take_all}
 use Rattle.gl_support.specs.Nodes.{stands_at, reads_at}
@@ -31,3 +31,15 @@ returns-clause-edges g c =
     let ks = c.args.nodes.now.keys in
     let all = take_all c.loop-t.t-index c.args.triples.now (omega arith) in
     λ i n. c.loop-t.invariant.edges i n ∙ ap (list_any (λ t. reads_at same ks t.reads.items i && stands_at same ks t.by n)) all
+
+pub add_triple-requires-clause-nodes : goal.add_triple-requires-clause-nodes
+add_triple-requires-clause-nodes g c = sym c.loop-t.invariant.size
+
+pub add_triple-requires-clause-graph : goal.add_triple-requires-clause-graph
+add_triple-requires-clause-graph g c = c.loop-t.invariant.graph
+
+pub returns-clause-graph : goal.returns-clause-graph
+returns-clause-graph g c = c.loop-t.invariant.graph
+
+pub returns-clause-size : goal.returns-clause-size
+returns-clause-size g c = c.loop-t.invariant.size
