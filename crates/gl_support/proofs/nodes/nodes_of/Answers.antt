@@ -1,6 +1,7 @@
-use Rattle.std.proofs.Common.{◌≡◌, ◌∙◌, ◌∷◌, [], ◌++◌, ◌+◌, ◌<◌, take, map, length, sym, ap, arith}
-use Rattle.std.proofs.lemmas.Grind.{common_steps}
-use Rattle.std.proofs.lemmas.List.{take_more, map-append}
+use Rattle.std.proofs.Common.{◌≡◌, ◌∙◌, ◌∷◌, [], ◌++◌, ◌+◌, ◌<◌, take, map, length, true, sym, ap, subst, arith}
+use Rattle.std.specs.List.{AllZip}
+use Rattle.indexmap.specs.IndexSet.{insert_all}
+use Rattle.std.proofs.lemmas.List.{take_all, take_more, map-append}
 use Rattle.gl_support.proofs.Keys.{insert_all-push}
 use Rattle.gl_support.proofs.nodes.nodes_of.Goals as goal
 
@@ -17,4 +18,7 @@ loop-t-preserved g c =
     }
 
 pub returns-clause-keys : goal.returns-clause-keys
-returns-clause-keys g c = grind (arith, common_steps)
+returns-clause-keys g c =
+    let same = g.K.PartialEq.eq in
+    let all = take_all c.loop-t.t-index c.args.triples.now (omega arith) in
+    subst (λ ts. AllZip (λ x y. same x y ≡ true) (insert_all same [] (map (λ t. t.by) ts)) c.loop-t.nodes.keys) all c.loop-t.invariant.keys

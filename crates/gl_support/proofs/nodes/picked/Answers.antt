@@ -1,5 +1,7 @@
-use Rattle.std.proofs.Common.{◌≡◌, ◌∙◌, ◌<◌, true, length, Vec, ap, arith}
-use Rattle.std.proofs.lemmas.Grind.{common_steps}
+use Rattle.std.proofs.Common.{◌≡◌, ◌∙◌, ◌<◌, true, take, length, Vec, ap, subst, arith}
+use Rattle.std.proofs.lemmas.List.{take_all}
+use Rattle.std.specs.List.{AllZip}
+use Rattle.gl_support.specs.Nodes.{marked_keys}
 use Rattle.std.specs.declared.alloc.Global.{Global}
 use Rattle.gl_support.proofs.Places.{picked_one, picked_none}
 use Rattle.gl_support.proofs.nodes.picked.Goals as goal
@@ -19,4 +21,9 @@ loop-i-preserved g c =
     ]
 
 pub returns : goal.returns
-returns g c = grind (arith, common_steps)
+returns g c =
+    let marks = c.args.marks.now in
+    let keys = c.args.keys.now in
+    let i = c.loop-i.i in
+    let of_all = subst (λ ms. AllZip (λ x y. g.K.PartialEq.eq x y ≡ true) (marked_keys ms (take i keys)) c.loop-i.found.items) (take_all i marks (omega (arith, c.requires))) c.loop-i.invariant in
+    subst (λ ks. AllZip (λ x y. g.K.PartialEq.eq x y ≡ true) (marked_keys marks ks) c.loop-i.found.items) (take_all i keys (omega arith)) of_all

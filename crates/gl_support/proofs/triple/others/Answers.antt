@@ -1,6 +1,6 @@
-use Rattle.std.proofs.Common.{◌≡◌, ◌∙◌, ◌∷◌, [], ◌++◌, ◌+◌, ◌<◌, take, length, sym, ap, arith}
-use Rattle.std.proofs.lemmas.Grind.{common_steps}
-use Rattle.std.proofs.lemmas.List.{take_more}
+use Rattle.std.proofs.Common.{◌≡◌, ◌∙◌, ◌∷◌, [], ◌++◌, ◌+◌, ◌<◌, take, length, true, sym, ap, subst, arith}
+use Rattle.std.specs.List.{AllZip}
+use Rattle.std.proofs.lemmas.List.{take_all, take_more}
 use Rattle.std.proofs.lemmas.List.Elements.{AllZip-push}
 use Rattle.gl_support.proofs.triple.others.Goals as goal
 
@@ -12,4 +12,4 @@ loop-k-preserved g c =
     rw (more, added.2) (AllZip-push _ _ _ _ _ c.loop-k.invariant added.1)
 
 pub returns : goal.returns
-returns g c = grind (arith, common_steps)
+returns g c = subst (λ ks. AllZip (λ x y. g.K.PartialEq.eq x y ≡ true) ks c.loop-k.all.items) (take_all c.loop-k.k-index c.args.keys.now (omega arith)) c.loop-k.invariant
