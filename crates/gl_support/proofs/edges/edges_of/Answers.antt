@@ -1,8 +1,8 @@
-use Rattle.std.proofs.Common.{◌∙◌, ◌<◌, ◌&&◌, length, sym, ap, arith}
+use Rattle.std.proofs.Common.{◌≡◌, ◌∙◌, ◌<◌, ◌&&◌, length, sym, ap, subst, arith}
 use Rattle.std.specs.List.{list_any}
 use Rattle.std.proofs.lemmas.List.{take_all}
 use Rattle.gl_support.specs.Nodes.{stands_at, reads_at}
-use Rattle.gl_support.specs.Reach.{has}
+use Rattle.gl_support.specs.Reach.{has, row_of}
 use Rattle.gl_support.proofs.Graph.{any_step, no_graph}
 use Rattle.gl_support.proofs.edges.edges_of.Goals as goal
 
@@ -30,7 +30,7 @@ returns-clause-edges g c =
     let same = g.K.PartialEq.eq in
     let ks = c.args.nodes.now.keys in
     let all = take_all c.loop-t.t-index c.args.triples.now (omega arith) in
-    λ i n. c.loop-t.invariant.edges i n ∙ ap (list_any (λ t. reads_at same ks t.reads.items i && stands_at same ks t.by n)) all
+    λ i n. subst (λ ts. has (row_of c.loop-t.edges.items i) n ≡ list_any (λ t. reads_at same ks t.reads.items i && stands_at same ks t.by n) ts) all (c.loop-t.invariant.edges i n)
 
 pub add_triple-requires-clause-nodes : goal.add_triple-requires-clause-nodes
 add_triple-requires-clause-nodes g c = sym c.loop-t.invariant.size

@@ -1,8 +1,9 @@
-use Rattle.std.proofs.Common.{◌∙◌, ◌<◌, ◌&&◌, length, ap, arith}
+use Rattle.std.proofs.Common.{◌≡◌, ◌∙◌, ◌<◌, ◌&&◌, length, subst, arith}
 use Rattle.std.specs.List.{list_any}
 use Rattle.std.proofs.lemmas.List.{take_all}
 use Rattle.gl_support.specs.Affected.{is_touched}
 use Rattle.gl_support.specs.Nodes.{stands_at}
+use Rattle.gl_support.specs.Reach.{is_marked}
 use Rattle.gl_support.proofs.Graph.{any_step}
 use Rattle.gl_support.proofs.Places.{none_marked}
 use Rattle.gl_support.proofs.seeds.seeds_of.Goals as goal
@@ -31,4 +32,4 @@ returns-clause-seeds g c =
     let touches = g.A.Site.touches in
     let ks = c.args.nodes.now.keys in
     let all = take_all c.loop-t.t-index c.args.triples.now (omega arith) in
-    λ n. c.loop-t.invariant.seeds n ∙ ap (list_any (λ t. is_touched touches t.looked.items c.args.changed.now && stands_at same ks t.by n)) all
+    λ n. subst (λ ts. is_marked c.loop-t.seeds.items n ≡ list_any (λ t. is_touched touches t.looked.items c.args.changed.now && stands_at same ks t.by n) ts) all (c.loop-t.invariant.seeds n)
