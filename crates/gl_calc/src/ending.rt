@@ -10,7 +10,7 @@ use gl_rounds::IterFault;
 
 /// Why a round has no sizes: it demands too many keys, or this is its first formula that ended as
 /// spent, or there is no memory.
-#[derive(Clone, Copy, PartialEq, Eq, Debug)]
+#[derive(Clone, Copy, PartialEq, Eq)]
 pub enum RoundFault {
     Work,
     Depth(Addr),

@@ -13,7 +13,7 @@ use gl_value::Env;
 
 /// A key, with a frame's number in place of the frame, and a sheet value's in place of the sheet
 /// value. The top has no number.
-#[derive(Clone, Copy, PartialEq, Eq, Hash, Debug)]
+#[derive(Clone, Copy, PartialEq, Eq, Hash)]
 pub enum Short {
     Top(Addr),
     In(usize, Addr),

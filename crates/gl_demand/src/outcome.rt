@@ -9,7 +9,7 @@ use gl_value::Value;
 use std::rc::Rc;
 
 /// What an evaluation can spend: the ranks of sheet values, and the rounds of a settling.
-#[derive(Clone, Copy, PartialEq, Eq, Hash, Debug)]
+#[derive(Clone, Copy, PartialEq, Eq, Hash)]
 pub enum Budget {
     Depth,
     CopyRounds,

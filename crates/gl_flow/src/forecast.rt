@@ -2,7 +2,7 @@
 use gl_plane::Addr;
 
 /// Whether the calculation of a sheet surely settles.
-#[derive(Clone, Copy, PartialEq, Eq, Debug)]
+#[derive(Clone, Copy, PartialEq, Eq)]
 pub enum Forecast {
     /// It does, after at most one round more than this height, and no address shows a cycle.
     Yes { height: u32 },

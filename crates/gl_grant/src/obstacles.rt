@@ -8,7 +8,7 @@ use crate::Blocks;
 use gl_plane::{Addr, Oracle, Permit, Range, Size};
 
 /// Why a root may not spill: its area leaves the bound, or holds this content, or meets the area of this root.
-#[derive(Clone, Copy, PartialEq, Eq, Debug)]
+#[derive(Clone, Copy, PartialEq, Eq)]
 pub enum Obstacle {
     Edge,
     Content(Addr),

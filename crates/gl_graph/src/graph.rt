@@ -3,7 +3,7 @@ ghost use Rattle.std.specs.Prelude.{◌≡◌, ◌∷◌, ◌<◌, ◌≤◌, �
 ghost use Rattle.gl_graph.specs.declared.graph.Place.{Place};
 
 /// A place in the list of a node's steps. What its numbers mean is the graph's own.
-#[derive(Clone, Copy, PartialEq, Eq, Debug)]
+#[derive(Clone, Copy, PartialEq, Eq)]
 pub struct Place {
     pub part: usize,
     pub offset: u32,

@@ -1,7 +1,7 @@
 //! What is known of a node.
 
 /// What a search knows of a node.
-#[derive(Clone, Copy, PartialEq, Eq, Debug)]
+#[derive(Clone, Copy, PartialEq, Eq)]
 pub enum Mark {
     /// nothing yet
     New,

@@ -2,7 +2,7 @@
 use crate::Place;
 
 /// A node some of whose steps are still to come.
-#[derive(Clone, Copy, PartialEq, Eq, Debug)]
+#[derive(Clone, Copy, PartialEq, Eq)]
 pub struct Frame {
     pub node: u32,
     /// its place among the open nodes

@@ -9,7 +9,7 @@ use crate::scan::Bad;
 use std::alloc::AllocFailed;
 
 /// Why a text has no tokens, with the first place, in bytes, at which no token can be read.
-#[derive(Debug, Drop)]
+#[derive(Drop)]
 pub enum LexFault {
     /// Neither a number nor a text is there.
     Token { at: u32 },

@@ -6,7 +6,7 @@ ghost use Rattle.gl_lex.specs.Quote as spec;
 
 use std::alloc::{AllocError, Global};
 
-#[derive(Clone, Copy, Debug)]
+#[derive(Clone, Copy)]
 pub enum State {
     Plain,
     Escape,
@@ -14,7 +14,7 @@ pub enum State {
     HexSecond(u8),
 }
 
-#[derive(Clone, Copy, Debug)]
+#[derive(Clone, Copy)]
 pub enum Step {
     Go(State),
     Push(u8),

@@ -23,7 +23,7 @@ pub enum Class {
 }
 
 /// Why no token stands in front of a text.
-#[derive(Debug, Drop)]
+#[derive(Drop)]
 pub enum Bad {
     Token,
     Number,

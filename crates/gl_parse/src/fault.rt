@@ -3,7 +3,7 @@
 use gl_lex::LexFault;
 
 /// Why a text is no formula: the first of these that holds, in this order.
-#[derive(Debug, Drop)]
+#[derive(Drop)]
 pub enum ParseFault {
     /// The text has more than 8,192 bytes.
     Long,

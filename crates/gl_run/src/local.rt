@@ -29,7 +29,7 @@ pub enum Ready {
 }
 
 /// Why an edit is refused for what it becomes.
-#[derive(Clone, Copy, Debug, PartialEq, Eq)]
+#[derive(Clone, Copy, PartialEq, Eq)]
 pub enum LocalFault {
     /// The replica has no next stamp.
     Stamp,

@@ -10,7 +10,7 @@ ghost use Rattle.gl_run.specs.{Call.words_call, CallView.call_tree, CallView.IsP
 pub const MAX_GENERATED: u32 = 1600;
 
 /// What the words ask for.
-#[derive(Clone, Copy, Debug, PartialEq, Eq)]
+#[derive(Clone, Copy, PartialEq, Eq)]
 pub struct Call {
     /// The kind of the pick rule, at most 2.
     pub kind: u8,

@@ -28,7 +28,7 @@ pub enum Event {
     Truncated,
 }
 
-#[derive(Clone, Copy, Debug, PartialEq, Eq)]
+#[derive(Clone, Copy, PartialEq, Eq)]
 enum Mode {
     Idle,
     InLine,

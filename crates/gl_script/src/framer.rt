@@ -12,7 +12,7 @@ use std::alloc::Global;
 
 /// The item that a byte, or the end of input, ended: none, a line, an import with its payload, a line
 /// that is too long, or a payload that the end of input cut short.
-#[derive(Clone, Copy, Debug, PartialEq, Eq)]
+#[derive(Clone, Copy, PartialEq, Eq)]
 pub enum Ended {
     Nothing,
     Line,

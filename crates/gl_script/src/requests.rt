@@ -59,7 +59,7 @@ pub enum Request {
 }
 
 /// Why a line is refused: the first of these that holds, in this order.
-#[derive(Debug, Drop)]
+#[derive(Drop)]
 pub enum CommandFault {
     /// The line isn't UTF-8.
     Utf8,

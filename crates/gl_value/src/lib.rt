@@ -22,7 +22,7 @@ pub const MAX_RANK: u8 = 96;
 pub const MAX_WEIGHT: u32 = 65536;
 
 /// The kinds of errors that are values. A cycle is none of them: it is only shown.
-#[derive(Clone, Copy, PartialEq, Eq, Hash, Debug)]
+#[derive(Clone, Copy, PartialEq, Eq, Hash)]
 pub enum ErrKind {
     Ref,
     Value,
