@@ -1,6 +1,7 @@
 use Rattle.std.proofs.Common.{◌∙◌, sym, arith}
 use Rattle.std.specs.String.{string_bytes}
 use Rattle.std.proofs.lemmas.Option.{slice_get_within}
+use Rattle.std.proofs.lemmas.Grind.{elements}
 use Rattle.gl_protocol.specs.Tables.{line, entry_text}
 use Rattle.gl_views.proofs.Appending.{append_more, append_all, past_end}
 use Rattle.gl_views.proofs.oracle.oracle_text.Goals as goal
@@ -17,3 +18,6 @@ pub returns : goal.returns
 returns c =
     let end = past_end c.args.w.now c.loop-entry.i c.in_default.ensures.value in
     sym (append_all (λ x. line (entry_text x)) c.args.w.now c.loop-entry.i (string_bytes c.loop-entry.out) end) ∙ c.loop-entry.invariant
+
+pub overflow_add-i : goal.overflow_add-i
+overflow_add-i c = grind (arith, elements)
