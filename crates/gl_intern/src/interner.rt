@@ -35,6 +35,9 @@ impl Drop for Interner {
             sheets,
             frames,
         } = self;
+        drop(parts);
+        drop(sheets);
+        drop(frames);
     }
 }
 

@@ -32,9 +32,16 @@ pub trait Chosen<K> {
 }
 
 /// A table of results, seen as a list of pairs with distinct keys.
-#[derive(Drop)]
 pub struct Memo<K: Eq + Hash, O, A> {
     map: IndexMap<K, Noted<K, O, A>>,
+}
+
+// One call wherever it is dropped, in place of one for each part.
+impl<K: Eq + Hash + Drop, O: Drop, A: Drop> Drop for Memo<K, O, A> {
+    fn drop(self) {
+        let Memo { map } = self;
+        drop(map);
+    }
 }
 
 impl<K: Eq + Hash + Drop, O: Drop, A: Drop> Memo<K, O, A> {
