@@ -42,6 +42,10 @@ impl Drop for Book {
             guesses,
             frames,
         } = self;
+        drop(interner);
+        drop(keys);
+        drop(guesses);
+        drop(frames);
     }
 }
 
