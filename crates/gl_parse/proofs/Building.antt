@@ -25,7 +25,7 @@ use Rattle.gl_ast.specs.declared.Formula.{Formula}
 use Rattle.gl_ast.specs.declared.Formula.TheVariants as f
 use Rattle.gl_ast.specs.View.{formula_tree, argument_trees, level_tree, op_tree, fun_tree}
 use Rattle.gl_ast.specs.View as ast
-use Rattle.gl_ast.specs.Forms.{formula_tree-Int, formula_tree-Text, formula_tree-Bool, formula_tree-At, formula_tree-Spill, formula_tree-Var, formula_tree-Neg, formula_tree-Chain, formula_tree-Compare, formula_tree-Call, formula_tree-Let}
+use Rattle.gl_ast.specs.Forms.{formula_tree-Int, formula_tree-Bool, formula_tree-At, formula_tree-Spill, formula_tree-Neg, formula_tree-Chain, formula_tree-Compare, formula_tree-Call, formula_tree-Let}
 use Rattle.gl_parse.specs.declared.raw.Span.{Span}
 use Rattle.gl_parse.specs.declared.raw.Raw.{Raw}
 use Rattle.gl_parse.specs.declared.raw.Raw.TheVariants as r
@@ -61,58 +61,57 @@ number_is : (n : ℤ) → number n < 2 ^ 63 → n ≡ pos (number n)
 number_is (pos n) h = refl
 number_is (negsuc n) h = absurd (omega arith)
 
--- what is known of a form, by its variant
-known : (text : Bytes) (raw : Raw) (t : G.Raw) (g : Formula) → raw_tree text raw ≡ t → (IsSpelled InOrder t → formula_tree g ≡ tree t) → IsBuilt text raw g
-known text raw t g e h s = h (subst (IsSpelled InOrder) e s) ∙ sym (ap tree e)
+-- the formula that a function answers for this tree
+abbrev pub Gives : G.Raw → Result Formula NoMemory → Type 0
+Gives t x = IsSpelled InOrder t → IfOk x (λ g. formula_tree g ≡ tree t)
+
+-- what is answered for a form, by its variant
+gives : (text : Bytes) (raw : Raw) (t : G.Raw) (x : Result Formula NoMemory) → raw_tree text raw ≡ t → Gives t x → Gives (raw_tree text raw) x
+gives text raw t x e h = subst (λ z. Gives z x) (sym e) h
 
 module _ (text : Bytes) (raw : Raw) where
   pub built_number : (n : ℤ) → raw ≡ r.Number n → IsBuilt text raw (f.Int n)
-  built_number n e = known text raw _ (f.Int n) (ap (raw_tree text) e ∙ tree-Number text n) (λ s. formula_tree-Int n ∙ ap F.Formula.Int (number_is n s))
+  built_number n e = gives text raw _ (Ok (f.Int n)) (ap (raw_tree text) e ∙ tree-Number text n) (λ s. formula_tree-Int n ∙ ap F.Formula.Int (number_is n s))
 
-  pub built_text : (t u : RcStr Global) → raw ≡ r.Text t → rc_str_bytes u ≡ rc_str_bytes t → IsBuilt text raw (f.Text u)
-  built_text t u e h = known text raw _ (f.Text u) (ap (raw_tree text) e ∙ tree-Text text t) (λ s. formula_tree-Text u ∙ ap F.Formula.Text h)
+  pub built_text : (t : RcStr Global) (x : Result Formula NoMemory) → raw ≡ r.Text t → IfOk x (λ g. formula_tree g ≡ F.Formula.Text (rc_str_bytes t)) → Gives (raw_tree text raw) x
+  built_text t x e h = gives text raw _ x (ap (raw_tree text) e ∙ tree-Text text t) (λ s. h)
 
   pub built_bool : (b : Bool) → raw ≡ r.Bool b → IsBuilt text raw (f.Bool b)
-  built_bool b e = known text raw _ (f.Bool b) (ap (raw_tree text) e ∙ tree-Bool text b) (λ s. formula_tree-Bool b)
+  built_bool b e = gives text raw _ (Ok (f.Bool b)) (ap (raw_tree text) e ∙ tree-Bool text b) (λ s. formula_tree-Bool b)
 
   pub built_at : (a : Addr) → raw ≡ r.At a → IsBuilt text raw (f.At a)
-  built_at a e = known text raw _ (f.At a) (ap (raw_tree text) e ∙ tree-At text a) (λ s. formula_tree-At a)
+  built_at a e = gives text raw _ (Ok (f.At a)) (ap (raw_tree text) e ∙ tree-At text a) (λ s. formula_tree-At a)
 
   pub built_spill : (a : Addr) → raw ≡ r.Spill a → IsBuilt text raw (f.Spill a)
-  built_spill a e = known text raw _ (f.Spill a) (ap (raw_tree text) e ∙ tree-Spill text a) (λ s. formula_tree-Spill a)
+  built_spill a e = gives text raw _ (Ok (f.Spill a)) (ap (raw_tree text) e ∙ tree-Spill text a) (λ s. formula_tree-Spill a)
 
   pub built_corners : (a b : Addr) (g : Formula) → raw ≡ r.Corners a b → (InOrder a b → formula_tree g ≡ F.Formula.Area (range a b)) → IsBuilt text raw g
-  built_corners a b g e h = known text raw _ g (ap (raw_tree text) e ∙ tree-Corners text a b) (λ s. h s.2)
+  built_corners a b g e h = gives text raw _ (Ok g) (ap (raw_tree text) e ∙ tree-Corners text a b) (λ s. h s.2)
 
-  pub built_var : (v : Span) (name : RcStr Global) → raw ≡ r.Var v → (IsRow is_lower (letters text v) → rc_str_bytes name ≡ letters text v) → IsBuilt text raw (f.Var name)
-  built_var v name e h = known text raw _ (f.Var name) (ap (raw_tree text) e ∙ tree-Var text v) (λ s. formula_tree-Var name ∙ ap F.Formula.Var (h s))
+  pub built_var : (v : Span) (bs : Bytes) (x : Result Formula NoMemory) → raw ≡ r.Var v → bs ≡ letters text v → (IsRow is_lower bs → IfOk x (λ g. formula_tree g ≡ F.Formula.Var bs)) → Gives (raw_tree text raw) x
+  built_var v bs x e m h = gives text raw _ x (ap (raw_tree text) e ∙ tree-Var text v) (subst (λ z. IsRow is_lower z → IfOk x (λ g. formula_tree g ≡ F.Formula.Var z)) m h)
 
-  pub built_neg : (x : Box Raw Global) (y : Raw) (b : Box Formula Global) (g : Formula) → raw ≡ r.Neg x → y ≡ x.value → b.value ≡ g → IsBuilt text y g → IsBuilt text raw (f.Neg b)
-  built_neg x y b g e m h j = let i = subst (λ z. IsBuilt text z g) m j in known text raw _ (f.Neg b) (ap (raw_tree text) e ∙ tree-Neg text x) (λ s. formula_tree-Neg b ∙ ap (λ z. F.Formula.Neg (formula_tree z)) h ∙ ap F.Formula.Neg (i s))
+  pub built_neg : (x : Box Raw Global) (y : Raw) (b : Box Formula Global) → raw ≡ r.Neg x → y ≡ x.value → IsBuilt text y b.value → IsBuilt text raw (f.Neg b)
+  built_neg x y b e m h = let i = subst (λ z. IsBuilt text z b.value) m h in gives text raw _ (Ok (f.Neg b)) (ap (raw_tree text) e ∙ tree-Neg text x) (λ s. formula_tree-Neg b ∙ ap F.Formula.Neg (i s))
 
-  pub built_compare : (o : Op) (x y : Box Raw Global) (u v : Raw) (b c : Box Formula Global) (g k : Formula) → raw ≡ r.Compare o x y → u ≡ x.value → v ≡ y.value → b.value ≡ g → c.value ≡ k → IsBuilt text u g → IsBuilt text v k → IsBuilt text raw (f.Compare o b c)
-  built_compare o x y u v b c g k e m n h j p q =
-      let i = subst (λ z. IsBuilt text z g) m p in
-      let l = subst (λ z. IsBuilt text z k) n q in
-      known text raw _ (f.Compare o b c) (ap (raw_tree text) e ∙ tree-Compare text o x y)
-      (λ s. formula_tree-Compare o b c ∙ ap (λ z. F.Formula.Compare (op_tree o) (formula_tree z) (formula_tree c.value)) h ∙ ap (λ z. F.Formula.Compare (op_tree o) (formula_tree g) (formula_tree z)) j
-      ∙ ap (λ z. F.Formula.Compare (op_tree o) z (formula_tree k)) (i s.0) ∙ ap (λ z. F.Formula.Compare (op_tree o) (tree (raw_tree text x.value)) z) (l s.1))
+  pub built_compare : (o : Op) (x y : Box Raw Global) (u v : Raw) (b c : Box Formula Global) → raw ≡ r.Compare o x y → u ≡ x.value → v ≡ y.value → IsBuilt text u b.value → IsBuilt text v c.value → IsBuilt text raw (f.Compare o b c)
+  built_compare o x y u v b c e m n h k =
+      let i = subst (λ z. IsBuilt text z b.value) m h in
+      let j = subst (λ z. IsBuilt text z c.value) n k in
+      gives text raw _ (Ok (f.Compare o b c)) (ap (raw_tree text) e ∙ tree-Compare text o x y)
+      (λ s. formula_tree-Compare o b c ∙ ap (λ z. F.Formula.Compare (op_tree o) z (formula_tree c.value)) (i s.0) ∙ ap (F.Formula.Compare (op_tree o) (tree (raw_tree text x.value))) (j s.1))
 
-  pub built_chain : (l : Level) (x : Box Raw Global) (v : Vec (Op × Raw) Global) (u : Raw) (xs : List (Op × Raw)) (b : Box Formula Global) (g : Formula) (w : Vec (Op × Formula) Global) → raw ≡ r.Chain l x v → u ≡ x.value → xs ≡ v.items → b.value ≡ g → IsBuilt text u g → (AreSpelledOperands InOrder (links (pairs text xs)) → ast.operand_trees w.items ≡ operand_trees (links (pairs text xs))) → IsBuilt text raw (f.Chain l b w)
-  built_chain l x v u xs b g w e m n h p q =
-      let i = subst (λ z. IsBuilt text z g) m p in
-      let j = subst (λ z. AreSpelledOperands InOrder (links (pairs text z)) → ast.operand_trees w.items ≡ operand_trees (links (pairs text z))) n q in
-      known text raw _ (f.Chain l b w) (ap (raw_tree text) e ∙ tree-Chain text l x v)
-      (λ s. formula_tree-Chain l b w ∙ ap (λ z. F.Formula.Chain (level_tree l) (formula_tree z) (ast.operand_trees w.items)) h ∙ ap (λ z. F.Formula.Chain (level_tree l) z (ast.operand_trees w.items)) (i s.0)
-      ∙ ap (λ z. F.Formula.Chain (level_tree l) (tree (raw_tree text x.value)) z) (j s.1))
+  pub built_chain : (l : Level) (x : Box Raw Global) (v : Vec (Op × Raw) Global) (u : Raw) (xs : List (Op × Raw)) (b : Box Formula Global) (w : Vec (Op × Formula) Global) → raw ≡ r.Chain l x v → u ≡ x.value → xs ≡ v.items → IsBuilt text u b.value → (AreSpelledOperands InOrder (links (pairs text xs)) → ast.operand_trees w.items ≡ operand_trees (links (pairs text xs))) → IsBuilt text raw (f.Chain l b w)
+  built_chain l x v u xs b w e m n h k =
+      let i = subst (λ z. IsBuilt text z b.value) m h in
+      let j = subst (λ z. AreSpelledOperands InOrder (links (pairs text z)) → ast.operand_trees w.items ≡ operand_trees (links (pairs text z))) n k in
+      gives text raw _ (Ok (f.Chain l b w)) (ap (raw_tree text) e ∙ tree-Chain text l x v)
+      (λ s. formula_tree-Chain l b w ∙ ap (λ z. F.Formula.Chain (level_tree l) z (ast.operand_trees w.items)) (i s.0) ∙ ap (F.Formula.Chain (level_tree l) (tree (raw_tree text x.value))) (j s.1))
 
-  pub built_apply : (word : Span) (v : Vec Raw Global) (ws : Bytes) (xs : List Raw) (g : Formula) → raw ≡ r.Apply word v → ws ≡ letters text word → xs ≡ v.items → (AreSpelled InOrder (raws_of (plains text xs)) → formula_tree g ≡ let_or_call ws (trees (raws_of (plains text xs)))) → IsBuilt text raw g
-  built_apply word v ws xs g e m n p =
-      let q = subst (λ z. AreSpelled InOrder (raws_of (plains text xs)) → formula_tree g ≡ let_or_call z (trees (raws_of (plains text xs)))) m p in
-      let h = subst (λ z. AreSpelled InOrder (raws_of (plains text z)) → formula_tree g ≡ let_or_call (letters text word) (trees (raws_of (plains text z)))) n q in
-      known text raw _ g (ap (raw_tree text) e ∙ tree-Apply text word v) h
-
-pub ruleset build_rules = built_number
+  pub built_apply : (word : Span) (v : Vec Raw Global) (ws : Bytes) (xs : List Raw) (x : Result Formula NoMemory) → raw ≡ r.Apply word v → ws ≡ letters text word → xs ≡ v.items → (AreSpelled InOrder (raws_of (plains text xs)) → IfOk x (λ g. formula_tree g ≡ let_or_call ws (trees (raws_of (plains text xs))))) → Gives (raw_tree text raw) x
+  built_apply word v ws xs x e m n h =
+      gives text raw _ x (ap (raw_tree text) e ∙ tree-Apply text word v)
+      (subst (λ z. Gives (G.Raw.Apply (letters text word) (raws_of (plains text z))) x) n (subst (λ z. Gives (G.Raw.Apply z (raws_of (plains text xs))) x) m h))
 
 -- ---- lists
 
@@ -255,20 +254,13 @@ pub plain_is : (text : Bytes) (word : Bytes) (xs : List Raw) (r : Result Formula
 plain_is text word xs (Ok g) h b s = b s ∙ sym (plain_call word (plains text xs) h)
 plain_is text word xs (Err e) h b s = tt
 
-pub apply_is : (text : Bytes) (raw : Raw) (word : Span) (v : Vec Raw Global) (ws : Bytes) (xs : List Raw) (x : Result Formula NoMemory) → raw ≡ r.Apply word v → ws ≡ letters text word → xs ≡ v.items → (AreSpelled InOrder (raws_of (plains text xs)) → IfOk x (λ g. formula_tree g ≡ let_or_call ws (trees (raws_of (plains text xs))))) → IsSpelled InOrder (raw_tree text raw) → IfOk x (λ g. formula_tree g ≡ tree (raw_tree text raw))
-apply_is text raw word v ws xs (Ok g) e m n h s = built_apply text raw word v ws xs g e m n h s
-apply_is text raw word v ws xs (Err x) e m n h s = tt
-
-pub built_let : (text : Bytes) (word : Bytes) (xs : List Raw) (v ws : Bytes) (x y : Raw) (name : RcStr Global) (b c : Box Formula Global) (g k : Formula) → IsLet text word xs v x y → ws ≡ v → (IsRow is_lower ws → rc_str_bytes name ≡ ws) → b.value ≡ g → c.value ≡ k → IsBuilt text x g → IsBuilt text y k → AreSpelled InOrder (raws_of (plains text xs)) → formula_tree (f.Let name b c) ≡ let_or_call word (trees (raws_of (plains text xs)))
-built_let text word xs v ws x y name b c g k is w mm h j p q s =
+pub built_let : (text : Bytes) (word : Bytes) (xs : List Raw) (v ws : Bytes) (x y : Raw) (name : RcStr Global) (b c : Box Formula Global) → IsLet text word xs v x y → ws ≡ v → (IsRow is_lower ws → rc_str_bytes name ≡ ws) → IsBuilt text x b.value → IsBuilt text y c.value → AreSpelled InOrder (raws_of (plains text xs)) → formula_tree (f.Let name b c) ≡ let_or_call word (trees (raws_of (plains text xs)))
+built_let text word xs v ws x y name b c is w mm p q s =
     let m : IsRow is_lower v → rc_str_bytes name ≡ v = subst (λ z. IsRow is_lower z → rc_str_bytes name ≡ z) w mm in
     let t : AreSpelled InOrder (raws_of (G.Raw.Var v ∷ raw_tree text x ∷ raw_tree text y ∷ [])) = subst (λ z. AreSpelled InOrder (raws_of z)) is.arguments s in
     formula_tree-Let name b c ∙ ap (λ z. F.Formula.Let z (formula_tree b.value) (formula_tree c.value)) (m t.0)
-    ∙ ap (λ z. F.Formula.Let v (formula_tree z) (formula_tree c.value)) h ∙ ap (λ z. F.Formula.Let v (formula_tree g) (formula_tree z)) j
-    ∙ ap (λ z. F.Formula.Let v z (formula_tree k)) (p t.1.0) ∙ ap (λ z. F.Formula.Let v (tree (raw_tree text x)) z) (q t.1.1.0)
+    ∙ ap (λ z. F.Formula.Let v z (formula_tree c.value)) (p t.1.0) ∙ ap (F.Formula.Let v (tree (raw_tree text x))) (q t.1.1.0)
     ∙ sym (ap (λ z. let_or_call word (trees (raws_of z))) is.arguments ∙ let_word word v (tree (raw_tree text x)) (tree (raw_tree text y)) is.is_let)
 
 pub built_call : (xs : F.Formulas) (o : Fun) (v : Vec Formula Global) (w : Option F.Fun) → ((ys : F.Formulas) → call_of w ys ≡ F.Formula.Call (fun_tree o) ys) → argument_trees v.items ≡ xs → formula_tree (f.Call o v) ≡ call_of w xs
 built_call xs o v w h e = formula_tree-Call o v ∙ ap (F.Formula.Call (fun_tree o)) e ∙ sym (h xs)
-
-pub ruleset call_rules = (plain_is, built_let)

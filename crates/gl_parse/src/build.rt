@@ -31,6 +31,21 @@ fn named(alloc: Global, letters: &[u8]) -> Result<RcStr, NoMemory>
     }
 }
 
+/// A variable of these letters.
+fn variable(alloc: Global, letters: &[u8]) -> Result<Formula, NoMemory>
+    ensures { IsRow is_lower letters.now
+        → IfOk result (λ f. formula_tree f ≡ F.Formula.Var letters.now) }
+{
+    Ok(Formula::Var(named(alloc, letters)?))
+}
+
+/// A text between quotes.
+fn quoted(text: &RcStr) -> Result<Formula, NoMemory>
+    ensures { IfOk result (λ f. formula_tree f ≡ F.Formula.Text (rc_str_bytes text.now)) }
+{
+    Ok(Formula::Text(text.clone()?))
+}
+
 /// The range with these corners, which are in order.
 #[tactic(auto, using(gl_ast::specs::Forms::trees))]
 fn area(a: Addr, b: Addr) -> Formula
@@ -56,35 +71,39 @@ fn called(word: &[u8]) -> Fun
 
 /// The formula of a form that was read from tokens and has its corners in order.
 #[cycle(build)]
-#[tactic(auto, using(crate::proofs::Building::build_rules))]
 pub fn build(alloc: Global, text: &[u8], raw: &Raw) -> Result<Formula, NoMemory>
     ensures { IsSpelled InOrder (raw_tree text.now raw.now)
         → IfOk result (λ f. formula_tree f ≡ G.tree (raw_tree text.now raw.now)) }
 {
     match raw {
         Raw::Number(n) => Ok(Formula::Int(*n)),
-        Raw::Text(t) => Ok(Formula::Text(t.clone()?)),
+        Raw::Text(t) => quoted(t),
         Raw::Bool(b) => Ok(Formula::Bool(*b)),
         Raw::At(a) => Ok(Formula::At(*a)),
         Raw::Spill(a) => Ok(Formula::Spill(*a)),
         Raw::Corners(a, b) => Ok(area(*a, *b)),
-        Raw::Var(name) => Ok(Formula::Var(named(alloc, spelling(text, *name))?)),
-        Raw::Neg(f) => {
-            let f = build(alloc, text, f)?;
-            Ok(Formula::Neg(Box::new(alloc, f)?))
-        }
+        Raw::Var(name) => variable(alloc, spelling(text, *name)),
+        Raw::Neg(f) => Ok(Formula::Neg(build_boxed(alloc, text, f)?)),
         Raw::Chain(level, f, rest) => {
-            let f = build(alloc, text, f)?;
-            let rest = build_operands(alloc, text, rest)?;
-            Ok(Formula::Chain(*level, Box::new(alloc, f)?, rest))
+            let f = build_boxed(alloc, text, f)?;
+            Ok(Formula::Chain(*level, f, build_operands(alloc, text, rest)?))
         }
         Raw::Compare(op, f, g) => {
-            let f = build(alloc, text, f)?;
-            let g = build(alloc, text, g)?;
-            Ok(Formula::Compare(*op, Box::new(alloc, f)?, Box::new(alloc, g)?))
+            let f = build_boxed(alloc, text, f)?;
+            Ok(Formula::Compare(*op, f, build_boxed(alloc, text, g)?))
         }
         Raw::Apply(word, xs) => build_call(alloc, text, spelling(text, *word), xs),
     }
+}
+
+/// The same for a form inside another.
+#[cycle(build)]
+fn build_boxed(alloc: Global, text: &[u8], raw: &Raw) -> Result<Box<Formula>, NoMemory>
+    ensures { IsSpelled InOrder (raw_tree text.now raw.now)
+        → IfOk result (λ b. formula_tree b.value ≡ G.tree (raw_tree text.now raw.now)) }
+{
+    let f = build(alloc, text, raw)?;
+    Ok(Box::new(alloc, f)?)
 }
 
 #[cycle(build)]
@@ -122,7 +141,6 @@ fn build_arguments(alloc: Global, text: &[u8], xs: &[Raw]) -> Result<Vec<Formula
 
 /// A call, which is a form of its own where it is a `LET` of three arguments with a variable first.
 #[cycle(build)]
-#[tactic(auto, using(crate::proofs::Building::call_rules))]
 fn build_call(alloc: Global, text: &[u8], word: &[u8], xs: &[Raw]) -> Result<Formula, NoMemory>
     ensures { AreSpelled InOrder (raws_of (plains text.now xs.now))
         → IfOk result (λ f.
@@ -132,9 +150,8 @@ fn build_call(alloc: Global, text: &[u8], word: &[u8], xs: &[Raw]) -> Result<For
         return build_plain_call(alloc, text, word, xs);
     };
     let name = named(alloc, spelling(text, name))?;
-    let f = build(alloc, text, &xs[1])?;
-    let body = build(alloc, text, &xs[2])?;
-    Ok(Formula::Let(name, Box::new(alloc, f)?, Box::new(alloc, body)?))
+    let f = build_boxed(alloc, text, &xs[1])?;
+    Ok(Formula::Let(name, f, build_boxed(alloc, text, &xs[2])?))
 }
 
 /// A call that binds nothing.

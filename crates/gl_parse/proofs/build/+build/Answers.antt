@@ -1,23 +1,10 @@
-use Rattle.std.proofs.Common.{◌≡◌, subst, arith}
+use Rattle.std.proofs.Common.{arith}
 use Rattle.std.proofs.lemmas.Grind.{common_steps}
-use Rattle.std.specs.Rc.{rc_str_bytes}
-use Rattle.gl_language.specs.Token.{IsRow, is_lower}
 use Rattle.gl_language.specs.Grammar.{function_of}
 use Rattle.gl_parse.specs.Raws.{letters}
 use Rattle.gl_parse.proofs.Naming.{let_is}
-use Rattle.gl_parse.proofs.Building.{built_bool, built_at, built_spill, built_corners, built_var, built_neg, built_chain, built_text, built_compare, apply_is, argument_built, operand_built, plain_is, built_let, built_call, build_rules}
+use Rattle.gl_parse.proofs.Building.{built_number, built_text, built_bool, built_at, built_spill, built_corners, built_var, built_neg, built_chain, built_compare, built_apply, argument_built, operand_built, plain_is, built_let, built_call}
 use Rattle.gl_parse.proofs.build.+build.Goals as goal
-
-pub build-returns-in_ok-clone-in-Text : goal.build-returns-in_ok-clone-in-Text
-build-returns-in_ok-clone-in-Text t c = built_text c.args.text.now c.args.raw.now c.in-Text.t _ c.in-Text.is c.in_ok-clone-in-Text.ensures.cases
-
-pub build-returns-in_ok-new-in-Compare-2 : goal.build-returns-in_ok-new-in-Compare-2
-build-returns-in_ok-new-in-Compare-2 t c =
-    built_compare c.args.text.now c.args.raw.now c.in-Compare.op c.in-Compare.f c.in-Compare.g _ _ _ _ _ _ c.in-Compare.is c.deref-in-Compare.ensures c.deref-in-Compare-2.ensures c.in_ok-new-in-Compare.ensures.ok c.in_ok-new-in-Compare-2.ensures.ok
-    c.in_ok-f-in-Compare.ensures c.in_ok-g-in-Compare.ensures
-
-pub build-returns-in-Apply : goal.build-returns-in-Apply
-build-returns-in-Apply t c = apply_is c.args.text.now c.args.raw.now c.in-Apply.word c.in-Apply.xs _ _ _ c.in-Apply.is c.spelling-in-Apply.ensures c.deref-in-Apply.ensures.value c.build_call.ensures
 
 pub build_arguments-loop-raw-preserved : goal.build_arguments-loop-raw-preserved
 build_arguments-loop-raw-preserved t c = argument_built c.args.text.now c.args.xs.now c.loop-raw.raw-index c.loop-raw.built.items _ c.raw-item.result c.in_ok-next.next c.loop-raw-test.true c.raw-item.is c.in_ok-push.ensures.items c.in_ok-next.ensures c.loop-raw.invariant
@@ -25,14 +12,6 @@ build_arguments-loop-raw-preserved t c = argument_built c.args.text.now c.args.x
 pub build_operands-loop-operand-preserved : goal.build_operands-loop-operand-preserved
 build_operands-loop-operand-preserved t c =
     operand_built c.args.text.now c.args.rest.now c.loop-operand.operand-index c.loop-operand.built.items _ c.operand-item.result c.in_ok-next.next c.loop-operand-test.true c.operand-item.is c.in_ok-push.ensures.items c.in_ok-next.ensures c.loop-operand.invariant
-
-pub build_call-returns-in_default : goal.build_call-returns-in_default
-build_call-returns-in_default t c = plain_is c.args.text.now c.args.word.now c.args.xs.now _ (c.in_default.ensures.cases c.args.text.now) c.build_plain_call.ensures
-
-pub build_call-returns : goal.build_call-returns
-build_call-returns t c =
-    let is = let_is c.args.text.now c.args.word.now c.args.xs.now (letters c.args.text.now c.in-Some.name) _ _ _ _ c.in-Some.ensures.len (c.in-Some.ensures.cases c.args.text.now) c.index-xs-1.is c.index-xs-2.is in
-    built_let c.args.text.now c.args.word.now c.args.xs.now _ _ _ _ _ _ _ _ _ is c.spelling.ensures c.in_ok-name.ensures c.in_ok-new.ensures.ok c.in_ok-new-2.ensures.ok c.in_ok-f.ensures c.in_ok-body.ensures
 
 pub build_plain_call-returns : goal.build_plain_call-returns
 build_plain_call-returns t c = λ s. built_call _ _ _ (function_of c.args.word.now) c.called.ensures (c.in_ok-xs.ensures s)
@@ -49,24 +28,39 @@ build-returns-in-Spill t c = built_spill c.args.text.now c.args.raw.now c.in-Spi
 pub build-returns-in-Corners : goal.build-returns-in-Corners
 build-returns-in-Corners t c = built_corners c.args.text.now c.args.raw.now c.in-Corners.a c.in-Corners.b _ c.in-Corners.is c.area.ensures
 
-pub build-returns-in_ok-named-in-Var : goal.build-returns-in_ok-named-in-Var
-build-returns-in_ok-named-in-Var t c =
-    let named = c.in_ok-named-in-Var.field-0 in
-    built_var c.args.text.now c.args.raw.now c.in-Var.name named c.in-Var.is (subst (λ z. IsRow is_lower z → rc_str_bytes named ≡ z) c.spelling.ensures c.in_ok-named-in-Var.ensures)
+pub build-returns-in-Text : goal.build-returns-in-Text
+build-returns-in-Text t c = built_text c.args.text.now c.args.raw.now c.in-Text.t _ c.in-Text.is c.quoted.ensures
 
-pub build-returns-in_ok-new-in-Neg : goal.build-returns-in_ok-new-in-Neg
-build-returns-in_ok-new-in-Neg t c = built_neg c.args.text.now c.args.raw.now c.in-Neg.f _ _ _ c.in-Neg.is c.deref.ensures c.in_ok-new-in-Neg.ensures.ok c.in_ok-f-in-Neg.ensures
+pub build-returns-in-Var : goal.build-returns-in-Var
+build-returns-in-Var t c = built_var c.args.text.now c.args.raw.now c.in-Var.name _ _ c.in-Var.is c.spelling.ensures c.variable.ensures
 
-pub build-returns-in_ok-new-in-Chain : goal.build-returns-in_ok-new-in-Chain
-build-returns-in_ok-new-in-Chain t c =
-    built_chain c.args.text.now c.args.raw.now c.in-Chain.level c.in-Chain.f c.in-Chain.rest _ _ _ _ _ c.in-Chain.is c.deref-in-Chain.ensures c.deref-in-Chain-2.ensures.value c.in_ok-new-in-Chain.ensures.ok c.in_ok-f-in-Chain.ensures
-    c.in_ok-rest-in-Chain.ensures
+pub build-returns-in_ok-build_boxed-in-Neg : goal.build-returns-in_ok-build_boxed-in-Neg
+build-returns-in_ok-build_boxed-in-Neg t c = built_neg c.args.text.now c.args.raw.now c.in-Neg.f _ _ c.in-Neg.is c.deref.ensures c.in_ok-build_boxed-in-Neg.ensures
+
+pub build-returns-in_ok-build_operands-in-Chain : goal.build-returns-in_ok-build_operands-in-Chain
+build-returns-in_ok-build_operands-in-Chain t c =
+    built_chain c.args.text.now c.args.raw.now c.in-Chain.level c.in-Chain.f c.in-Chain.rest _ _ _ _ c.in-Chain.is c.deref-in-Chain.ensures c.deref-in-Chain-2.ensures.value c.in_ok-f-in-Chain.ensures c.in_ok-build_operands-in-Chain.ensures
+
+pub build-returns-in_ok-build_boxed-in-Compare : goal.build-returns-in_ok-build_boxed-in-Compare
+build-returns-in_ok-build_boxed-in-Compare t c =
+    built_compare c.args.text.now c.args.raw.now c.in-Compare.op c.in-Compare.f c.in-Compare.g _ _ _ _ c.in-Compare.is c.deref-in-Compare.ensures c.deref-in-Compare-2.ensures c.in_ok-f-in-Compare.ensures c.in_ok-build_boxed-in-Compare.ensures
+
+pub build-returns-in-Apply : goal.build-returns-in-Apply
+build-returns-in-Apply t c = built_apply c.args.text.now c.args.raw.now c.in-Apply.word c.in-Apply.xs _ _ _ c.in-Apply.is c.spelling-in-Apply.ensures c.deref-in-Apply.ensures.value c.build_call.ensures
+
+pub build_call-returns-in_default : goal.build_call-returns-in_default
+build_call-returns-in_default t c = plain_is c.args.text.now c.args.word.now c.args.xs.now _ (c.in_default.ensures.cases c.args.text.now) c.build_plain_call.ensures
+
+pub build_call-returns : goal.build_call-returns
+build_call-returns t c =
+    let is = let_is c.args.text.now c.args.word.now c.args.xs.now (letters c.args.text.now c.in-Some.name) _ _ _ _ c.in-Some.ensures.len (c.in-Some.ensures.cases c.args.text.now) c.index-xs-1.is c.index-xs-2.is in
+    built_let c.args.text.now c.args.word.now c.args.xs.now _ _ _ _ _ _ _ is c.spelling.ensures c.in_ok-name.ensures c.in_ok-f.ensures c.in_ok-build_boxed.ensures
+
+pub build_call-build_boxed-requires : goal.build_call-build_boxed-requires
+build_call-build_boxed-requires t c = grind (arith, common_steps)
+
+pub build_call-build_boxed-requires-2 : goal.build_call-build_boxed-requires-2
+build_call-build_boxed-requires-2 t c = grind (arith, common_steps)
 
 pub build-returns-in-Number : goal.build-returns-in-Number
-build-returns-in-Number t c = grind (arith, build_rules)
-
-pub build_call-build-requires : goal.build_call-build-requires
-build_call-build-requires t c = grind (arith, common_steps)
-
-pub build_call-build-requires-2 : goal.build_call-build-requires-2
-build_call-build-requires-2 t c = grind (arith, common_steps)
+build-returns-in-Number t c = grind (arith, built_number)
