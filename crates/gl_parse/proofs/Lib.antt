@@ -2,6 +2,7 @@ pub mod AllRead
 pub mod Answering
 pub mod Building
 pub mod Calls
+pub mod Cuts
 pub mod Deeper
 pub mod Ends
 pub mod Forms
