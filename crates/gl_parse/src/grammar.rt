@@ -45,7 +45,6 @@ fn addressed<'a>(text: &[u8], a: Addr, tokens: &'a [Token]) -> Read<'a, Raw>
 
 /// An expression.
 #[cycle(grammar)]
-#[tactic(auto, using(crate::proofs::Rulesets::expr_rules))]
 pub fn expr<'a>(alloc: Global, text: &[u8], tokens: &'a [Token]) -> Read<'a, Raw>
     ensures cases { DecidesForm IsExpr 1 text.now (tokens_in text.now tokens.now) result }
     ensures shrinks { IfOk result (λ p. length p.1.now < length tokens.now) }
@@ -94,7 +93,6 @@ fn chained(alloc: Global, level: Level, first: Raw, others: Vec<(Op, Raw)>) -> R
 }
 
 #[cycle(grammar)]
-#[tactic(auto, using(crate::proofs::Rulesets::operand_rules))]
 fn operand<'a>(alloc: Global, text: &[u8], level: Level, tokens: &'a [Token]) -> Read<'a, Raw>
     ensures cases { DecidesLevel IsOperand operand_end level text.now tokens.now result }
     ensures shrinks { IfOk result (λ p. length p.1.now < length tokens.now) }
@@ -107,7 +105,6 @@ fn operand<'a>(alloc: Global, text: &[u8], level: Level, tokens: &'a [Token]) ->
 }
 
 #[cycle(grammar)]
-#[tactic(auto, using(crate::proofs::Rulesets::unary_rules))]
 fn unary<'a>(alloc: Global, text: &[u8], tokens: &'a [Token]) -> Read<'a, Raw>
     ensures cases { DecidesForm IsUnary 5 text.now (tokens_in text.now tokens.now) result }
     ensures shrinks { IfOk result (λ p. length p.1.now < length tokens.now) }
@@ -120,7 +117,6 @@ fn unary<'a>(alloc: Global, text: &[u8], tokens: &'a [Token]) -> Read<'a, Raw>
 }
 
 #[cycle(grammar)]
-#[tactic(auto, using(crate::proofs::Rulesets::atom_rules))]
 fn atom<'a>(alloc: Global, text: &[u8], tokens: &'a [Token]) -> Read<'a, Raw>
     ensures cases { DecidesForm IsAtom 5 text.now (tokens_in text.now tokens.now) result }
     ensures shrinks { IfOk result (λ p. length p.1.now < length tokens.now) }
@@ -146,7 +142,6 @@ fn atom<'a>(alloc: Global, text: &[u8], tokens: &'a [Token]) -> Read<'a, Raw>
 
 /// A call of this word, behind which the tokens are.
 #[cycle(grammar)]
-#[tactic(auto, using(crate::proofs::Rulesets::call_rules))]
 fn call<'a>(alloc: Global, text: &[u8], word: Span, tokens: &'a [Token]) -> Read<'a, Raw>
     ensures cases { DecidesForm IsAtom 5 text.now
         (Word (letters text.now word) ∷ tokens_in text.now tokens.now) result }
@@ -186,7 +181,6 @@ fn arguments<'a>(alloc: Global, text: &[u8], tokens: &'a [Token]) -> Read<'a, Ve
 
 /// What stands in parentheses, behind the first of which the tokens are.
 #[cycle(grammar)]
-#[tactic(auto, using(crate::proofs::Rulesets::parens_rules))]
 fn parens<'a>(alloc: Global, text: &[u8], tokens: &'a [Token]) -> Read<'a, Raw>
     ensures cases { DecidesForm IsAtom 5 text.now
         (Signed T.Sign.LeftParen ∷ tokens_in text.now tokens.now) result }
