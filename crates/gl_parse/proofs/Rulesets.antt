@@ -1,13 +1,9 @@
 -- The lemmas that the proofs of the grammar's readers use.
-use Rattle.gl_parse.proofs.Forms.{tree-Number, tree-At, tree-Spill, tree-Corners, text_is, chain_is, chained_none, plains_pushed}
-use Rattle.gl_parse.proofs.Rules.{atom_integer, atom_address, atom_spill, atom_area, atom_colon, atom_text, so_far_start, arguments_start, arguments_step}
+use Rattle.gl_parse.proofs.Forms.{tree-Number, tree-At, tree-Spill, tree-Corners, text_is, chain_is, chained_none}
+use Rattle.gl_parse.proofs.Rules.{atom_integer, atom_address, atom_spill, atom_area, atom_colon, atom_text}
 
 pub ruleset address_rules = (tree-At, tree-Spill, tree-Corners, atom_address, atom_spill, atom_area, atom_colon)
-
-pub ruleset chain_rules = so_far_start
 
 pub ruleset chained_rules = (chain_is, chained_none)
 
 pub ruleset atom_rules = (tree-Number, text_is, atom_integer, atom_text)
-
-pub ruleset argument_rules = (plains_pushed, arguments_start, arguments_step)

@@ -62,7 +62,6 @@ pub fn expr<'a>(alloc: Global, text: &[u8], tokens: &'a [Token]) -> Read<'a, Raw
 
 /// Operands joined by the operators of a level, or one alone.
 #[cycle(grammar)]
-#[tactic(auto, using(crate::proofs::Rulesets::chain_rules))]
 fn chain<'a>(alloc: Global, text: &[u8], level: Level, tokens: &'a [Token]) -> Read<'a, Raw>
     ensures cases { DecidesLevel IsChain chain_end level text.now tokens.now result }
     ensures shrinks { IfOk result (λ p. length p.1.now < length tokens.now) }
@@ -156,7 +155,6 @@ fn call<'a>(alloc: Global, text: &[u8], word: Span, tokens: &'a [Token]) -> Read
 
 /// What stands behind the left parenthesis of a call.
 #[cycle(grammar)]
-#[tactic(auto, using(crate::proofs::Rulesets::argument_rules))]
 fn arguments<'a>(alloc: Global, text: &[u8], tokens: &'a [Token]) -> Read<'a, Vec<Raw>>
     ensures cases { Decides result (λ p. raws_of (plains text.now p.0.items))
         (λ p. tokens_in text.now p.1.now) IsArguments 5 (tokens_in text.now tokens.now) }

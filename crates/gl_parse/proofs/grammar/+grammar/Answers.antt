@@ -1,12 +1,14 @@
-use Rattle.std.proofs.Common.{◌∷◌, arith, ap, refl, subst, sym}
+use Rattle.std.proofs.Common.{[], ◌∷◌, ◌++◌, ◌∙◌, arith, ap, refl, subst, sym}
 use Rattle.std.proofs.lemmas.Grind.{common_steps}
 use Rattle.gl_language.specs.Grammar.{IsAtom, IsOperand}
 use Rattle.gl_language.specs.Token.{Word}
-use Rattle.gl_parse.specs.Raws.{letters, plains, raws_of}
-use Rattle.gl_parse.specs.Reading.{DecidesForm, DecidesLevel, operand_end}
+use Rattle.gl_lex.specs.View.{tokens_in}
+use Rattle.gl_ast.specs.View.{level_tree}
+use Rattle.gl_parse.specs.Raws.{letters, pairs, plains, raw_tree, raws_of}
+use Rattle.gl_parse.specs.Reading.{DecidesForm, DecidesLevel, SoFar, operand_end}
 use Rattle.gl_parse.proofs.Cuts.{cut, spent, as_other, in_front}
-use Rattle.gl_parse.proofs.Forms.{tree-Apply, tree-Bool, tree-Var, compare_is, neg_is, pairs_pushed}
-use Rattle.gl_parse.proofs.Rules.{expr_alone, expr_compared, expr_cut, expr_none, so_far_step, so_far_done, so_far_cut, chain_none, operand_cat, operand_cat_none, operand_sum, operand_sum_none, operand_prod, operand_prod_none, unary_minus, unary_minus_none, unary_atom, unary_atom_none, atom_truth, atom_variable, atom_word, atom_call, atom_call_none, atom_parens, atom_open, atom_parens_none, arguments_empty, arguments_done, arguments_none, arguments_cut, arguments_open}
+use Rattle.gl_parse.proofs.Forms.{tree-Apply, tree-Bool, tree-Var, compare_is, neg_is, pairs_pushed, plains_pushed}
+use Rattle.gl_parse.proofs.Rules.{expr_alone, expr_compared, expr_cut, expr_none, so_far_start, so_far_step, so_far_done, so_far_cut, chain_none, operand_cat, operand_cat_none, operand_sum, operand_sum_none, operand_prod, operand_prod_none, unary_minus, unary_minus_none, unary_atom, unary_atom_none, atom_truth, atom_variable, atom_word, atom_call, atom_call_none, atom_parens, atom_open, atom_parens_none, arguments_empty, arguments_start, arguments_step, arguments_done, arguments_none, arguments_cut, arguments_open}
 use Rattle.gl_parse.proofs.Rulesets.{atom_rules}
 use Rattle.gl_parse.proofs.grammar.+grammar.Goals as goal
 
@@ -15,6 +17,12 @@ expr-returns-in_default-clause-cases t c = expr_alone c.in_ok-first.ensures.case
 
 pub expr-returns-clause-cases : goal.expr-returns-clause-cases
 expr-returns-clause-cases t c = expr_compared c.in_ok-first.ensures.cases c.in-Some.ensures.cases c.in_ok-second.ensures.cases (compare_is _ _ _ _ _ _ c.in_ok-new.ensures.ok c.in_ok-new-2.ensures.ok)
+
+pub chain-loop-op-init : goal.chain-loop-op-init
+chain-loop-op-init t c = record {
+  so_far = subst (λ v. SoFar (level_tree c.args.level) (tokens_in c.args.text.now c.args.tokens.now) (raw_tree c.args.text.now c.in_ok-first.first) (pairs c.args.text.now v) (tokens_in c.args.text.now c.in_ok-first.rest.now)) (sym c.new-others.ensures.items) (so_far_start c.in_ok-first.ensures.cases);
+  shorter = c.in_ok-first.ensures.shrinks;
+}
 
 pub chain-loop-op-preserved : goal.chain-loop-op-preserved
 chain-loop-op-preserved t c = record {
@@ -30,6 +38,18 @@ unary-returns-clause-cases t c = unary_minus c.in_ok-inner.ensures.cases c.in-So
 
 pub arguments-returns-in-Some-clause-cases : goal.arguments-returns-in-Some-clause-cases
 arguments-returns-in-Some-clause-cases t c = arguments_empty c.in-Some.ensures.cases (ap (λ v. raws_of (plains c.args.text.now v)) c.new-all.ensures.items)
+
+pub arguments-loop-behind-init : goal.arguments-loop-behind-init
+arguments-loop-behind-init t c = record {
+  so_far = arguments_start c.in_default.ensures.cases c.in_ok-first.ensures.cases (plains_pushed _ _ _ _ c.in_ok-push.ensures.items ∙ ap (λ v. plains c.args.text.now v ++ raw_tree c.args.text.now c.in_ok-first.first ∷ []) c.new-all.ensures.items);
+  shorter = c.in_ok-first.ensures.shrinks;
+}
+
+pub arguments-loop-behind-preserved : goal.arguments-loop-behind-preserved
+arguments-loop-behind-preserved t c = record {
+  so_far = arguments_step c.loop-behind.invariant.so_far c.in-Some-after.ensures.cases c.in_ok-next.ensures.cases (plains_pushed _ _ _ _ c.in_ok-push-2.ensures.items);
+  shorter = omega (arith, c.in_ok-next.ensures.shrinks, c.in-Some-after.ensures.len);
+}
 
 pub arguments-returns-in-Some-after-2-clause-cases : goal.arguments-returns-in-Some-after-2-clause-cases
 arguments-returns-in-Some-after-2-clause-cases t c = arguments_done c.loop-behind.invariant.so_far c.in-Some-after-2.ensures.cases refl
