@@ -1,12 +1,13 @@
-use Rattle.std.proofs.Common.{[], ◌<◌, sym, subst, ◌∙◌}
+use Rattle.std.proofs.Common.{[], ◌<◌, ◌≤◌, ◌+◌, ◌^◌, ◌-◌, sym, subst, ap, arith, ◌∙◌}
 use Rattle.gl_query.specs.Laws.{IsQuiet}
+use Rattle.gl_query.specs.Costs.{settled}
 use Rattle.gl_query.specs.InOrder.{AreOrdered}
 use Rattle.gl_calculus.specs.Key.{same_key}
 use Rattle.gl_calculus.specs.Evaluation.{program}
 use Rattle.gl_ast.specs.View.{version_tree}
 use Rattle.gl_cells.specs.Sheet.{sheet}
 use Rattle.gl_core.specs.Held.{Held}
-use Rattle.gl_core.specs.State.{state_of, seeds_of, notes_in, is_noted}
+use Rattle.gl_core.specs.State.{state_of, seeds_of, notes_in, is_noted, IsFor}
 use Rattle.gl_core.specs.Answers.{AllowsKnown}
 use Rattle.gl_core.proofs.Ending.{run_begun, run_goes, run_ends, run_full, full_allows, run_quiet, run_few, run_allows}
 use Rattle.gl_core.proofs.machine.Core.run_all.Goals as goal
@@ -49,3 +50,85 @@ picks-preserved g c =
 
 pub returns-then-n-eq0-clause-ordered : goal.returns-then-n-eq0-clause-ordered
 returns-then-n-eq0-clause-ordered g c o = subst (λ (x : Held). AreOrdered [] (notes_in x)) (sym c.into_quiet.ensures) (c.picks.invariant.ordered o)
+
+pub into_quiet-requires : goal.into_quiet-requires
+into_quiet-requires g c = sym c.idle-n.ensures ∙ c.if-n-eq0.true
+
+pub returns-then-n-eq0-clause-seeds : goal.returns-then-n-eq0-clause-seeds
+returns-then-n-eq0-clause-seeds g c = ap seeds_of c.into_quiet.ensures ∙ c.picks.invariant.seeds
+
+pub returns-then-n-eq0-clause-stays : goal.returns-then-n-eq0-clause-stays
+returns-then-n-eq0-clause-stays g c = subst (IsFor (version_tree c.args.version) (sheet c.args.cells.now) c.args.w.now) (sym c.into_quiet.ensures) c.picks.invariant.for_it
+
+pub returns-then-n-eq0-clause-work : goal.returns-then-n-eq0-clause-work
+returns-then-n-eq0-clause-work g c = tt
+
+pub returns-then-n-eq0-clause-most_work : goal.returns-then-n-eq0-clause-most_work
+returns-then-n-eq0-clause-most_work g c = tt
+
+pub returns-then-n-eq0-clause-least : goal.returns-then-n-eq0-clause-least
+returns-then-n-eq0-clause-least g c =
+    subst (λ (x : Held). c.picks.steps < 2 ^ 64 - 1 → c.args.steps.now + settled (is_noted (notes_in c.args.self)) (state_of x) ≤ c.picks.steps + settled (is_noted (notes_in c.args.self)) (state_of c.args.self)) (sym c.into_quiet.ensures) c.picks.invariant.least
+
+pub next-i-requires-clause-rule : goal.next-i-requires-clause-rule
+next-i-requires-clause-rule g c = c.requires.rule
+
+pub next-i-requires-clause-kind : goal.next-i-requires-clause-kind
+next-i-requires-clause-kind g c = c.requires.kind
+
+pub next-i-requires-clause-some : goal.next-i-requires-clause-some
+next-i-requires-clause-some g c = omega (arith, c.if-n-eq0.false)
+
+pub pick-requires-clause-there : goal.pick-requires-clause-there
+pick-requires-clause-there g c = subst (λ x. c.next-i.result < x) c.idle-n.ensures c.next-i.ensures.below
+
+pub pick-requires-clause-for_it : goal.pick-requires-clause-for_it
+pick-requires-clause-for_it g c = c.picks.invariant.for_it
+
+pub returns-in_default-clause-quiet : goal.returns-in_default-clause-quiet
+returns-in_default-clause-quiet g c = tt
+
+pub returns-in_default-clause-seeds : goal.returns-in_default-clause-seeds
+returns-in_default-clause-seeds g c = tt
+
+pub returns-in_default-clause-stays : goal.returns-in_default-clause-stays
+returns-in_default-clause-stays g c = tt
+
+pub returns-in_default-clause-ordered : goal.returns-in_default-clause-ordered
+returns-in_default-clause-ordered g c = tt
+
+pub returns-in_default-clause-no_work : goal.returns-in_default-clause-no_work
+returns-in_default-clause-no_work g c = tt
+
+pub returns-in_default-clause-most : goal.returns-in_default-clause-most
+returns-in_default-clause-most g c = tt
+
+pub returns-in_default-clause-least : goal.returns-in_default-clause-least
+returns-in_default-clause-least g c = tt
+
+pub returns-in_default-clause-work : goal.returns-in_default-clause-work
+returns-in_default-clause-work g c = λ e. cc e
+
+pub returns-in_default-clause-most_work : goal.returns-in_default-clause-most_work
+returns-in_default-clause-most_work g c = λ e. cc e
+
+pub returns-then-is_full-clause-quiet : goal.returns-then-is_full-clause-quiet
+returns-then-is_full-clause-quiet g c = tt
+
+pub returns-then-is_full-clause-seeds : goal.returns-then-is_full-clause-seeds
+returns-then-is_full-clause-seeds g c = tt
+
+pub returns-then-is_full-clause-stays : goal.returns-then-is_full-clause-stays
+returns-then-is_full-clause-stays g c = tt
+
+pub returns-then-is_full-clause-ordered : goal.returns-then-is_full-clause-ordered
+returns-then-is_full-clause-ordered g c = tt
+
+pub returns-then-is_full-clause-no_work : goal.returns-then-is_full-clause-no_work
+returns-then-is_full-clause-no_work g c = tt
+
+pub returns-then-is_full-clause-most : goal.returns-then-is_full-clause-most
+returns-then-is_full-clause-most g c = tt
+
+pub returns-then-is_full-clause-least : goal.returns-then-is_full-clause-least
+returns-then-is_full-clause-least g c = tt
