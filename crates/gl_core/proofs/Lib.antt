@@ -4,6 +4,7 @@ pub mod Idle
 pub mod Wakes
 pub mod Places
 pub mod Tables
+pub mod Stays
 pub mod Numbered
 pub mod Notes
 pub mod Passed
