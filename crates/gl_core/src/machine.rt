@@ -19,10 +19,10 @@ ghost use Rattle.gl_memo.specs.Notes.{notes_of};
 ghost use Rattle.gl_demand.specs.{View.key_tree, Sound.AreSoundKeys, Marks.mark_trees};
 ghost use Rattle.gl_demand.specs.{Steps.AllowsDemanded, Evaluators.program_of};
 ghost use Rattle.gl_core.specs.State.{state_of, seeds_of, notes_in, note_trees, is_noted};
-ghost use Rattle.gl_core.specs.State.{noted_after, HaveSoundParts, IsFor};
+ghost use Rattle.gl_core.specs.State.{noted_after, HaveSoundParts, AreSoundNotes, IsFor};
 ghost use Rattle.gl_core.specs.Answers.{picked_tree, counted, AtMostCounted, AllowsKnown};
 ghost use Rattle.gl_core.specs.{Table.IsTable, Table.AreIdle, Table.IsCore, Table.held};
-ghost use Rattle.gl_core.specs.{Held.Held, Marks.TellNothing, Marks.coded_mark};
+ghost use Rattle.gl_core.specs.{Held.Held, Marks.TellNothing, Marks.coded_mark, Started.IsStarted};
 
 use crate::answers::{CoreFault, Picked};
 use crate::converting::ledger_of;
@@ -139,13 +139,28 @@ impl Core {
         ensures for_it { IfOk result (λ core.
             IsFor (version_tree version) (sheet cells.now) w.now core) }
     {
-        let mut ledger = ledger_of(alloc, &kept)?;
-        let count = seeds.len();
-        let seeds = ledger.numbers(alloc, &seeds)?;
-        let entries = seeded(alloc, &seeds)?;
+        Core::started(alloc, &seeds, &kept)
+    }
+
+    /// The seeds, all idle, with the notes of a table.
+    fn started(
+        alloc: Global,
+        seeds: &[Key],
+        notes: &Memo<Key, Outcome, Range>,
+    ) -> Result<Core, NoMemory>
+        requires few { length seeds.now ≤ max_demanded }
+        requires apart { AreDistinct (map key_tree seeds.now) }
+        requires sound_seeds { AreSoundKeys (map key_tree seeds.now) }
+        requires sound_notes { AreSoundNotes (note_trees (notes_of notes.now)) }
+        ensures { IfOk result
+            (IsStarted (map key_tree seeds.now) (note_trees (notes_of notes.now))) }
+    {
+        let mut ledger = ledger_of(alloc, notes)?;
+        let numbers = ledger.numbers(alloc, seeds)?;
+        let entries = seeded(alloc, &numbers)?;
         Ok(Core {
             entries,
-            seeds: count,
+            seeds: seeds.len(),
             ledger,
         })
     }
