@@ -28,3 +28,5 @@ pub mod FirstReads
 pub mod Overridden
 pub mod Filled
 pub mod Outlines
+pub mod Cells
+pub mod Arities
