@@ -1,4 +1,4 @@
-use Rattle.std.proofs.Common.{inr, subst}
+use Rattle.std.proofs.Common.{rules, inl, inr, refl, subst}
 use Rattle.gl_query.specs.Machine.{at, table}
 use Rattle.gl_calculus.specs.Key.{same_key}
 use Rattle.gl_calculus.specs.Evaluation.{program}
@@ -12,7 +12,7 @@ use Rattle.gl_core.specs.Ledger.{written}
 use Rattle.gl_demand.specs.Marks.{mark_trees}
 use Rattle.gl_core.specs.Table.{table_of}
 use Rattle.gl_core.proofs.Places.{on_ok, if_ok}
-use Rattle.gl_core.proofs.Turns.{on_err}
+use Rattle.gl_core.proofs.Turns.{on_err, any_err}
 use Rattle.gl_core.proofs.Marking.{mark_there, mark_turn, mark_answer, mark_moved, needs_not_resolved}
 use Rattle.gl_core.proofs.picking.pick_unnoted.Goals as goal
 
@@ -51,3 +51,42 @@ returns-in-Some-clause-evaluated g c =
 
 pub returns-in-None-clause-counted : goal.returns-in-None-clause-counted
 returns-in-None-clause-counted g c = inr c.go_by_step.ensures.counted
+
+pub next_need-requires-clause-core : goal.next_need-requires-clause-core
+next_need-requires-clause-core g c = c.requires.pickable.place.core
+
+pub next_need-requires-clause-there : goal.next_need-requires-clause-there
+next_need-requires-clause-there g c = c.requires.pickable.place.there
+
+pub go_by_mark-requires-clause-place : goal.go_by_mark-requires-clause-place
+go_by_mark-requires-clause-place g c = c.requires.pickable.place
+
+pub go_by_step-requires-clause-pickable : goal.go_by_step-requires-clause-pickable
+go_by_step-requires-clause-pickable g c = c.requires.pickable
+
+pub go_by_step-requires-clause-new : goal.go_by_step-requires-clause-new
+go_by_step-requires-clause-new g c = c.requires.new
+
+pub returns-in_err-next-clause-picked : goal.returns-in_err-next-clause-picked
+returns-in_err-next-clause-picked g c =
+    let r = c.from_residual.result in
+    record {
+      state = search rules;
+      answer = search rules;
+      err = any_err r (refl, refl);
+      core = c.requires.pickable.place.core;
+      marks = search rules;
+      marks_err = any_err r refl;
+    }
+
+pub returns-in_err-next-clause-counted : goal.returns-in_err-next-clause-counted
+returns-in_err-next-clause-counted g c = inl refl
+
+pub returns-in_err-next-clause-evaluated : goal.returns-in_err-next-clause-evaluated
+returns-in_err-next-clause-evaluated g c = search rules
+
+pub returns-in-Some-clause-counted : goal.returns-in-Some-clause-counted
+returns-in-Some-clause-counted g c = inl refl
+
+pub returns-in-None-clause-picked : goal.returns-in-None-clause-picked
+returns-in-None-clause-picked g c = c.go_by_step.ensures.picked
