@@ -1,11 +1,13 @@
 //! Keys by numbers.
-ghost use Rattle.std.specs.Prelude.{◌≡◌, ◌<◌, ◌^◌, [], Some, None, IsTrue, List, length, slice_get};
+ghost use Rattle.std.specs.Prelude.{◌≡◌, ◌<◌, ◌^◌, ◌⊎◌, [], Some, None, IsTrue, List, length};
+ghost use Rattle.std.specs.Prelude.{slice_get, OnErr, IfOk};
+ghost use Rattle.gl_query.specs.Lists.{Member};
 ghost use Rattle.std.specs.Coded.{codes};
 ghost use Rattle.gl_calculus.specs.{Codes.coded_key, Sound.is_sound_key};
 ghost use Rattle.gl_calculus.specs.Key as K;
 ghost use Rattle.gl_intern.specs.Numbered.{seconds};
 ghost use Rattle.gl_demand.specs.View.{key_tree};
-ghost use Rattle.gl_core.specs.Numbers.{IsNumber, AreBooked, GetsNumber};
+ghost use Rattle.gl_core.specs.Numbers.{IsNumber, AreBooked, GetsNumber, Grows};
 ghost use Rattle.gl_core.specs.{Shorts.key_pairs, Shorts.IsShort, Words.HasWords, Words.key_word};
 
 use crate::guesses::{
@@ -58,6 +60,31 @@ impl Model for Book {
 
     ghost invariant = { λ b. IsShort b.interner (key_pairs b.keys.entries)
         × HasWords b.guesses.entries (seconds (key_pairs b.keys.entries)) };
+}
+
+/// The place of a key, by what frames are remembered. The number of its frame is remembered too.
+fn place_anew(
+    interner: &mut Interner,
+    keys: &mut IndexMap<Short, Key>,
+    frames: &mut IndexMap<u64, u32>,
+    key: Key,
+) -> Result<u32, NoMemory>
+    requires short { IsShort interner.old (key_pairs keys.old.entries) }
+    requires sound { IsTrue (is_sound_key (key_tree key)) }
+    ensures short { IsShort interner.new (key_pairs keys.new.entries) }
+    ensures number { IfOk result
+        (λ n. slice_get (seconds (key_pairs keys.new.entries)) n ≡ Some (key_tree key)) }
+    ensures grows { Grows (seconds (key_pairs keys.old.entries))
+        (seconds (key_pairs keys.new.entries)) }
+    ensures members { (k : K.Key) → Member k (seconds (key_pairs keys.new.entries))
+        → Member k (seconds (key_pairs keys.old.entries)) ⊎ (k ≡ key_tree key) }
+    ensures err { OnErr result (keys.new.entries ≡ keys.old.entries) }
+{
+    let frame = own_word(&key);
+    let parent = guessed_parent(frames, &key);
+    let n = place_key(interner, keys, key, parent)?;
+    remember_frame(frames, frame, frame_of(keys, n));
+    Ok(n)
 }
 
 impl Book {
@@ -179,11 +206,8 @@ impl Book {
     {
         let next = self.keys.len() as u32;
         remember(&mut self.guesses, word, next)?;
-        let frame = own_word(&key);
-        let parent = guessed_parent(&self.frames, &key);
-        let n = place_key(&mut self.interner, &mut self.keys, key, parent)?;
+        let n = place_anew(&mut self.interner, &mut self.keys, &mut self.frames, key)?;
         replace(&mut self.guesses, word, n);
-        remember_frame(&mut self.frames, frame, frame_of(&self.keys, n));
         Ok(n)
     }
 

@@ -15,17 +15,17 @@ invariant_of-self-in_err-n c =
     let ks = seconds (key_pairs c.self.inside.keys.entries) in
     let k = key_tree c.args.key in
     let before = words_stay c.self.inside.guesses.entries es ks c.remember.ensures.keeps c.self.invariant.1 in
-    (c.place_key.ensures.short, words_of_more es ks (seconds (key_pairs c.place_key.new.keys.entries)) k (this_word es k c.args.word c.requires.word c.in_ok-remember.ensures.has) c.place_key.ensures.members before)
+    (c.place_anew.ensures.short, words_of_more es ks (seconds (key_pairs c.place_anew.new.keys.entries)) k (this_word es k c.args.word c.requires.word c.in_ok-remember.ensures.has) c.place_anew.ensures.members before)
 
 pub invariant_of-self-2 : goal.invariant_of-self-2
 invariant_of-self-2 c =
     let es = c.remember.new.guesses.entries in
     let ks = seconds (key_pairs c.self.inside.keys.entries) in
-    let js = seconds (key_pairs c.place_key.new.keys.entries) in
+    let js = seconds (key_pairs c.place_anew.new.keys.entries) in
     let k = key_tree c.args.key in
     let before = words_stay c.self.inside.guesses.entries es ks c.remember.ensures.keeps c.self.invariant.1 in
-    let placed = words_of_more es ks js k (this_word es k c.args.word c.requires.word c.in_ok-remember.ensures.has) c.place_key.ensures.members before in
-    (c.place_key.ensures.short, words_stay es c.replace.new.guesses.entries js c.replace.ensures.keeps placed)
+    let placed = words_of_more es ks js k (this_word es k c.args.word c.requires.word c.in_ok-remember.ensures.has) c.place_anew.ensures.members before in
+    (c.place_anew.ensures.short, words_stay es c.replace.new.guesses.entries js c.replace.ensures.keeps placed)
 
 pub overflow_cast-next : goal.overflow_cast-next
 overflow_cast-next c = grind (arith, common_steps)
