@@ -1,4 +1,5 @@
 // The tests, a file for each concept.
+mod asserts;
 mod cells;
 mod csvin;
 mod script;

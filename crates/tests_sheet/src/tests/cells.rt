@@ -3,10 +3,12 @@ ghost use Rattle.std.specs.Prelude.{IfOk};
 ghost use Rattle.gl_language.specs.Content.{IsProperContent};
 ghost use Rattle.gl_cells.specs.Content.{content_tree};
 
+use crate::tests::asserts::assert_count;
 use gl_cells::{Cells, Content, MAX_CONTENTS, MAX_FORMULAS, PutFault, plain_scalar};
 use gl_plane::{Addr, Range, whole_grid};
 use gl_value::Scalar;
 use std::alloc::Global;
+use std::process::Abort;
 use std::test::Fail;
 use tests_common::{address, content_of, each_is_read, range, scalar_text};
 
@@ -70,38 +72,55 @@ fn is_walked(cells: &Cells, column: &Range, col: u16) -> Result<bool, Fail> {
     Ok(cells.next_in(column, after).is_none())
 }
 
+/// The sheet has so many contents, and so many formulas among them.
+fn assert_counts(rt: &impl Abort, cells: &Cells, contents: usize, formulas: usize) {
+    assert_count(rt, cells.contents() as usize, contents);
+    assert_count(rt, cells.formulas() as usize, formulas);
+}
+
+fn assert_cleared(rt: &impl Abort, cells: &mut Cells, region: &Range, count: usize) {
+    assert_count(rt, cells.clear(region) as usize, count);
+}
+
 #[test]
 fn a_full_sheet_is_walked_and_cleared(rt: HostRuntime) -> Result<(), Fail> {
-    let mut cells = full(rt.alloc())?;
     let column = range("G1:G9999")?;
+    let beside = range("H1:H9999")?;
+    let mut cells = full(rt.alloc())?;
     assert!(rt; is_walked(&cells, &column, 7)?);
-    assert_eq!(rt; cells.next_in(&range("H1:H9999")?, None), None);
-    assert_eq!(rt; cells.clear(&column), 9362);
-    assert_eq!(rt; cells.clear(&whole_grid()) as usize, MAX_CONTENTS - 9362);
-    assert_eq!(rt; (cells.contents(), cells.formulas()), (0, 0));
+    assert!(rt; cells.next_in(&beside, None).is_none());
+    assert_cleared(&rt, &mut cells, &column, 9362);
+    assert_cleared(&rt, &mut cells, &whole_grid(), MAX_CONTENTS - 9362);
+    assert_counts(&rt, &cells, 0, 0);
     Ok(())
+}
+
+/// The sheet refuses the content.
+fn assert_refused(rt: &impl Abort, cells: &mut Cells, a: Addr, content: Content, want: PutFault)
+    requires { IsProperContent (content_tree content) }
+{
+    assert_eq!(rt; cells.put(a, content), Err(want));
 }
 
 #[test]
 fn a_full_sheet_refuses_one_more(rt: HostRuntime) -> Result<(), Fail> {
-    let mut cells = full(rt.alloc())?;
     let next = address("H1")?;
-    assert_eq!(rt;
-        cells.put(next, formula(rt.alloc())?),
-        Err(PutFault::Formulas)
-    );
-    assert_eq!(rt; cells.put(next, number(7)), Err(PutFault::Contents));
-    assert_eq!(rt; cells.contents() as usize, MAX_CONTENTS);
-    assert_eq!(rt; cells.formulas() as usize, MAX_FORMULAS);
+    let one = formula(rt.alloc())?;
+    let mut cells = full(rt.alloc())?;
+    assert_refused(&rt, &mut cells, next, one, PutFault::Formulas);
+    assert_refused(&rt, &mut cells, next, number(7), PutFault::Contents);
+    assert_counts(&rt, &cells, MAX_CONTENTS, MAX_FORMULAS);
     assert!(rt; cells.content(next).is_none());
     Ok(())
 }
 
 /// Puts numbers at two addresses at once.
 fn put_two(alloc: Global, cells: &mut Cells, a: &str, b: &str) -> Result<bool, Fail> {
+    let a = address(a)?;
+    let b = address(b)?;
     let mut list = Vec::new(alloc);
-    list.push((address(a)?, number(5)))?;
-    list.push((address(b)?, number(6)))?;
+    list.push((a, number(5)))?;
+    list.push((b, number(6)))?;
     match cells.put_all(alloc, list) {
         Ok(()) => Ok(true),
         Err(PutFault::Contents) => Ok(false),
@@ -119,12 +138,13 @@ fn has_number(cells: &Cells, a: &str, n: i64) -> Result<bool, Fail> {
 
 #[test]
 fn a_full_sheet_refuses_several(rt: HostRuntime) -> Result<(), Fail> {
+    let first = address("A1")?;
+    let next = address("H1")?;
     let mut cells = full(rt.alloc())?;
     assert!(rt; !put_two(rt.alloc(), &mut cells, "A1", "H1")?);
-    assert_eq!(rt; cells.contents() as usize, MAX_CONTENTS);
-    assert_eq!(rt; cells.formulas() as usize, MAX_FORMULAS);
-    assert!(rt; matches!(cells.content(address("A1")?), Some(Content::Form(_))));
-    assert!(rt; cells.content(address("H1")?).is_none());
+    assert_counts(&rt, &cells, MAX_CONTENTS, MAX_FORMULAS);
+    assert!(rt; matches!(cells.content(first), Some(Content::Form(_))));
+    assert!(rt; cells.content(next).is_none());
     Ok(())
 }
 
@@ -132,7 +152,7 @@ fn a_full_sheet_refuses_several(rt: HostRuntime) -> Result<(), Fail> {
 fn several_at_once(rt: HostRuntime) -> Result<(), Fail> {
     let mut cells = Cells::new(rt.alloc());
     assert!(rt; put_two(rt.alloc(), &mut cells, "B1", "A1")?);
-    assert_eq!(rt; cells.contents(), 2);
+    assert_count(&rt, cells.contents() as usize, 2);
     assert!(rt; has_number(&cells, "B1", 5)? && has_number(&cells, "A1", 6)?);
     Ok(())
 }

@@ -1,4 +1,5 @@
 //! Payloads as contents of B2 and on: each with its address, as a cell shows it.
+use crate::tests::asserts::assert_count;
 use gl_ast::put_address;
 use gl_cells::Content;
 use gl_csvin::contents;
@@ -8,6 +9,15 @@ use std::alloc::Global;
 use std::test::Fail;
 use tests_common::{address, each_is_read};
 
+/// A content as a cell shows it, behind its address.
+fn push_content(alloc: Global, out: &mut String, a: Addr, content: &Content) -> Result<(), Fail> {
+    put_address(alloc, out, a)?;
+    out.push(' ')?;
+    let shown = content_text(alloc, content)?;
+    out.push_str(shown.as_str())?;
+    Ok(())
+}
+
 /// The contents of a payload, with `; ` between them.
 fn told(alloc: Global, payload: &str) -> Result<String, Fail> {
     let found: Vec<(Addr, Content)> = contents(alloc, payload.as_bytes(), address("B2")?)?;
@@ -16,9 +26,7 @@ fn told(alloc: Global, payload: &str) -> Result<String, Fail> {
         if !out.is_empty() {
             out.push_str("; ")?;
         }
-        put_address(alloc, &mut out, *a)?;
-        out.push(' ')?;
-        out.push_str(content_text(alloc, content)?.as_str())?;
+        push_content(alloc, &mut out, *a, content)?;
     }
     Ok(out)
 }
@@ -79,15 +87,22 @@ fn push_line(payload: &mut Vec<u8>, byte: u8, count: u32) -> Result<(), Fail> {
     Ok(())
 }
 
+/// So many records of one field, each of 256 bytes.
+fn records(alloc: Global, count: u32) -> Result<Vec<u8>, Fail> {
+    let mut payload = Vec::new(alloc);
+    for _ in 0..count {
+        push_line(&mut payload, b'a', 255)?;
+    }
+    Ok(payload)
+}
+
 /// 1,048,576 bytes, the most that an import takes, in 4,096 records of one field.
 #[test]
 fn the_longest_payload(rt: HostRuntime) -> Result<(), Fail> {
-    let mut payload = Vec::new(rt.alloc());
-    for _ in 0..4096u32 {
-        push_line(&mut payload, b'a', 255)?;
-    }
-    assert_eq!(rt; payload.len(), 1_048_576);
-    let found = contents(rt.alloc(), payload.as_slice(), address("B2")?)?;
-    assert_eq!(rt; found.len(), 4096);
+    let first = address("B2")?;
+    let payload = records(rt.alloc(), 4096)?;
+    assert_count(&rt, payload.len(), 1_048_576);
+    let found = contents(rt.alloc(), payload.as_slice(), first)?;
+    assert_count(&rt, found.len(), 4096);
     Ok(())
 }

@@ -1,4 +1,5 @@
 //! Scripts as lines and payloads, and lines as requests.
+use crate::tests::asserts::assert_text;
 use gl_cells::Content;
 use gl_plane::NoMemory;
 use gl_script::{CommandFault, Ended, Event, Feed, Framer, Request, command};
@@ -308,9 +309,9 @@ fn no_addresses(rt: HostRuntime) {
 
 #[test]
 fn bytes_that_are_no_text(rt: HostRuntime) {
-    assert_eq!(rt; told(rt.alloc(), b"show \xff"), "error utf8");
-    assert_eq!(rt; told(rt.alloc(), b"foo\xff"), "error utf8");
-    assert_eq!(rt; told(rt.alloc(), b";\xff"), "");
+    assert_text(&rt, told(rt.alloc(), b"show \xff"), "error utf8");
+    assert_text(&rt, told(rt.alloc(), b"foo\xff"), "error utf8");
+    assert_text(&rt, told(rt.alloc(), b";\xff"), "");
 }
 
 #[test]
@@ -370,7 +371,9 @@ fn told_between(
 }
 
 /// A piece so many times between a beginning and an end, and what is told of the line.
-const LONG_LINES: &[(&str, &str, u32, &str, &str)] = &[
+type Long = (&'static str, &'static str, u32, &'static str, &'static str);
+
+const LONG_LINES: &[Long] = &[
     ("set A1 ", "a", 4096, "", "set text"),
     ("set A1 ", "a", 4097, "", "error field"),
     ("set A1 -", "0", 5000, "7", "set number"),
@@ -383,11 +386,22 @@ const LONG_LINES: &[(&str, &str, u32, &str, &str)] = &[
     (";", "x", 32767, "", ""),
 ];
 
+/// Of the row's line is told what the row says.
+fn holds(alloc: Global, row: &Long) -> Result<bool, Fail> {
+    let (start, piece, count, end, want) = row;
+    Ok(told_between(alloc, start, piece, *count, end)? == *want)
+}
+
 #[test]
 fn long_lines(rt: HostRuntime) -> Result<(), Fail> {
-    for (start, piece, count, end, want) in LONG_LINES {
-        let found = told_between(rt.alloc(), start, piece, *count, end)?;
-        assert!(rt; found == *want, "{start} and {count} {piece}");
+    for row in LONG_LINES {
+        assert!(rt;
+            holds(rt.alloc(), row)?,
+            "{} and {} {}",
+            row.0,
+            row.2,
+            row.1
+        );
     }
     Ok(())
 }
@@ -403,8 +417,16 @@ fn told_within(alloc: Global, count: u32) -> Result<&'static str, Fail> {
 
 #[test]
 fn nested_parentheses(rt: HostRuntime) -> Result<(), Fail> {
-    assert_eq!(rt; told_within(rt.alloc(), 64)?, "set formula");
-    assert_eq!(rt; told_within(rt.alloc(), 65)?, "deep");
+    assert_text(&rt, told_within(rt.alloc(), 64)?, "set formula");
+    assert_text(&rt, told_within(rt.alloc(), 65)?, "deep");
+    Ok(())
+}
+
+fn push_end(ends: &mut Vec<Ended>, ended: Ended) -> Result<(), NoMemory> {
+    match ended {
+        Ended::Nothing => {}
+        ended => ends.push(ended)?,
+    }
     Ok(())
 }
 
@@ -413,15 +435,9 @@ fn ends_of(alloc: Global, script: &[u8]) -> Result<Vec<Ended>, NoMemory> {
     let mut framer = Framer::new(alloc);
     let mut ends = Vec::new(alloc);
     for b in script {
-        match framer.push(*b)? {
-            Ended::Nothing => {}
-            ended => ends.push(ended)?,
-        }
+        push_end(&mut ends, framer.push(*b)?)?;
     }
-    match framer.finish()? {
-        Ended::Nothing => {}
-        ended => ends.push(ended)?,
-    }
+    push_end(&mut ends, framer.finish()?)?;
     Ok(ends)
 }
 
@@ -441,25 +457,37 @@ const FRAMED: &[(&[u8], &[Ended])] = &[
     (b"import A1 1048577\nx", &[Ended::Line, Ended::Line]),
 ];
 
+fn assert_ends(rt: &impl Abort, found: &[Ended], want: &[Ended]) {
+    assert_eq!(rt; found, want);
+}
+
 #[test]
 fn scripts_are_framed(rt: HostRuntime) -> Result<(), Fail> {
     for (script, expected) in FRAMED {
-        let ends = ends_of(rt.alloc(), script)?;
-        assert_eq!(rt; ends.as_slice(), *expected);
+        assert_ends(&rt, ends_of(rt.alloc(), script)?.as_slice(), expected);
     }
     Ok(())
+}
+
+/// The feed takes a byte, and tells this event.
+fn assert_taken(rt: &impl Abort, feed: &mut Feed, byte: u8, want: Event) {
+    assert_eq!(rt; feed.push(byte), Ok(want));
+}
+
+fn assert_piece(rt: &impl Abort, feed: &Feed, want: &[u8]) {
+    assert_eq!(rt; feed.piece(), want);
 }
 
 #[test]
 fn a_feed_takes_a_payload(rt: HostRuntime) -> Result<(), Fail> {
     let mut feed = Feed::new(rt.alloc());
-    assert_eq!(rt; feed.push(b'x'), Ok(Event::More));
+    assert_taken(&rt, &mut feed, b'x', Event::More);
     assert_eq!(rt; feed.push(b'\n'), Ok(Event::Line));
-    assert_eq!(rt; feed.piece(), b"x".as_slice());
+    assert_piece(&rt, &feed, b"x");
     feed.expect(2)?;
-    assert_eq!(rt; feed.push(b'\n'), Ok(Event::More));
-    assert_eq!(rt; feed.push(b'y'), Ok(Event::Payload));
-    assert_eq!(rt; feed.piece(), b"\ny".as_slice());
+    assert_taken(&rt, &mut feed, b'\n', Event::More);
+    assert_taken(&rt, &mut feed, b'y', Event::Payload);
+    assert_piece(&rt, &feed, b"\ny");
     assert_eq!(rt; feed.finish(), Event::More);
     Ok(())
 }
