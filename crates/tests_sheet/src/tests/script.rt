@@ -457,14 +457,15 @@ const FRAMED: &[(&[u8], &[Ended])] = &[
     (b"import A1 1048577\nx", &[Ended::Line, Ended::Line]),
 ];
 
-fn assert_ends(rt: &impl Abort, found: &[Ended], want: &[Ended]) {
-    assert_eq!(rt; found, want);
+/// The lines and payloads of the script end so.
+fn end_so(alloc: Global, script: &[u8], want: &[Ended]) -> Result<bool, NoMemory> {
+    Ok(ends_of(alloc, script)?.as_slice() == want)
 }
 
 #[test]
 fn scripts_are_framed(rt: HostRuntime) -> Result<(), Fail> {
-    for (script, expected) in FRAMED {
-        assert_ends(&rt, ends_of(rt.alloc(), script)?.as_slice(), expected);
+    for (script, want) in FRAMED {
+        assert!(rt; end_so(rt.alloc(), script, want)?, "{script:?}");
     }
     Ok(())
 }
