@@ -5,7 +5,6 @@ mod addresses;
 mod columns;
 mod frames;
 mod scalars;
-mod settings;
 mod sheets;
 mod tables;
 mod texts;
@@ -17,7 +16,6 @@ pub use frames::{
     with_number,
 };
 pub use scalars::{copy, number, scalar, text};
-pub use settings::{Setting, setting_of};
 pub use sheets::{content_of, put_line, sheet_of};
 pub use tables::each_is_read;
 pub use texts::{formula_word, push_times, scalar_text, value_text};

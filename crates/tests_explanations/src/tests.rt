@@ -1,8 +1,8 @@
 // The tests, a file for each concept.
+mod certificates;
 mod chains;
 mod changes;
 mod large;
 mod others;
 mod parts;
-mod settings;
 mod shows;

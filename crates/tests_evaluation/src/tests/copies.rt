@@ -1,13 +1,13 @@
 //! What cells come to, many of them through copies.
-use crate::tests::texts::found_text;
+use crate::tests::texts::is_written;
 use crate::tests::turns::{cell, first_turn, last_turn};
 use gl_ast::Version;
-use gl_demand::Found;
+use gl_demand::Evaluator;
 use gl_plane::Oracle;
 use std::alloc::Global;
 use std::process::Abort;
 use std::test::Fail;
-use tests_common::{Setting, sheet_of};
+use tests_common::sheet_of;
 
 /// A cell, what its first evaluation finds, and what its last one does.
 type End = (&'static str, &'static str, &'static str);
@@ -71,21 +71,16 @@ const IN_TWO: &[End] = &[
     ("A4", "1", "1"),
 ];
 
-/// What was found is written so.
-fn is_written(alloc: Global, found: &Found, text: &str) -> Result<bool, Fail> {
-    Ok(found_text(alloc, found)?.as_str() == text)
-}
-
 /// The last evaluation of a cell finds this, where `cycle` is none.
-fn ends_last(at: Setting<'_>, name: &str, last: &str) -> Result<bool, Fail> {
+fn ends_last(at: &Evaluator<'_>, name: &str, last: &str) -> Result<bool, Fail> {
     match last_turn(at, name)? {
-        Some(turn) => is_written(at.alloc, &turn.found, last),
+        Some(turn) => Ok(is_written(at.alloc, &turn.found, last)?),
         None => Ok(last == "cycle"),
     }
 }
 
 /// The first evaluation of a cell finds this, and the last one that, where `cycle` is none.
-fn ends(at: Setting<'_>, name: &str, first: &str, last: &str) -> Result<bool, Fail> {
+fn ends(at: &Evaluator<'_>, name: &str, first: &str, last: &str) -> Result<bool, Fail> {
     let starts = is_written(at.alloc, &first_turn(at, &cell(name)?)?.found, first)?;
     Ok(starts && ends_last(at, name, last)?)
 }
@@ -94,14 +89,14 @@ fn ends(at: Setting<'_>, name: &str, first: &str, last: &str) -> Result<bool, Fa
 fn holds(alloc: Global, version: Version, lines: &[&str], all: &[End]) -> Result<bool, Fail> {
     let cells = sheet_of(alloc, lines)?;
     let w = Oracle::new(alloc);
-    let at = Setting {
+    let at = Evaluator {
         alloc,
         cells: &cells,
-        w: &w,
+        oracle: &w,
         version,
     };
     for (name, first, last) in all {
-        if !ends(at, name, first, last)? {
+        if !ends(&at, name, first, last)? {
             return Ok(false);
         }
     }

@@ -4,13 +4,13 @@ ghost use Rattle.gl_calculus.specs.Sound.{is_sound_value};
 ghost use Rattle.gl_value.specs.View.{value_tree};
 
 use crate::tests::table::Table;
-use crate::tests::turns::{cell, first_turn, turn};
+use crate::tests::turns::{cell, evaluator_of, first_turn, turn};
 use gl_demand::{Found, Key, Outcome, Steps, Turn, Watch, shown, spilled};
 use gl_plane::{Oracle, Permit, Share};
 use gl_value::Value;
 use std::alloc::Global;
 use std::test::Fail;
-use tests_common::{scalar_text, setting_of, sheet_of};
+use tests_common::{scalar_text, sheet_of};
 
 /// How often the wanted key was seen, and how often another.
 #[derive(Drop)]
@@ -46,11 +46,11 @@ impl Watch for Sights {
 fn seen_of(alloc: Global, names: &[&str]) -> Result<(u64, u64, u64), Fail> {
     let cells = sheet_of(alloc, &["set A1 =1+B1", "set B1 =2"])?;
     let w = Oracle::new(alloc);
-    let at = setting_of(alloc, &cells, &w);
+    let at = evaluator_of(alloc, &cells, &w);
     let mut steps = Steps::new(Sights::new(cell("A1")?));
     let table = Table::new(alloc);
     for name in names {
-        turn(at, &cell(name)?, &table, &mut steps)?;
+        turn(&at, &cell(name)?, &table, &mut steps)?;
     }
     let seen = steps.watch();
     Ok((steps.done(), seen.wanted_seen, seen.others_seen))
@@ -86,8 +86,8 @@ fn value_in(found: &Found) -> Option<&Value>
 fn array(alloc: Global) -> Result<Found, Fail> {
     let cells = sheet_of(alloc, &["set A1 =SEQUENCE(2,3)"])?;
     let w = Oracle::new(alloc);
-    let at = setting_of(alloc, &cells, &w);
-    let Turn { found, .. } = first_turn(at, &cell("A1")?.share()?)?;
+    let at = evaluator_of(alloc, &cells, &w);
+    let Turn { found, .. } = first_turn(&at, &cell("A1")?.share()?)?;
     Ok(found)
 }
 

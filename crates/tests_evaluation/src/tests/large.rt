@@ -2,12 +2,13 @@
 ghost use Rattle.std.specs.Prelude.{◌≤◌};
 
 use crate::tests::runs::{Sight, counts};
+use crate::tests::turns::evaluator_of;
 use gl_cells::Cells;
 use gl_core::MAX_DEMANDED;
 use gl_plane::Oracle;
 use std::alloc::Global;
 use std::test::Fail;
-use tests_common::{Form, first_column, setting_of, sheet_of, sheet_with};
+use tests_common::{Form, first_column, sheet_of, sheet_with};
 
 /// A chain of 5,000 formulas whose last one goes on with the first of a copy, through 39 copies.
 pub fn chain(alloc: Global) -> Result<Cells, Fail> {
@@ -25,7 +26,7 @@ fn chain_counts(alloc: Global, kind: u8) -> Result<(u64, u64, Sight), Fail>
 {
     let w = Oracle::new(alloc);
     let cells = chain(alloc)?;
-    counts(&setting_of(alloc, &cells, &w), &["A1"], "A1", kind)
+    counts(&evaluator_of(alloc, &cells, &w), &["A1"], "A1", kind)
 }
 
 /// A cell of the sheet or a copy each, and the settling of each copy; all but the last cell take two
@@ -64,7 +65,7 @@ fn many_keys(rt: HostRuntime) -> Result<(), Fail> {
     assert_eq!(rt; MAX_DEMANDED, 500_000);
     let w = Oracle::new(rt.alloc());
     let cells = sheet_of(rt.alloc(), TREE)?;
-    let at = setting_of(rt.alloc(), &cells, &w);
+    let at = evaluator_of(rt.alloc(), &cells, &w);
     assert_eq!(rt;
         counts(&at, &["B1", "C1", "D1", "E1"], "B1", 2)?,
         (200_000, 399_996, Sight::Number(50_000))

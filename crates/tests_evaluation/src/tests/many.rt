@@ -1,20 +1,21 @@
 //! Results of many keys, which stay, go and are given back.
 ghost use Rattle.std.specs.Prelude.{◌≤◌, IfOk};
 ghost use Rattle.gl_query.specs.Remembered.{AreTrue};
-ghost use Rattle.gl_calculus.specs.{Key.same_key, Evaluation.program};
-ghost use Rattle.gl_ast.specs.View.{version_tree};
-ghost use Rattle.gl_cells.specs.Sheet.{sheet};
+ghost use Rattle.gl_calculus.specs.Key.{same_key};
+ghost use Rattle.gl_demand.specs.Evaluators.{program_of};
 
 use crate::tests::large::chain;
 use crate::tests::results::kept_after;
 use crate::tests::resumed::{by_results, run_with};
 use crate::tests::runs::Sight;
+use crate::tests::turns::evaluator_of;
 use gl_cells::Cells;
 use gl_core::Results;
+use gl_demand::Evaluator;
 use gl_plane::Oracle;
 use std::alloc::Global;
 use std::test::Fail;
-use tests_common::{Form, Setting, first_column, setting_of, sheet_with};
+use tests_common::{Form, first_column, sheet_with};
 
 /// A formula in each row of the first column and one more below them, and their total.
 fn total(alloc: Global) -> Result<Cells, Fail> {
@@ -28,7 +29,7 @@ const TOTAL: Sight = Sight::Number(50_005_000);
 
 /// Runs from the total alone, and from both ends of what it reads, go by the results alone, and leave
 /// so many of them. The note of the total wakes it behind each of its 10,000 reads.
-fn left_by_notes(at: &Setting<'_>, kind: u8) -> Result<usize, Fail>
+fn left_by_notes(at: &Evaluator<'_>, kind: u8) -> Result<usize, Fail>
     requires { kind ≤ 2 }
 {
     // from the last key to the first, so that the total finds all that it needs: each formula twice,
@@ -46,7 +47,7 @@ fn left_by_notes(at: &Setting<'_>, kind: u8) -> Result<usize, Fail>
 fn left_by_each(alloc: Global) -> Result<[usize; 3], Fail> {
     let w = Oracle::new(alloc);
     let cells = total(alloc)?;
-    let at = setting_of(alloc, &cells, &w);
+    let at = evaluator_of(alloc, &cells, &w);
     Ok([
         left_by_notes(&at, 0)?,
         left_by_notes(&at, 1)?,
@@ -67,13 +68,10 @@ const LAST: Sight = Sight::Number(200_000);
 const APART: &str = "D1:E9999";
 
 /// The results of the chain behind a run by the rule of a kind where nothing of it has changed.
-fn chain_again(at: &Setting<'_>, results: Results, kind: u8) -> Result<Results, Fail>
+fn chain_again(at: &Evaluator<'_>, results: Results, kind: u8) -> Result<Results, Fail>
     requires kind { kind ≤ 2 }
-    requires true_notes { AreTrue same_key
-        (program (version_tree at.now.version) (sheet at.now.cells.now) at.now.w.now) results }
-    ensures { IfOk result
-        (AreTrue same_key
-        (program (version_tree at.now.version) (sheet at.now.cells.now) at.now.w.now)) }
+    requires true_notes { AreTrue same_key (program_of at.now) results }
+    ensures { IfOk result (AreTrue same_key (program_of at.now)) }
 {
     let count = results.len();
     let kept = kept_after(at, results, APART)?;
@@ -82,7 +80,7 @@ fn chain_again(at: &Setting<'_>, results: Results, kind: u8) -> Result<Results, 
 
 /// How many results of a long chain there are, how many are left behind a run by each rule where
 /// nothing of it has changed, and how many stay where the last formula has changed.
-fn chain_kept(at: &Setting<'_>) -> Result<(usize, usize, usize), Fail> {
+fn chain_kept(at: &Evaluator<'_>) -> Result<(usize, usize, usize), Fail> {
     let first = run_with(at, &["A1"], Results::new(at.alloc), 0)?;
     let count = first.results.len();
     let results = chain_again(at, first.results, 0)?;
@@ -97,7 +95,7 @@ fn chain_kept(at: &Setting<'_>) -> Result<(usize, usize, usize), Fail> {
 fn a_long_chain_stays_or_goes_as_a_whole(rt: HostRuntime) -> Result<(), Fail> {
     let w = Oracle::new(rt.alloc());
     let cells = chain(rt.alloc())?;
-    let at = setting_of(rt.alloc(), &cells, &w);
+    let at = evaluator_of(rt.alloc(), &cells, &w);
     assert_eq!(rt; chain_kept(&at)?, (200_039, 200_039, 0));
     Ok(())
 }

@@ -1,31 +1,30 @@
 //! Notes that a run leaves, and the next run begins with.
 ghost use Rattle.std.specs.Prelude.{IfOk};
 ghost use Rattle.gl_query.specs.Remembered.{AreTrue};
-ghost use Rattle.gl_calculus.specs.{Key.same_key, Evaluation.program};
+ghost use Rattle.gl_calculus.specs.Key.{same_key};
 ghost use Rattle.gl_ast.specs.View.{version_tree};
 ghost use Rattle.gl_cells.specs.Sheet.{sheet};
 ghost use Rattle.gl_memo.specs.Notes.{notes_of};
+ghost use Rattle.gl_demand.specs.Evaluators.{program_of};
 ghost use Rattle.gl_core.specs.State.{note_trees, HaveSoundParts, IsFor};
 
 use crate::tests::runs::{Sight, fresh, run, seen_as, started};
-use crate::tests::turns::{cell, cells_at};
+use crate::tests::turns::{cell, cells_at, evaluator_of};
 use gl_core::{Core, copy_notes};
-use gl_demand::{Key, Outcome, Silent, Steps};
+use gl_demand::{Evaluator, Key, Outcome, Silent, Steps};
 use gl_memo::Memo;
 use gl_plane::{Oracle, Range};
 use std::test::Fail;
-use tests_common::{Setting, setting_of, sheet_of};
+use tests_common::sheet_of;
 
 /// A second table of the notes that a run leaves.
 fn notes_after(
-    at: &Setting<'_>,
+    at: &Evaluator<'_>,
     core: Core,
     steps: &mut Steps<Silent>,
 ) -> Result<Memo<Key, Outcome, Range>, Fail>
-    requires { IsFor (version_tree at.now.version) (sheet at.now.cells.now) at.now.w.now core }
-    ensures true_notes { IfOk result (λ m.
-        AreTrue same_key
-        (program (version_tree at.now.version) (sheet at.now.cells.now) at.now.w.now)
+    requires { IsFor (version_tree at.now.version) (sheet at.now.cells.now) at.now.oracle.now core }
+    ensures true_notes { IfOk result (λ m. AreTrue same_key (program_of at.now)
         (note_trees (notes_of m))) }
     ensures sound_notes { IfOk result (λ m. HaveSoundParts (note_trees (notes_of m))) }
 {
@@ -41,7 +40,7 @@ fn notes_after(
 /// The second run has the notes of the first: how many notes there are, the steps of both, and
 /// what is seen of a cell after the second.
 fn run_twice(
-    at: &Setting<'_>,
+    at: &Evaluator<'_>,
     names: &[&str],
     name: &str,
 ) -> Result<(usize, u64, u64, Sight), Fail> {
@@ -72,7 +71,7 @@ fn noted_keys_take_no_steps(rt: HostRuntime) -> Result<(), Fail> {
             "set D1 =C1",
         ],
     )?;
-    let at = setting_of(alloc, &cells, &w);
+    let at = evaluator_of(alloc, &cells, &w);
     assert_eq!(rt;
         run_twice(&at, &["B1"], "B1")?,
         (253, 505, 0, Sight::Number(64))

@@ -5,29 +5,32 @@ ghost use Rattle.gl_cells.specs.Sheet.{sheet};
 ghost use Rattle.gl_core.specs.State.{IsFor};
 
 use crate::tests::runs::fresh;
+use crate::tests::turns::evaluator_of;
 use gl_core::{Core, Picked};
-use gl_demand::{Silent, Steps};
+use gl_demand::{Evaluator, Silent, Steps};
 use gl_order::{Order, by_kind};
 use gl_plane::Oracle;
 use std::alloc::Global;
 use std::cell::Cell;
 use std::test::Fail;
-use tests_common::{Setting, setting_of, sheet_of};
+use tests_common::sheet_of;
 
 /// Picks the first idle key: how many keys were idle, and what the pick leaves of it.
 fn pick_first(
-    at: &Setting<'_>,
+    at: &Evaluator<'_>,
     core: &mut Core,
     steps: &mut Steps<Silent>,
 ) -> Result<(u64, Picked), Fail>
-    requires { IsFor (version_tree at.now.version) (sheet at.now.cells.now) at.now.w.now core.old }
-    ensures { IsFor (version_tree at.now.version) (sheet at.now.cells.now) at.now.w.now core.new }
+    requires { IsFor (version_tree at.now.version) (sheet at.now.cells.now)
+        at.now.oracle.now core.old }
+    ensures { IsFor (version_tree at.now.version) (sheet at.now.cells.now)
+        at.now.oracle.now core.new }
 {
     let n = core.idle();
     if n == 0 {
         return Err("nothing is idle".into());
     }
-    match core.pick(at.alloc, 0, at.cells, at.w, at.version, steps) {
+    match core.pick(at.alloc, 0, at.cells, at.oracle, at.version, steps) {
         Ok(picked) => Ok((n, picked)),
         Err(e) => Err(e.into()),
     }
@@ -37,7 +40,7 @@ fn pick_first(
 fn three_picks(alloc: Global) -> Result<([(u64, Picked); 3], u64), Fail> {
     let w = Oracle::new(alloc);
     let cells = sheet_of(alloc, &["set A1 =B1+1", "set B1 =1"])?;
-    let at = setting_of(alloc, &cells, &w);
+    let at = evaluator_of(alloc, &cells, &w);
     let mut steps = Steps::new(Silent);
     let mut core = fresh(&at, &["A1"])?;
     let first = pick_first(&at, &mut core, &mut steps)?;
@@ -66,7 +69,7 @@ fn picks_one_by_one(rt: HostRuntime) -> Result<(), Fail> {
 fn asked(alloc: Global) -> Result<(u64, u64), Fail> {
     let w = Oracle::new(alloc);
     let cells = sheet_of(alloc, &["set A1 =B1+1", "set B1 =C1+1", "set C1 =1"])?;
-    let at = setting_of(alloc, &cells, &w);
+    let at = evaluator_of(alloc, &cells, &w);
     let core = fresh(&at, &["A1", "B1", "C1"])?;
     let calls = Cell::new(0u64);
     let order = Order::new(
@@ -79,7 +82,9 @@ fn asked(alloc: Global) -> Result<(u64, u64), Fail> {
         },
     );
     let mut steps = Steps::new(Silent);
-    match core.run_all(alloc, &order, 0, at.cells, at.w, at.version, &mut steps) {
+    match core.run_all(
+        alloc, &order, 0, at.cells, at.oracle, at.version, &mut steps,
+    ) {
         Ok(_) => Ok((calls.get(), steps.done())),
         Err(e) => Err(e.into()),
     }

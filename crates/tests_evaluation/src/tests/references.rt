@@ -1,5 +1,5 @@
 //! What references look at, read and come to.
-use crate::tests::texts::{found_text, keys_text, ranges_text};
+use crate::tests::texts::{is_written, keys_text, ranges_text};
 use crate::tests::turns::turn_under;
 use gl_demand::Turn;
 use gl_plane::{Oracle, Permit};
@@ -73,7 +73,7 @@ fn is_as_said(alloc: Global, turn: &Turn, row: &Row) -> Result<bool, Fail> {
     Ok(
         ranges_text(alloc, &turn.looked)?.as_str() == looked
             && keys_text(alloc, &turn.reads)?.as_str() == reads
-            && found_text(alloc, &turn.found)?.as_str() == want,
+            && is_written(alloc, &turn.found, want)?,
     )
 }
 

@@ -1,19 +1,18 @@
 //! Results that are kept for the next run, by each pick rule.
 ghost use Rattle.std.specs.Prelude.{◌≤◌, IfOk};
 ghost use Rattle.gl_query.specs.Remembered.{AreTrue};
-ghost use Rattle.gl_calculus.specs.{Key.same_key, Evaluation.program};
-ghost use Rattle.gl_ast.specs.View.{version_tree};
-ghost use Rattle.gl_cells.specs.Sheet.{sheet};
+ghost use Rattle.gl_calculus.specs.Key.{same_key};
+ghost use Rattle.gl_demand.specs.Evaluators.{program_of};
 
 use crate::tests::resumed::{Ran, run_with, seen_of};
 use crate::tests::runs::{Sight, fresh, outcome_seen, run, seen_as};
-use crate::tests::turns::cell;
+use crate::tests::turns::{cell, evaluator_of};
 use gl_core::{Quiet, Results};
-use gl_demand::{Silent, Steps};
+use gl_demand::{Evaluator, Silent, Steps};
 use gl_plane::{Changes, Oracle};
 use std::alloc::Global;
 use std::test::Fail;
-use tests_common::{Setting, range, setting_of, sheet_of};
+use tests_common::{range, sheet_of};
 
 /// A chain of two formulas over a number, a formula apart, and one that loops.
 const LINES: &[&str] = &[
@@ -43,12 +42,12 @@ fn sees_all(alloc: Global, quiet: &Quiet) -> Result<bool, Fail> {
             return Ok(false);
         }
     }
-    Ok(seen_of(alloc, quiet, 4)?.as_slice() == SEEN.as_slice())
+    Ok(seen_of(alloc, quiet, FORMULAS.len())?.as_slice() == SEEN.as_slice())
 }
 
 /// A run without results is as one from the start: the steps, the keys that are known, and what is
 /// seen of each formula by its place and by its key.
-fn begins_alike(at: &Setting<'_>, kind: u8) -> Result<bool, Fail>
+fn begins_alike(at: &Evaluator<'_>, kind: u8) -> Result<bool, Fail>
     requires { kind ≤ 2 }
 {
     let mut steps = Steps::new(Silent);
@@ -66,7 +65,7 @@ fn begins_alike(at: &Setting<'_>, kind: u8) -> Result<bool, Fail>
 fn a_run_without_results_is_one_from_the_start(rt: HostRuntime) -> Result<(), Fail> {
     let w = Oracle::new(rt.alloc());
     let cells = sheet_of(rt.alloc(), LINES)?;
-    let at = setting_of(rt.alloc(), &cells, &w);
+    let at = evaluator_of(rt.alloc(), &cells, &w);
     for kind in 0u8..3 {
         assert!(rt; begins_alike(&at, kind)?, "by {kind}");
     }
@@ -74,12 +73,9 @@ fn a_run_without_results_is_one_from_the_start(rt: HostRuntime) -> Result<(), Fa
 }
 
 /// The results that stay where the range has changed.
-pub fn kept_after(at: &Setting<'_>, results: Results, place: &str) -> Result<Results, Fail>
-    requires { AreTrue same_key
-        (program (version_tree at.now.version) (sheet at.now.cells.now) at.now.w.now) results }
-    ensures { IfOk result
-        (AreTrue same_key
-        (program (version_tree at.now.version) (sheet at.now.cells.now) at.now.w.now)) }
+pub fn kept_after(at: &Evaluator<'_>, results: Results, place: &str) -> Result<Results, Fail>
+    requires { AreTrue same_key (program_of at.now) results }
+    ensures { IfOk result (AreTrue same_key (program_of at.now)) }
 {
     let mut changes = Changes::new(at.alloc);
     changes.add(&[range(place)?])?;
@@ -89,11 +85,14 @@ pub fn kept_after(at: &Setting<'_>, results: Results, place: &str) -> Result<Res
 }
 
 /// The results of a run over these formulas that stay where the range has changed.
-fn results_behind(at: &Setting<'_>, names: &[&str], place: &str, kind: u8) -> Result<Results, Fail>
+fn results_behind(
+    at: &Evaluator<'_>,
+    names: &[&str],
+    place: &str,
+    kind: u8,
+) -> Result<Results, Fail>
     requires { kind ≤ 2 }
-    ensures { IfOk result
-        (AreTrue same_key
-        (program (version_tree at.now.version) (sheet at.now.cells.now) at.now.w.now)) }
+    ensures { IfOk result (AreTrue same_key (program_of at.now)) }
 {
     let ran = run_with(at, names, Results::new(at.alloc), kind)?;
     kept_after(at, ran.results, place)
@@ -121,7 +120,7 @@ const CHANGES: &[Change] = &[
 ];
 
 /// A run behind the change takes these steps and sees what the first one saw.
-fn goes_on(at: &Setting<'_>, change: &Change, kind: u8) -> Result<bool, Fail>
+fn goes_on(at: &Evaluator<'_>, change: &Change, kind: u8) -> Result<bool, Fail>
     requires { kind ≤ 2 }
 {
     let kept = results_behind(at, CHAIN, change.place, kind)?;
@@ -142,7 +141,7 @@ fn goes_on(at: &Setting<'_>, change: &Change, kind: u8) -> Result<bool, Fail>
 fn what_rests_on_a_change_takes_steps(rt: HostRuntime) -> Result<(), Fail> {
     let w = Oracle::new(rt.alloc());
     let cells = sheet_of(rt.alloc(), LINES)?;
-    let at = setting_of(rt.alloc(), &cells, &w);
+    let at = evaluator_of(rt.alloc(), &cells, &w);
     for change in CHANGES {
         for kind in 0u8..3 {
             assert!(rt; goes_on(&at, change, kind)?, "{} by {kind}", change.place);
@@ -186,7 +185,7 @@ fn stay(alloc: Global, row: &Staying) -> Result<bool, Fail> {
     let (place, want) = *row;
     let w = Oracle::new(alloc);
     let cells = sheet_of(alloc, LINES)?;
-    let at = setting_of(alloc, &cells, &w);
+    let at = evaluator_of(alloc, &cells, &w);
     let mut kept = results_behind(&at, FORMULAS, place, 0)?;
     let mut copied = kept.copy(alloc)?;
     let alike = have(&kept, want)? && have(&copied, want)?;
@@ -216,7 +215,7 @@ const OUTCOMES: &[(&str, Option<Sight>)] = &[
 fn other_keys_have_no_outcome(rt: HostRuntime) -> Result<(), Fail> {
     let w = Oracle::new(rt.alloc());
     let cells = sheet_of(rt.alloc(), LINES)?;
-    let at = setting_of(rt.alloc(), &cells, &w);
+    let at = evaluator_of(rt.alloc(), &cells, &w);
     let kept = results_behind(&at, FORMULAS, "C1:C1", 0)?;
     for (name, want) in OUTCOMES {
         assert!(rt; outcome_of(&kept, name)? == *want, "of {name}");

@@ -1,9 +1,10 @@
 //! Runs that begin with the results of an earlier one, over one sheet.
 ghost use Rattle.std.specs.Prelude.{◌≡◌, ◌≤◌, [], IfOk};
 ghost use Rattle.gl_query.specs.{InOrder.AreOrdered, Laws.IsQuiet, Remembered.AreTrue};
-ghost use Rattle.gl_calculus.specs.{Key.same_key, Evaluation.program};
+ghost use Rattle.gl_calculus.specs.Key.{same_key};
 ghost use Rattle.gl_ast.specs.View.{version_tree};
 ghost use Rattle.gl_cells.specs.Sheet.{sheet};
+ghost use Rattle.gl_demand.specs.Evaluators.{program_of};
 ghost use Rattle.gl_core.specs.State.{state_of, seeds_of, notes_in, IsFor};
 
 use crate::tests::runs::{Sight, are_seeds, run, seen_as};
@@ -13,7 +14,7 @@ use gl_demand::{Evaluator, Key, Steps, Watch};
 use gl_plane::Addr;
 use std::alloc::Global;
 use std::test::Fail;
-use tests_common::{Setting, address};
+use tests_common::address;
 
 fn places_of(alloc: Global, names: &[&str]) -> Result<Vec<Addr>, Fail> {
     let mut places = Vec::new(alloc);
@@ -69,11 +70,10 @@ fn numbers_of(alloc: Global, counts: &Counts) -> Result<Vec<u64>, Fail> {
 }
 
 /// The core of these cells, with results that are true.
-pub fn resumed(at: &Setting<'_>, places: &[Addr], results: Results) -> Result<Core, Fail>
-    requires { AreTrue same_key
-        (program (version_tree at.now.version) (sheet at.now.cells.now) at.now.w.now) results }
+pub fn resumed(at: &Evaluator<'_>, places: &[Addr], results: Results) -> Result<Core, Fail>
+    requires { AreTrue same_key (program_of at.now) results }
     ensures for_it { IfOk result (λ core.
-        IsFor (version_tree at.now.version) (sheet at.now.cells.now) at.now.w.now core) }
+        IsFor (version_tree at.now.version) (sheet at.now.cells.now) at.now.oracle.now core) }
     ensures ordered { IfOk result (λ core. AreOrdered [] (notes_in core)) }
 {
     if places.len() > MAX_DEMANDED {
@@ -83,13 +83,7 @@ pub fn resumed(at: &Setting<'_>, places: &[Addr], results: Results) -> Result<Co
     if !are_seeds(at.cells, &keys) {
         return Err("no seeds".into());
     }
-    let evaluator = Evaluator {
-        alloc: at.alloc,
-        cells: at.cells,
-        oracle: at.w,
-        version: at.version,
-    };
-    match Core::resume(&evaluator, places, results) {
+    match Core::resume(at, places, results) {
         Ok(core) => Ok(core),
         Err(e) => Err(e.into()),
     }
@@ -105,27 +99,21 @@ pub fn seen_of(alloc: Global, quiet: &Quiet, count: usize) -> Result<Vec<Sight>,
 }
 
 /// The results of a run: they are true.
-fn results_of(at: &Setting<'_>, quiet: Quiet) -> Results
+fn results_of(at: &Evaluator<'_>, quiet: Quiet) -> Results
     requires ordered { AreOrdered [] (notes_in quiet) }
-    requires quiet { IsQuiet same_key
-        (program (version_tree at.now.version) (sheet at.now.cells.now) at.now.w.now)
-        (seeds_of quiet) (state_of quiet) }
-    requires for_it { IsFor (version_tree at.now.version) (sheet at.now.cells.now) at.now.w.now
-        quiet }
-    ensures { AreTrue same_key
-        (program (version_tree at.now.version) (sheet at.now.cells.now) at.now.w.now) result }
+    requires quiet { IsQuiet same_key (program_of at.now) (seeds_of quiet) (state_of quiet) }
+    requires for_it { IsFor (version_tree at.now.version) (sheet at.now.cells.now)
+        at.now.oracle.now quiet }
+    ensures { AreTrue same_key (program_of at.now) result }
 {
     quiet.into_results()
 }
 
 /// Runs these cells by the rule of a kind, beginning with results that are true.
-pub fn run_with(at: &Setting<'_>, names: &[&str], results: Results, kind: u8) -> Result<Ran, Fail>
+pub fn run_with(at: &Evaluator<'_>, names: &[&str], results: Results, kind: u8) -> Result<Ran, Fail>
     requires kind { kind ≤ 2 }
-    requires true_notes { AreTrue same_key
-        (program (version_tree at.now.version) (sheet at.now.cells.now) at.now.w.now) results }
-    ensures { IfOk result (λ r.
-        AreTrue same_key
-        (program (version_tree at.now.version) (sheet at.now.cells.now) at.now.w.now) r.results) }
+    requires true_notes { AreTrue same_key (program_of at.now) results }
+    ensures { IfOk result (λ r. AreTrue same_key (program_of at.now) r.results) }
 {
     let core = resumed(at, &places_of(at.alloc, names)?, results)?;
     let mut steps = Steps::new(no_counts(at.alloc, names)?);
@@ -145,7 +133,7 @@ pub fn run_with(at: &Setting<'_>, names: &[&str], results: Results, kind: u8) ->
 /// A run of these cells by the rule of a kind goes by true results of so many keys alone, and leaves
 /// as many: it takes no step, and the first cell comes to this.
 pub fn by_results(
-    at: &Setting<'_>,
+    at: &Evaluator<'_>,
     results: Results,
     names: &[&str],
     kind: u8,
@@ -153,11 +141,8 @@ pub fn by_results(
     first: Sight,
 ) -> Result<Results, Fail>
     requires kind { kind ≤ 2 }
-    requires true_notes { AreTrue same_key
-        (program (version_tree at.now.version) (sheet at.now.cells.now) at.now.w.now) results }
-    ensures { IfOk result
-        (AreTrue same_key
-        (program (version_tree at.now.version) (sheet at.now.cells.now) at.now.w.now)) }
+    requires true_notes { AreTrue same_key (program_of at.now) results }
+    ensures { IfOk result (AreTrue same_key (program_of at.now)) }
 {
     let before = results.len();
     let ran = run_with(at, names, results, kind)?;

@@ -2,25 +2,24 @@
 ghost use Rattle.std.specs.Prelude.{◌≡◌, ◌≤◌, [], IfOk, IsTrue, map};
 ghost use Rattle.gl_query.specs.{Lists.Member, Lists.AreDistinct, InOrder.AreOrdered, Laws.IsQuiet};
 ghost use Rattle.gl_query.specs.{Remembered.AreTrue};
-ghost use Rattle.gl_calculus.specs.{Key.same_key, Evaluation.program, Sound.IsProperKey};
+ghost use Rattle.gl_calculus.specs.{Key.same_key, Sound.IsProperKey};
 ghost use Rattle.gl_calculus.specs.Key as K;
 ghost use Rattle.gl_ast.specs.View.{version_tree};
 ghost use Rattle.gl_cells.specs.Sheet.{sheet};
 ghost use Rattle.gl_memo.specs.Notes.{notes_of};
-ghost use Rattle.gl_demand.specs.{View.key_tree, Sound.AreSoundKeys};
+ghost use Rattle.gl_demand.specs.{View.key_tree, Sound.AreSoundKeys, Evaluators.program_of};
 ghost use Rattle.gl_core.specs.State.{state_of, seeds_of, notes_in, note_trees, HaveSoundParts};
 ghost use Rattle.gl_core.specs.State.{IsFor};
 
 use crate::tests::turns::{cell, cells_at};
 use gl_cells::Cells;
 use gl_core::{Core, CoreFault, MAX_DEMANDED, Quiet, Seen};
-use gl_demand::{Budget, Key, Outcome, Silent, Steps, Watch, proper};
+use gl_demand::{Budget, Evaluator, Key, Outcome, Silent, Steps, Watch, proper};
 use gl_memo::Memo;
 use gl_order::{Order, by_kind};
 use gl_plane::Range;
 use gl_value::{Scalar, Value};
 use std::test::Fail;
-use tests_common::Setting;
 
 /// What is seen of a cell.
 #[derive(Clone, Copy, PartialEq, Eq, Debug)]
@@ -92,16 +91,15 @@ pub fn are_seeds(cells: &Cells, keys: &[Key]) -> bool
 
 /// The core of these seeds.
 pub fn started(
-    at: &Setting<'_>,
+    at: &Evaluator<'_>,
     seeds: Vec<Key>,
     kept: Memo<Key, Outcome, Range>,
 ) -> Result<Core, Fail>
-    requires true_notes { AreTrue same_key
-        (program (version_tree at.now.version) (sheet at.now.cells.now) at.now.w.now)
+    requires true_notes { AreTrue same_key (program_of at.now)
         (note_trees (notes_of kept)) }
     requires sound_notes { HaveSoundParts (note_trees (notes_of kept)) }
     ensures { IfOk result (λ core.
-        IsFor (version_tree at.now.version) (sheet at.now.cells.now) at.now.w.now core) }
+        IsFor (version_tree at.now.version) (sheet at.now.cells.now) at.now.oracle.now core) }
 {
     if seeds.len() > MAX_DEMANDED {
         return Err("too many seeds".into());
@@ -109,16 +107,16 @@ pub fn started(
     if !are_seeds(at.cells, &seeds) {
         return Err("no seeds".into());
     }
-    match Core::start(at.alloc, seeds, kept, at.cells, at.w, at.version) {
+    match Core::start(at.alloc, seeds, kept, at.cells, at.oracle, at.version) {
         Ok(core) => Ok(core),
         Err(e) => Err(e.into()),
     }
 }
 
 /// The core of these cells, without notes.
-pub fn fresh(at: &Setting<'_>, names: &[&str]) -> Result<Core, Fail>
+pub fn fresh(at: &Evaluator<'_>, names: &[&str]) -> Result<Core, Fail>
     ensures { IfOk result (λ core.
-        IsFor (version_tree at.now.version) (sheet at.now.cells.now) at.now.w.now core) }
+        IsFor (version_tree at.now.version) (sheet at.now.cells.now) at.now.oracle.now core) }
 {
     let seeds = cells_at(at.alloc, names)?;
     started(at, seeds, Memo::new(at.alloc))
@@ -126,31 +124,31 @@ pub fn fresh(at: &Setting<'_>, names: &[&str]) -> Result<Core, Fail>
 
 /// Runs the core by the pick rule of a kind.
 pub fn run<L: Watch>(
-    at: &Setting<'_>,
+    at: &Evaluator<'_>,
     core: Core,
     kind: u8,
     steps: &mut Steps<L>,
 ) -> Result<Quiet, CoreFault>
     requires kind { kind ≤ 2 }
-    requires for_it { IsFor (version_tree at.now.version) (sheet at.now.cells.now) at.now.w.now
-        core }
+    requires for_it { IsFor (version_tree at.now.version) (sheet at.now.cells.now)
+        at.now.oracle.now core }
     ensures quiet { IfOk result (λ q.
-        IsQuiet same_key
-        (program (version_tree at.now.version) (sheet at.now.cells.now) at.now.w.now)
-        (seeds_of core) (state_of q)) }
+        IsQuiet same_key (program_of at.now) (seeds_of core) (state_of q)) }
     ensures seeds { IfOk result (λ q. seeds_of q ≡ seeds_of core) }
     ensures stays { IfOk result (λ q.
-        IsFor (version_tree at.now.version) (sheet at.now.cells.now) at.now.w.now q) }
+        IsFor (version_tree at.now.version) (sheet at.now.cells.now) at.now.oracle.now q) }
     ensures ordered { IfOk result (λ q.
         AreOrdered [] (notes_in core) → AreOrdered [] (notes_in q)) }
 {
     let order = Order::new(by_kind);
-    core.run_all(at.alloc, &order, kind, at.cells, at.w, at.version, steps)
+    core.run_all(
+        at.alloc, &order, kind, at.cells, at.oracle, at.version, steps,
+    )
 }
 
 /// How many keys these cells demand, the steps by the pick rule of a kind, and what is seen of a cell.
 pub fn counts(
-    at: &Setting<'_>,
+    at: &Evaluator<'_>,
     names: &[&str],
     name: &str,
     kind: u8,

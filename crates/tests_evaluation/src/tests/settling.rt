@@ -3,12 +3,12 @@ ghost use Rattle.std.specs.Prelude.{◌≤◌};
 
 use crate::tests::evaluations::Sights;
 use crate::tests::runs::{Sight, fresh, run, seen_as};
-use crate::tests::turns::cell;
+use crate::tests::turns::{cell, evaluator_of};
 use gl_demand::{Key, Steps};
 use gl_plane::Oracle;
 use std::alloc::Global;
 use std::test::Fail;
-use tests_common::{Column, Form, plain_sheet, setting_of, sheet_with, with_number};
+use tests_common::{Column, Form, plain_sheet, sheet_with, with_number};
 
 /// Two copies of a chain in which one address holds 7 and 8, that address, the chain, and the steps of all
 /// keys but the settling of the first copy.
@@ -50,7 +50,7 @@ fn counts(alloc: Global, chain: &Chain, kind: u8) -> Result<Counts, Fail>
 {
     let w = Oracle::new(alloc);
     let cells = sheet_with(alloc, chain.lines, &chain.column)?;
-    let at = setting_of(alloc, &cells, &w);
+    let at = evaluator_of(alloc, &cells, &w);
     let mut steps = Steps::new(Sights::new(settling(alloc, chain.held)?));
     let quiet = run(&at, fresh(&at, &["B1", "C1"])?, kind, &mut steps)?;
     let seen = steps.watch();

@@ -3,13 +3,13 @@ ghost use Rattle.std.specs.Prelude.{◌≤◌};
 
 use crate::tests::references::{Entry, oracle_of};
 use crate::tests::runs::{Sight, fresh, run, seen_as};
-use crate::tests::turns::cell;
+use crate::tests::turns::{cell, evaluator_of};
 use gl_cells::Cells;
-use gl_demand::{Silent, Steps};
+use gl_demand::{Evaluator, Silent, Steps};
 use std::alloc::Global;
 use std::process::Abort;
 use std::test::Fail;
-use tests_common::{Setting, put_line, setting_of};
+use tests_common::put_line;
 
 /// A sheet, whose lines stand in groups, with its seeds, how many keys these demand, how many
 /// evaluations each pick rule makes, and what is seen of some cells.
@@ -105,7 +105,7 @@ const SHEETS: &[Sheet] = &[
 ];
 
 /// The run of a sheet by the pick rule of this kind is as its table says.
-fn holds(at: &Setting<'_>, row: &Sheet, kind: u8) -> Result<bool, Fail>
+fn holds(at: &Evaluator<'_>, row: &Sheet, kind: u8) -> Result<bool, Fail>
     requires { kind ≤ 2 }
 {
     let mut steps = Steps::new(Silent);
@@ -136,7 +136,7 @@ fn cells_of(alloc: Global, groups: &[&[&str]]) -> Result<Cells, Fail> {
 fn by_each_rule(alloc: Global, entry: Option<Entry>, row: &Sheet) -> Result<[bool; 3], Fail> {
     let w = oracle_of(alloc, entry)?;
     let cells = cells_of(alloc, row.lines)?;
-    let at = setting_of(alloc, &cells, &w);
+    let at = evaluator_of(alloc, &cells, &w);
     Ok([
         holds(&at, row, 0)?,
         holds(&at, row, 1)?,

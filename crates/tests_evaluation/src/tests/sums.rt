@@ -1,11 +1,12 @@
 //! A formula with many references.
 use crate::tests::runs::{Sight, counts};
+use crate::tests::turns::evaluator_of;
 use gl_ast::{put, put_number};
 use gl_cells::Cells;
 use gl_plane::Oracle;
 use std::alloc::Global;
 use std::test::Fail;
-use tests_common::{put_line, setting_of, sheet_of};
+use tests_common::{put_line, sheet_of};
 
 /// The formula of a row of the second column, which is its number.
 fn put_part(alloc: Global, cells: &mut Cells, row: usize) -> Result<(), Fail> {
@@ -36,7 +37,7 @@ fn parts(alloc: Global) -> Result<Cells, Fail> {
 fn counts_by_each(alloc: Global) -> Result<[(u64, u64, Sight); 3], Fail> {
     let w = Oracle::new(alloc);
     let cells = parts(alloc)?;
-    let at = setting_of(alloc, &cells, &w);
+    let at = evaluator_of(alloc, &cells, &w);
     Ok([
         counts(&at, &["A1"], "A1", 0)?,
         counts(&at, &["A1"], "A1", 1)?,

@@ -38,7 +38,7 @@ fn put_key(alloc: Global, out: &mut String, key: &Key) -> Result<(), NoMemory> {
 
 /// The outcome that an evaluation finds, or the key that it needs: a cell by its address, one of a copy
 /// with the copy's region; a settling by the region.
-pub fn found_text(alloc: Global, found: &Found) -> Result<String, NoMemory> {
+fn found_text(alloc: Global, found: &Found) -> Result<String, NoMemory> {
     match found {
         Found::Ready(outcome) => outcome_text(alloc, outcome),
         Found::Need(key) => {
@@ -47,6 +47,11 @@ pub fn found_text(alloc: Global, found: &Found) -> Result<String, NoMemory> {
             Ok(out)
         }
     }
+}
+
+/// What was found is written so.
+pub fn is_written(alloc: Global, found: &Found, text: &str) -> Result<bool, NoMemory> {
+    Ok(found_text(alloc, found)?.as_str() == text)
 }
 
 /// A comma behind what is there.

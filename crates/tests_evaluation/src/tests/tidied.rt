@@ -1,19 +1,20 @@
 //! Results that are tidied between runs, each of which leaves keys behind.
 ghost use Rattle.std.specs.Prelude.{◌≤◌, IfOk};
 ghost use Rattle.gl_query.specs.Remembered.{AreTrue};
-ghost use Rattle.gl_calculus.specs.{Key.same_key, Evaluation.program};
-ghost use Rattle.gl_ast.specs.View.{version_tree};
-ghost use Rattle.gl_cells.specs.Sheet.{sheet};
+ghost use Rattle.gl_calculus.specs.Key.{same_key};
+ghost use Rattle.gl_demand.specs.Evaluators.{program_of};
 
 use crate::tests::results::{kept_after, outcome_of};
 use crate::tests::resumed::{by_results, run_with};
 use crate::tests::runs::Sight;
+use crate::tests::turns::evaluator_of;
 use gl_cells::Cells;
 use gl_core::Results;
+use gl_demand::Evaluator;
 use gl_plane::Oracle;
 use std::alloc::Global;
 use std::test::Fail;
-use tests_common::{Form, Setting, first_column, put_line, setting_of, sheet_with};
+use tests_common::{Form, first_column, put_line, sheet_with};
 
 /// In this row of the fourth column a copy of the chain over another number, and the chain itself.
 fn put_copy(alloc: Global, cells: &mut Cells, row: u16) -> Result<(), Fail> {
@@ -51,12 +52,9 @@ fn shape(results: &Results, name: &str) -> Result<Shape, Fail> {
 
 /// The results say the same of a row and the chain before and behind tidying: of the chain, its
 /// copy, the settling of that, and the cell.
-fn tidied(at: &Setting<'_>, results: Results, name: &str, row: u16) -> Result<Results, Fail>
-    requires { AreTrue same_key
-        (program (version_tree at.now.version) (sheet at.now.cells.now) at.now.w.now) results }
-    ensures { IfOk result
-        (AreTrue same_key
-        (program (version_tree at.now.version) (sheet at.now.cells.now) at.now.w.now)) }
+fn tidied(at: &Evaluator<'_>, results: Results, name: &str, row: u16) -> Result<Results, Fail>
+    requires { AreTrue same_key (program_of at.now) results }
+    ensures { IfOk result (AreTrue same_key (program_of at.now)) }
 {
     let want = (
         60,
@@ -75,13 +73,10 @@ fn tidied(at: &Setting<'_>, results: Results, name: &str, row: u16) -> Result<Re
 
 /// The results of the copy in a row, behind those of the row before, whose formula is as good as
 /// gone: as many however often they are tidied, and a run goes by them alone.
-fn next(at: &Setting<'_>, results: Results, row: u16, kind: u8) -> Result<Results, Fail>
-    requires true_notes { AreTrue same_key
-        (program (version_tree at.now.version) (sheet at.now.cells.now) at.now.w.now) results }
+fn next(at: &Evaluator<'_>, results: Results, row: u16, kind: u8) -> Result<Results, Fail>
+    requires true_notes { AreTrue same_key (program_of at.now) results }
     requires kind { kind ≤ 2 }
-    ensures { IfOk result
-        (AreTrue same_key
-        (program (version_tree at.now.version) (sheet at.now.cells.now) at.now.w.now)) }
+    ensures { IfOk result (AreTrue same_key (program_of at.now)) }
 {
     let above = row.saturating_sub(1).max(1);
     let gone = format!(in at.alloc; "D{above}:D{above}")?;
@@ -93,7 +88,7 @@ fn next(at: &Setting<'_>, results: Results, row: u16, kind: u8) -> Result<Result
 }
 
 /// How many results there are behind a hundred rows.
-fn last_count(at: &Setting<'_>, kind: u8) -> Result<usize, Fail>
+fn last_count(at: &Evaluator<'_>, kind: u8) -> Result<usize, Fail>
     requires { kind ≤ 2 }
 {
     let mut results = Results::new(at.alloc);
@@ -107,7 +102,7 @@ fn last_count(at: &Setting<'_>, kind: u8) -> Result<usize, Fail>
 fn results_are_tidied_between_runs(rt: HostRuntime) -> Result<(), Fail> {
     let w = Oracle::new(rt.alloc());
     let cells = copies(rt.alloc())?;
-    let at = setting_of(rt.alloc(), &cells, &w);
+    let at = evaluator_of(rt.alloc(), &cells, &w);
     for kind in 0u8..3 {
         assert!(rt; last_count(&at, kind)? == 60, "by {kind}");
     }

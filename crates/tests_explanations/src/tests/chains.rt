@@ -1,12 +1,12 @@
 //! Certificates of long chains and long ranges.
-use crate::tests::settings::{found, verdict_on};
+use crate::tests::certificates::{evaluator_of, found, verdict_on};
 use gl_cells::Cells;
 use gl_cert::Verdict;
-use gl_demand::{Silent, Steps};
+use gl_demand::{Evaluator, Silent, Steps};
 use gl_plane::Oracle;
 use std::alloc::Global;
 use std::test::Fail;
-use tests_common::{Form, Setting, first_column, setting_of, sheet_with};
+use tests_common::{Form, first_column, sheet_with};
 
 /// A chain of so many formulas over a blank.
 fn chain(alloc: Global, length: usize) -> Result<Cells, Fail> {
@@ -16,7 +16,7 @@ fn chain(alloc: Global, length: usize) -> Result<Cells, Fail> {
 
 /// How many notes the first cell's certificate has, how many steps the walk takes, and how many the
 /// check takes then, where the certificate is accepted.
-fn counts(at: Setting<'_>) -> Result<(usize, u64, u64), Fail> {
+fn counts(at: &Evaluator<'_>) -> Result<(usize, u64, u64), Fail> {
     let mut walked = Steps::new(Silent);
     let c = found(at, "A1", &mut walked)?;
     let mut checked = Steps::new(Silent);
@@ -36,8 +36,8 @@ fn chains_are_explained(rt: HostRuntime) -> Result<(), Fail> {
         let alloc = rt.alloc();
         let cells = chain(alloc, *length)?;
         let w = Oracle::new(alloc);
-        let at = setting_of(alloc, &cells, &w);
-        assert_eq!(rt; counts(at)?, (*length, *steps, *length as u64));
+        let at = evaluator_of(alloc, &cells, &w);
+        assert_eq!(rt; counts(&at)?, (*length, *steps, *length as u64));
     }
     Ok(())
 }
@@ -53,8 +53,8 @@ fn a_sum_is_explained(rt: HostRuntime) -> Result<(), Fail> {
     let alloc = rt.alloc();
     let cells = sum(alloc)?;
     let w = Oracle::new(alloc);
-    let at = setting_of(alloc, &cells, &w);
+    let at = evaluator_of(alloc, &cells, &w);
     // the sum is evaluated for its first term, and once more where all terms have notes
-    assert_eq!(rt; counts(at)?, (2_001, 2_002, 2_001));
+    assert_eq!(rt; counts(&at)?, (2_001, 2_002, 2_001));
     Ok(())
 }

@@ -1,14 +1,14 @@
 //! What is said of certificates of which something was changed.
+use crate::tests::certificates::{evaluator_of, found, verdict_on};
 use crate::tests::parts::Claimed::{Number, Of, Own};
 use crate::tests::parts::{Claimed, Parts, of_parts};
-use crate::tests::settings::{found, verdict_on};
 use gl_cert::Verdict;
-use gl_demand::{Silent, Steps};
+use gl_demand::{Evaluator, Silent, Steps};
 use gl_plane::{Oracle, Permit};
 use std::alloc::Global;
 use std::process::Abort;
 use std::test::Fail;
-use tests_common::{Setting, one_entry, setting_of, sheet_of};
+use tests_common::{one_entry, sheet_of};
 
 /// The notes, the loops and what is shown of a certificate that is made of the parts of the one found,
 /// and what is said of it.
@@ -76,7 +76,7 @@ const CHANGED_LOOPS: &[Change] = &[
 ];
 
 /// What is said of the changed certificate of an address.
-fn said(at: Setting<'_>, name: &str, change: &Change) -> Result<Verdict, Fail> {
+fn said(at: &Evaluator<'_>, name: &str, change: &Change) -> Result<Verdict, Fail> {
     let whole = found(at, name, &mut Steps::new(Silent))?;
     let parts = Parts {
         notes: change.0,
@@ -102,9 +102,9 @@ fn assert_said(
     changes: &[Change],
 ) -> Result<(), Fail> {
     let cells = sheet_of(alloc, lines)?;
-    let at = setting_of(alloc, &cells, w);
+    let at = evaluator_of(alloc, &cells, w);
     for (i, change) in changes.iter().enumerate() {
-        assert!(rt; said(at, name, change)? == change.3, "row {i}");
+        assert!(rt; said(&at, name, change)? == change.3, "row {i}");
     }
     Ok(())
 }
@@ -151,10 +151,10 @@ fn steps_of_a_check(rt: HostRuntime) -> Result<(), Fail> {
     let alloc = rt.alloc();
     let cells = sheet_of(alloc, &["set A1 =1+1", "set B1 =A1+1", "set C1 =B1+C1"])?;
     let w = Oracle::new(alloc);
-    let at = setting_of(alloc, &cells, &w);
-    let c = found(at, "C1", &mut Steps::new(Silent))?;
+    let at = evaluator_of(alloc, &cells, &w);
+    let c = found(&at, "C1", &mut Steps::new(Silent))?;
     let mut steps = Steps::new(Silent);
-    assert_eq!(rt; verdict_on(at, "C1", &c, &mut steps)?, Verdict::Accepted);
+    assert_eq!(rt; verdict_on(&at, "C1", &c, &mut steps)?, Verdict::Accepted);
     assert_eq!(rt; (c.notes.len(), c.loops.len(), steps.done()), (2, 1, 3));
     Ok(())
 }

@@ -1,12 +1,12 @@
 //! Certificates of as many keys as a calculation may demand, and of one more.
-use crate::tests::settings::{explained, is_found};
+use crate::tests::certificates::{evaluator_of, explained, is_found};
 use gl_cells::Cells;
 use gl_demand::{Silent, Steps};
 use gl_explain::Explained;
 use gl_plane::Oracle;
 use std::alloc::Global;
 use std::test::Fail;
-use tests_common::{Form, first_column, put_line, setting_of, sheet_with};
+use tests_common::{Form, first_column, put_line, sheet_with};
 
 /// In this row of the second column a copy of the first one with the number of the row in its last row.
 fn put_copy(alloc: Global, cells: &mut Cells, row: usize) -> Result<(), Fail> {
@@ -35,7 +35,7 @@ fn is_explained(alloc: Global, cells: &Cells) -> Result<bool, Fail> {
     let w = Oracle::new(alloc);
     // a step for each key, and one more for the sum, for each copy and for each settling
     is_found(
-        setting_of(alloc, cells, &w),
+        &evaluator_of(alloc, cells, &w),
         "C1",
         (500_000, 0, 500_101),
         "50",
@@ -52,7 +52,7 @@ fn as_many_keys_as_may_be_demanded(rt: HostRuntime) -> Result<(), Fail> {
 fn work(alloc: Global, cells: &Cells) -> Result<(bool, u64), Fail> {
     let w = Oracle::new(alloc);
     let mut steps = Steps::new(Silent);
-    match explained(setting_of(alloc, cells, &w), "C1", &mut steps)? {
+    match explained(&evaluator_of(alloc, cells, &w), "C1", &mut steps)? {
         Explained::Work => Ok((true, steps.done())),
         Explained::Cert(_) => Ok((false, steps.done())),
         Explained::Aborts(_) => Ok((false, steps.done())),

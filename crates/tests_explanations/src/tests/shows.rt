@@ -1,11 +1,11 @@
 //! What is found of addresses.
-use crate::tests::settings::{Counts, explained, found, is_found, verdict_on};
+use crate::tests::certificates::{Counts, evaluator_of, explained, found, is_found, verdict_on};
 use gl_cert::Verdict;
-use gl_demand::{Budget, Silent, Steps};
+use gl_demand::{Budget, Evaluator, Silent, Steps};
 use gl_explain::Explained;
 use gl_plane::{Oracle, Permit};
 use std::test::Fail;
-use tests_common::{Setting, one_entry, setting_of, sheet_of};
+use tests_common::{one_entry, sheet_of};
 
 /// A sheet, the permit of two cells from A1 down, and of an address the counts of its certificate and
 /// what is shown.
@@ -42,7 +42,7 @@ const ROWS: &[Row] = &[
 ];
 
 /// The verdict on the certificate of an address.
-fn said(at: Setting<'_>, name: &str) -> Result<Verdict, Fail> {
+fn said(at: &Evaluator<'_>, name: &str) -> Result<Verdict, Fail> {
     let c = found(at, name, &mut Steps::new(Silent))?;
     verdict_on(at, name, &c, &mut Steps::new(Silent))
 }
@@ -52,10 +52,10 @@ fn what_is_found_is_accepted(rt: HostRuntime) -> Result<(), Fail> {
     for row in ROWS {
         let cells = sheet_of(rt.alloc(), row.0)?;
         let w = one_entry(rt.alloc(), "A1", 2, 1, row.1)?;
-        let at = setting_of(rt.alloc(), &cells, &w);
-        let holds = is_found(at, row.2, row.3, row.4)?;
+        let at = evaluator_of(rt.alloc(), &cells, &w);
+        let holds = is_found(&at, row.2, row.3, row.4)?;
         assert!(rt; holds, "{} of {:?}", row.2, row.0);
-        let verdict = said(at, row.2)?;
+        let verdict = said(&at, row.2)?;
         assert!(rt; verdict == Verdict::Accepted, "{} of {:?}", row.2, row.0);
     }
     Ok(())
@@ -89,7 +89,7 @@ const BUDGETS: &[(&[&str], &str, Option<Budget>)] = &[
 ];
 
 /// The budget that explains an address, if one does.
-fn spent(at: Setting<'_>, name: &str) -> Result<Option<Budget>, Fail> {
+fn spent(at: &Evaluator<'_>, name: &str) -> Result<Option<Budget>, Fail> {
     match explained(at, name, &mut Steps::new(Silent))? {
         Explained::Aborts(b) => Ok(Some(b)),
         Explained::Cert(_) => Ok(None),
@@ -103,8 +103,8 @@ fn copies_that_spend_a_budget(rt: HostRuntime) -> Result<(), Fail> {
         let alloc = rt.alloc();
         let cells = sheet_of(alloc, lines)?;
         let w = Oracle::new(alloc);
-        let at = setting_of(alloc, &cells, &w);
-        assert!(rt; spent(at, name)? == *budget, "{name}");
+        let at = evaluator_of(alloc, &cells, &w);
+        assert!(rt; spent(&at, name)? == *budget, "{name}");
     }
     Ok(())
 }
@@ -120,10 +120,10 @@ fn copies_that_each_make_two(rt: HostRuntime) -> Result<(), Fail> {
     let alloc = rt.alloc();
     let cells = sheet_of(alloc, TREE)?;
     let w = Oracle::new(alloc);
-    let at = setting_of(alloc, &cells, &w);
+    let at = evaluator_of(alloc, &cells, &w);
     // a cell and a settling for each copy; a cell that makes two is evaluated three times, and each
     // settling twice
-    assert!(rt; is_found(at, "B1", (4_093, 0, 8_185), "1024")?);
-    assert_eq!(rt; said(at, "B1")?, Verdict::Accepted);
+    assert!(rt; is_found(&at, "B1", (4_093, 0, 8_185), "1024")?);
+    assert_eq!(rt; said(&at, "B1")?, Verdict::Accepted);
     Ok(())
 }

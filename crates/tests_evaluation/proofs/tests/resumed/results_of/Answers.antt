@@ -4,5 +4,5 @@ use Rattle.tests_evaluation.proofs.tests.resumed.results_of.Goals as goal
 
 pub returns : goal.returns
 returns c = λ n m.
-    let at = c.args.at.now in
-    ((c.into_results.ensures.notes (version_tree at.version) (sheet at.cells.now) at.w.now c.requires.for_it c.requires.quiet).each n m).1
+    let e = c.args.at.now in
+    ((c.into_results.ensures.notes (version_tree e.version) (sheet e.cells.now) e.oracle.now c.requires.for_it c.requires.quiet).each n m).1

@@ -1,12 +1,10 @@
 use Rattle.std.proofs.Common.{subst, sym}
 use Rattle.gl_query.specs.Remembered.{AreTrue}
 use Rattle.gl_calculus.specs.Key.{same_key}
-use Rattle.gl_calculus.specs.Evaluation.{program}
-use Rattle.gl_ast.specs.View.{version_tree}
-use Rattle.gl_cells.specs.Sheet.{sheet}
+use Rattle.gl_demand.specs.Evaluators.{program_of}
 use Rattle.tests_evaluation.proofs.tests.tidied.tidied.Goals as goal
 
 pub returns : goal.returns
 returns c =
-    let at = c.args.at.now in
-    subst (AreTrue same_key (program (version_tree at.version) (sheet at.cells.now) at.w.now)) (sym c.tidy.ensures) c.requires
+    let e = c.args.at.now in
+    subst (AreTrue same_key (program_of e)) (sym c.tidy.ensures) c.requires

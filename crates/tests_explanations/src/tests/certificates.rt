@@ -3,28 +3,42 @@ ghost use Rattle.std.specs.Prelude.{IsTrue, map};
 ghost use Rattle.gl_demand.specs.{Sound.AreSoundKeys, View.key_tree};
 ghost use Rattle.gl_cert.specs.Claims.{claim_trees};
 
+use gl_ast::Version;
+use gl_cells::Cells;
 use gl_cert::{Cert, Verdict, check};
-use gl_demand::{Key, Outcome, Silent, Steps};
+use gl_demand::{Evaluator, Key, Outcome, Silent, Steps};
 use gl_explain::{Explained, certificate};
+use gl_plane::Oracle;
 use gl_views::shown_text;
+use std::alloc::Global;
 use std::test::Fail;
-use tests_common::{Setting, address};
+use tests_common::address;
+
+/// What keys of a sheet are evaluated by under an oracle, in version 1.
+pub fn evaluator_of<'a>(alloc: Global, cells: &'a Cells, w: &'a Oracle) -> Evaluator<'a> {
+    Evaluator {
+        alloc,
+        cells,
+        oracle: w,
+        version: Version::One,
+    }
+}
 
 /// What explains an address.
 pub fn explained(
-    at: Setting<'_>,
+    at: &Evaluator<'_>,
     name: &str,
     steps: &mut Steps<Silent>,
 ) -> Result<Explained, Fail> {
     let a = address(name)?;
-    match certificate(at.alloc, at.cells, at.w, a, at.version, steps) {
+    match certificate(at.alloc, at.cells, at.oracle, a, at.version, steps) {
         Ok(x) => Ok(x),
         Err(e) => Err(e.into()),
     }
 }
 
 /// The certificate of an address.
-pub fn found(at: Setting<'_>, name: &str, steps: &mut Steps<Silent>) -> Result<Cert, Fail> {
+pub fn found(at: &Evaluator<'_>, name: &str, steps: &mut Steps<Silent>) -> Result<Cert, Fail> {
     match explained(at, name, steps)? {
         Explained::Cert(c) => Ok(c),
         Explained::Work => Err("too much work".into()),
@@ -36,7 +50,7 @@ pub fn found(at: Setting<'_>, name: &str, steps: &mut Steps<Silent>) -> Result<C
 pub type Counts = (usize, usize, u64);
 
 /// The certificate of an address has these counts, and says that this is shown.
-pub fn is_found(at: Setting<'_>, name: &str, counts: Counts, text: &str) -> Result<bool, Fail> {
+pub fn is_found(at: &Evaluator<'_>, name: &str, counts: Counts, text: &str) -> Result<bool, Fail> {
     let mut steps = Steps::new(Silent);
     let c = found(at, name, &mut steps)?;
     let counted = (c.notes.len(), c.loops.len(), steps.done());
@@ -71,7 +85,7 @@ fn are_of_sound_keys(notes: &[(Key, Outcome)]) -> bool
 
 /// The verdict on a certificate of an address.
 pub fn verdict_on(
-    at: Setting<'_>,
+    at: &Evaluator<'_>,
     name: &str,
     c: &Cert,
     steps: &mut Steps<Silent>,
@@ -83,7 +97,7 @@ pub fn verdict_on(
     if !are_sound(&c.loops) {
         return Err("a loop that is not sound".into());
     }
-    match check(at.alloc, at.cells, at.w, a, c, at.version, steps) {
+    match check(at.alloc, at.cells, at.oracle, a, c, at.version, steps) {
         Ok(verdict) => Ok(verdict),
         Err(e) => Err(e.into()),
     }
