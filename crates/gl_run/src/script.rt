@@ -9,11 +9,21 @@ use gl_undo::History;
 use std::alloc::Global;
 
 /// The calculator with the sheet, the replica if the script is one, and what can be undone.
-#[derive(Drop)]
 pub struct Script {
     pub calc: Calc,
     pub replica: Option<Replica>,
     pub history: History,
+}
+
+// One call wherever it is dropped, in place of one for each part.
+impl Drop for Script {
+    fn drop(self) {
+        let Script {
+            calc,
+            replica,
+            history,
+        } = self;
+    }
 }
 
 /// The empty sheet, no replica, and nothing to undo.
