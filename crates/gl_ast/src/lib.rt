@@ -16,14 +16,14 @@ pub use notation::{put_address, put_int, put_number, put_range, put_truth};
 use std::rc::RcStr;
 
 /// The version of the script, which some functions go by.
-#[derive(Clone, Copy, PartialEq, Eq, Hash)]
+#[derive(Clone, Copy, PartialEq, Eq)]
 pub enum Version {
     One,
     Two,
 }
 
 /// The levels of operators that chain, from the loosest to the tightest: `&`, then `+` and `-`, then `*` and `/`.
-#[derive(Clone, Copy, PartialEq, Eq, Hash)]
+#[derive(Clone, Copy, PartialEq, Eq)]
 pub enum Level {
     Cat,
     Sum,
@@ -31,7 +31,7 @@ pub enum Level {
 }
 
 /// The operators with two operands.
-#[derive(Clone, Copy, PartialEq, Eq, Hash, Debug)]
+#[derive(Clone, Copy, PartialEq, Eq, Debug)]
 pub enum Op {
     Eq,
     Ne,
@@ -47,7 +47,7 @@ pub enum Op {
 }
 
 /// The functions, each called by its word in upper case. `LET` is a form of its own.
-#[derive(Clone, Copy, PartialEq, Eq, Hash)]
+#[derive(Clone, Copy, PartialEq, Eq)]
 pub enum Fun {
     Sum,
     Count,

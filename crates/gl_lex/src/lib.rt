@@ -18,7 +18,7 @@ pub use whole::literal;
 pub const MAX_FORMULA: usize = 8192;
 
 /// The signs between words, numbers and texts.
-#[derive(Clone, Copy, PartialEq, Eq, Hash)]
+#[derive(Clone, Copy, PartialEq, Eq)]
 pub enum Sign {
     Eq,
     Ne,

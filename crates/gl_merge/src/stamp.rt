@@ -6,7 +6,7 @@ use crate::MAX_TIME;
 use std::marker::Model;
 
 /// The time and the site of an edit. The order is by time, then by site.
-#[derive(Clone, Copy, PartialEq, Eq, PartialOrd, Ord, Hash)]
+#[derive(Clone, Copy, PartialEq, Eq, PartialOrd, Ord)]
 pub struct Stamp {
     time: u64,
     site: u16,

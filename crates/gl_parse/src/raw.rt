@@ -12,7 +12,6 @@ pub struct Span {
 }
 
 /// A form of the grammar. Parentheses make none.
-#[derive(Drop)]
 pub enum Raw {
     Number(i64),
     Text(RcStr),
@@ -27,4 +26,29 @@ pub enum Raw {
     Compare(Op, Box<Raw>, Box<Raw>),
     /// a call of a word, which may be no function
     Apply(Span, Vec<Raw>),
+}
+
+// derived, it would be taken apart wherever a function of the parser can return
+impl Drop for Raw {
+    fn drop(self) {
+        match self {
+            Raw::Number(_) => {}
+            Raw::Text(t) => drop(t),
+            Raw::Bool(_) => {}
+            Raw::At(_) => {}
+            Raw::Spill(_) => {}
+            Raw::Corners(_, _) => {}
+            Raw::Var(_) => {}
+            Raw::Neg(x) => drop(x),
+            Raw::Chain(_, x, others) => {
+                drop(x);
+                drop(others);
+            }
+            Raw::Compare(_, x, y) => {
+                drop(x);
+                drop(y);
+            }
+            Raw::Apply(_, xs) => drop(xs),
+        }
+    }
 }

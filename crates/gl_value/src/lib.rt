@@ -90,7 +90,7 @@ pub enum Env {
 }
 
 /// What an address shows.
-#[derive(Drop, PartialEq, Eq, Hash)]
+#[derive(Drop, PartialEq, Eq)]
 pub enum Shown {
     Cycle,
     Value(Scalar),
@@ -99,7 +99,7 @@ pub enum Shown {
 /// What `sheet` and `update` answer: a sheet value, or the first of these tests that fails, which
 /// are that the address lies in the region, that the rank is at most `MAX_RANK`, and that the
 /// weight is at most `MAX_WEIGHT`.
-#[derive(Drop, PartialEq, Eq, Hash)]
+#[derive(Drop, PartialEq, Eq)]
 pub enum Made {
     Sheet(Rc<SheetVal>),
     Outside,

@@ -1,4 +1,5 @@
-//! Tests of the sheet, of imports, of the texts of what is shown, and of scripts.
+//! Tests of the sheet: of its cells, imports and scripts, of the texts of what is shown, of
+//! replicas and of steps that are undone and done again, and of its forecast.
 #![tactic(auto)]
 
 #[cfg(test)]

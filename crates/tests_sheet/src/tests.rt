@@ -2,5 +2,10 @@
 mod asserts;
 mod cells;
 mod csvin;
+mod forecasts;
+mod foretold;
+mod large_forecasts;
+mod replicas;
 mod script;
+mod undo;
 mod views;

@@ -59,26 +59,30 @@ fn grouped(alloc: Global) -> Result<Formula, Fail> {
 }
 
 /// The formula has this canonical text.
-fn is_printed(alloc: Global, f: &Formula, want: &str) -> Result<bool, Fail> {
-    Ok(print(alloc, f)?.as_str() == want)
+fn is_printed(alloc: Global, f: Formula, want: &str) -> Result<bool, Fail> {
+    Ok(print(alloc, &f)?.as_str() == want)
+}
+
+/// The formula is the same as eight `-` in a row.
+fn is_minuses(alloc: Global, f: Formula) -> Result<bool, Fail> {
+    Ok(same_formula(&f, &minuses(alloc)?))
 }
 
 #[test]
 fn canonical_texts(rt: HostRuntime) -> Result<(), Fail> {
     let alloc = rt.alloc();
-    assert!(rt; is_printed(alloc, &minuses(alloc)?, "1--------(-2)*3")?);
+    assert!(rt; is_printed(alloc, minuses(alloc)?, "1--------(-2)*3")?);
     let atoms_text = "VSTACK(\"a\\\\\\\"\\n\\r\\t\\x01\\x7F\u{20ac}\",FALSE,AA10,Z1#,AA10:ZZ9999)";
-    assert!(rt; is_printed(alloc, &atoms(alloc)?, atoms_text)?);
-    assert!(rt; is_printed(alloc, &grouped(alloc)?, "(1+2)+3")?);
-    assert!(rt; is_printed(alloc, &binding(alloc)?, "LET(x,5,x&2<=3)")?);
+    assert!(rt; is_printed(alloc, atoms(alloc)?, atoms_text)?);
+    assert!(rt; is_printed(alloc, grouped(alloc)?, "(1+2)+3")?);
+    assert!(rt; is_printed(alloc, binding(alloc)?, "LET(x,5,x&2<=3)")?);
     Ok(())
 }
 
 #[test]
 fn equal_formulas(rt: HostRuntime) -> Result<(), Fail> {
     let alloc = rt.alloc();
-    let f = minuses(alloc)?;
-    assert!(rt; same_formula(&f, &minuses(alloc)?));
-    assert!(rt; !same_formula(&f, &binding(alloc)?));
+    assert!(rt; is_minuses(alloc, minuses(alloc)?)?);
+    assert!(rt; !is_minuses(alloc, binding(alloc)?)?);
     Ok(())
 }

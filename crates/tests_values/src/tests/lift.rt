@@ -44,12 +44,17 @@ fn two_values(rt: HostRuntime) -> Result<(), Fail> {
     Ok(())
 }
 
+/// Two values, and their sums.
+const SUMS: &[(&str, &str, &str)] = &[
+    ("{1 / 2}", "{1 2 3}", "{2 3 4 / 3 4 5}"),
+    ("{1 / 2}", "{1 / 2 / 3}", "{2 / 4 / #N/A}"),
+];
+
 #[test]
 fn sums_of_sequences(rt: HostRuntime) -> Result<(), Fail> {
-    let table = both(rt.alloc(), 1, "{1 / 2}", "{1 2 3}")?;
-    assert_eq!(rt; table.as_str(), "{2 3 4 / 3 4 5}");
-    let column = both(rt.alloc(), 1, "{1 / 2}", "{1 / 2 / 3}")?;
-    assert_eq!(rt; column.as_str(), "{2 / 4 / #N/A}");
+    for (u, v, want) in SUMS {
+        assert!(rt; both(rt.alloc(), 1, u, v)?.as_str() == *want, "{u} {v}");
+    }
     Ok(())
 }
 

@@ -1,5 +1,5 @@
 //! Forecasts of small sheets.
-use crate::tests::told::{Told, is_told};
+use crate::tests::foretold::{Told, is_told};
 use std::alloc::Global;
 use std::test::Fail;
 use tests_common::sheet_of;

@@ -1,5 +1,5 @@
 //! Forecasts of large sheets.
-use crate::tests::told::{Told, is_told};
+use crate::tests::foretold::{Told, is_told};
 use std::alloc::Global;
 use std::test::Fail;
 use tests_common::{Column, Form, put_column, sheet_of};

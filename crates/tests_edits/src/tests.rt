@@ -1,3 +1,0 @@
-// The tests, a file for each concept.
-mod replicas;
-mod undo;
