@@ -1,11 +1,10 @@
 -- The value of a cell, which looks at its own address first, and answers without memory.
-use Rattle.std.proofs.Common.{◌≡◌, Option, Some, None, Result, Ok, Err, ap, sym, subst, ◌∙◌, refl, IsTrue}
+use Rattle.std.proofs.Common.{◌≡◌, Option, None, Result, Ok, ap, sym, subst, ◌∙◌, refl, IsTrue}
 use Rattle.gl_query.specs.Query.{Ready}
 use Rattle.gl_calculus.specs.Grid.{Addr, single}
 use Rattle.gl_calculus.specs.Value as V
 use Rattle.gl_calculus.specs.Value.{Frame}
 use Rattle.gl_calculus.specs.Formula.{Version}
-use Rattle.gl_calculus.specs.Key.{Eval}
 use Rattle.gl_calculus.specs.Reference.{Held}
 use Rattle.gl_calculus.specs.Evaluation.{cell_value}
 use Rattle.gl_calculus.specs.Sound.{is_sound_value}
@@ -18,7 +17,6 @@ use Rattle.gl_demand.specs.Walk.{World, walk, looking}
 use Rattle.gl_demand.specs.Walks.{Walks, trail_tree}
 use Rattle.gl_demand.specs.declared.trail.Trail as Code
 use Rattle.gl_demand.specs.declared.trail.Halt.{Halt}
-use Rattle.gl_demand.specs.declared.trail.Halt.TheVariants as halt
 use Rattle.gl_demand.proofs.Walking.{over, later}
 
 blank_tree : V.Value.One V.Scalar.Blank ≡ value_tree (One Blank)
@@ -26,10 +24,6 @@ blank_tree = sym (value_tree-One Blank ∙ ap V.Value.One scalar_tree-Blank)
 
 pub blank_sound : IsTrue (is_sound_value (value_tree (One Blank)))
 blank_sound = subst (λ v. IsTrue (is_sound_value v)) blank_tree refl
-
--- nothing is said where there is no memory
-pub no_memory : {T R : Type 0} (w : World) (p : Eval R) (f : T → R) (old new : Code.Trail) (h : Halt) → h ≡ halt.NoMemory → Walks w p f old (Err h) new
-no_memory {T} w p f old new h i = subst (λ z. Walks {T = T} w p f old (Err z) new) (sym i) tt
 
 module _ (w : World) (v : Version) (e : Frame) where
   pub looked_on : {B : Type 0} (held h : Option Held) (a : Addr) (f : B → V.Value) (old mid new : Code.Trail) (r : Result B Halt) → trail_tree mid ≡ looking (single a) (trail_tree old) → held ≡ h

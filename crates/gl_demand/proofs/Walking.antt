@@ -68,6 +68,10 @@ module _ (w : World) where
   halts g p f f' old new (halt.Spent b) e = walk-bind (on_result g) p (trail_tree old) ∙ ap (λ e. then_walk e (λ r v. walk w (on_result g r) v)) e
   halts g p f f' old new halt.NoMemory e = tt
 
+-- nothing is said where there is no memory
+pub no_memory : {T R : Type 0} (w : World) (p : Eval R) (f : T → R) (old new : Code.Trail) (h : Halt) → h ≡ halt.NoMemory → Walks w p f old (Err h) new
+no_memory {T} w p f old new h i = subst (λ z. Walks {T = T} w p f old (Err z) new) (sym i) tt
+
 -- ---- results before those of the rest
 
 module _ {A : Type 0} where

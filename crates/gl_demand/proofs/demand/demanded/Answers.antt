@@ -8,8 +8,7 @@ use Rattle.gl_demand.specs.View.{key_tree, outcome_tree}
 use Rattle.gl_demand.specs.Walk.{world}
 use Rattle.gl_demand.specs.Walks.{Walks}
 use Rattle.gl_demand.specs.declared.outcome.Outcome.{Outcome}
-use Rattle.gl_demand.proofs.Cells.{no_memory}
-use Rattle.gl_demand.proofs.Walking.{goes_on, halts}
+use Rattle.gl_demand.proofs.Walking.{goes_on, halts, no_memory}
 use Rattle.gl_demand.proofs.demand.demanded.Goals as goal
 
 pub returns-in-Ok-demand-clause-walk : goal.returns-in-Ok-demand-clause-walk

@@ -9,7 +9,8 @@ use Rattle.gl_value.specs.declared.Value.{One}
 use Rattle.gl_demand.specs.Cells.{looked_cell}
 use Rattle.gl_demand.specs.Held.{held_tree}
 use Rattle.gl_demand.specs.Walk.{world}
-use Rattle.gl_demand.proofs.Cells.{blank_sound, blank_cell, looked_on, no_memory}
+use Rattle.gl_demand.proofs.Cells.{blank_sound, blank_cell, looked_on}
+use Rattle.gl_demand.proofs.Walking.{no_memory}
 use Rattle.gl_demand.proofs.evaluating.cell_at.Goals as goal
 
 pub returns-in-Some-clause-walk : goal.returns-in-Some-clause-walk

@@ -1,4 +1,5 @@
 use Rattle.std.proofs.Common.{◌≡◌, ◌*◌, ◌++◌, ◌∙◌, ap, arith, map, sym, length, vec_len}
+use Rattle.std.proofs.lemmas.Grind.{common_steps}
 use Rattle.std.specs.List.{range_with_len}
 use Rattle.gl_calculus.specs.Grid.{size}
 use Rattle.gl_value.specs.Forms.{value_tree-Array}
@@ -29,3 +30,6 @@ returns-in-Some g c =
           let items = rw done at (c.loop-i.invariant.1 rule h) in
           rw (value_tree-Array, c.in_ok-new-in-Some.ensures.ok, c.new-in-Some.ensures, c.in-Some.ensures.1) (table_is (size c.args.rows c.args.cols) c.loop-i.items.items rule c.in-Some.ensures.0 items);
     }
+
+pub loop-i-init : goal.loop-i-init
+loop-i-init g c = grind (arith, common_steps)
