@@ -1,4 +1,4 @@
-//! Tests of calculations of whole sheets, and of what is held of them.
+//! Tests of calculations of whole sheets, of what is held of them, and of what explains it.
 #![tactic(auto)]
 
 #[cfg(test)]

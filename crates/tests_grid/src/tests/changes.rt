@@ -12,7 +12,7 @@ fn places_of(alloc: Global, names: &[&str]) -> Result<Vec<Addr>, Fail> {
     Ok(places)
 }
 
-fn ranges_of(alloc: Global, names: &[&str]) -> Result<Vec<Range>, Fail> {
+pub fn ranges_of(alloc: Global, names: &[&str]) -> Result<Vec<Range>, Fail> {
     let mut ranges = Vec::new(alloc);
     for name in names {
         ranges.push(range(name)?)?;

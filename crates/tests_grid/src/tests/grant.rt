@@ -143,23 +143,27 @@ fn many_arrays(alloc: Global) -> Result<Sizes, Fail> {
     Ok(sizes)
 }
 
+/// The address by this number, modulo 8,000 below A1 and modulo 3 right of it, is looked up.
+fn is_looked_up(w: &Oracle, number: u16) -> Result<bool, Fail> {
+    let below = number % 8000;
+    let right = number % 3;
+    let a = Addr::new(right + 1, below + 1).ok_or("address")?;
+    let root = Addr::new(1, below - below % 2 + 1).ok_or("root")?;
+    let permit = if a == root {
+        Some(Permit::Permitted)
+    } else {
+        None
+    };
+    Ok(w.status(a) == permit && w.cover(a) == Some((root, below % 2, right)))
+}
+
 #[test]
 fn many_roots_are_looked_up(rt: HostRuntime) -> Result<(), Fail> {
     let blocks = OneContent { at: address("D1")? };
     let w = granted(rt.alloc(), &many_arrays(rt.alloc())?, &blocks)?;
-    assert_eq!(rt; w.len(), 4000);
+    assert!(rt; w.len() == 4000);
     for i in 0..10000 {
-        let below = i % 8000;
-        let right = i % 3;
-        let a = Addr::new(right + 1, below + 1).ok_or("address")?;
-        let root = Addr::new(1, below - below % 2 + 1).ok_or("root")?;
-        let permit = if a == root {
-            Some(Permit::Permitted)
-        } else {
-            None
-        };
-        assert!(rt; w.status(a) == permit, "at {i}");
-        assert!(rt; w.cover(a) == Some((root, below % 2, right)), "at {i}");
+        assert!(rt; is_looked_up(&w, i)?, "at {i}");
     }
     Ok(())
 }

@@ -1,7 +1,8 @@
 //! Addresses by the rule and by number, an oracle and sizes of one entry.
-use gl_plane::{Addr, Entry, Oracle, Permit, Sizes};
+use gl_plane::{Addr, Permit, Sizes};
+use std::alloc::Global;
 use std::test::Fail;
-use tests_common::{address, size};
+use tests_common::{address, one_entry, size};
 
 // The rule for addresses, said apart: one or two letters, then one to four digits that do not begin with 0.
 fn is_address(text: &[u8]) -> bool {
@@ -14,29 +15,48 @@ fn is_address(text: &[u8]) -> bool {
         && text[letters..].iter().all(|b| b.is_ascii_digit())
 }
 
-// Each text of up to five of these bytes is read exactly where the rule allows it, and written back as it was.
+/// How many texts of so many of five bytes there are.
+const LENGTHS: &[(u32, u32)] = &[(0, 1), (1, 5), (2, 25), (3, 125), (4, 625), (5, 3125)];
+
+/// The text of so many bytes with this number.
+fn text_at(alloc: Global, length: u32, number: u32) -> Result<Vec<u8>, Fail> {
+    let bytes = *b"AZ09a";
+    let mut text = Vec::new(alloc);
+    let mut rest = number;
+    for _ in 0..length {
+        text.push(bytes[(rest % 5) as usize])?;
+        rest /= 5;
+    }
+    Ok(text)
+}
+
+/// The text is read exactly where the rule allows it, and written back as it was.
+fn is_read_by_the_rule(alloc: Global, text: &[u8]) -> Result<bool, Fail> {
+    let Some(a) = Addr::read(text) else {
+        return Ok(!is_address(text));
+    };
+    let mut out = Vec::new(alloc);
+    a.text(&mut out)?;
+    Ok(is_address(text) && out.as_slice() == text)
+}
+
+/// Each of so many texts of this length is.
+fn are_read_by_the_rule(alloc: Global, length: u32, texts: u32) -> Result<bool, Fail> {
+    for number in 0..texts {
+        if !is_read_by_the_rule(alloc, &text_at(alloc, length, number)?)? {
+            return Ok(false);
+        }
+    }
+    Ok(true)
+}
+
 #[test]
 fn addresses_are_read_by_the_rule(rt: HostRuntime) -> Result<(), Fail> {
-    let bytes = *b"AZ09a";
-    for (length, texts) in [(0, 1), (1, 5), (2, 25), (3, 125), (4, 625), (5, 3125)] {
-        for number in 0..texts {
-            let mut text: Vec<u8> = Vec::new(rt.alloc());
-            let mut rest: u32 = number;
-            for _ in 0..length {
-                text.push(bytes[(rest % 5) as usize])?;
-                rest /= 5;
-            }
-            let found = Addr::read(&text);
-            assert!(rt;
-                found.is_some() == is_address(&text),
-                "at {number} of {length}"
-            );
-            if let Some(a) = found {
-                let mut out: Vec<u8> = Vec::new(rt.alloc());
-                assert!(rt; a.text(&mut out).is_ok());
-                assert_eq!(rt; out.as_slice(), text.as_slice());
-            }
-        }
+    for (length, texts) in LENGTHS {
+        assert!(rt;
+            are_read_by_the_rule(rt.alloc(), *length, *texts)?,
+            "{length} bytes"
+        );
     }
     Ok(())
 }
@@ -61,16 +81,20 @@ fn addresses_by_number(rt: HostRuntime) -> Result<(), Fail> {
 }
 
 #[test]
-fn one_entry_and_one_size(rt: HostRuntime) -> Result<(), Fail> {
+fn an_oracle_of_one_entry(rt: HostRuntime) -> Result<(), Fail> {
+    let root = address("B2")?;
+    let oracle = one_entry(rt.alloc(), "B2", 2, 3, Permit::Permitted)?;
+    assert!(rt; (oracle.len(), oracle.status(root)) == (1, Some(Permit::Permitted)));
+    assert!(rt; oracle.cover(address("D3")?) == Some((root, 1, 2)));
+    Ok(())
+}
+
+#[test]
+fn sizes_of_one_array(rt: HostRuntime) -> Result<(), Fail> {
     let root = address("B2")?;
     let size = size(2, 3)?;
-    let permit = Permit::Permitted;
-    let mut oracle = Oracle::new(rt.alloc());
-    assert!(rt; oracle.push(Entry { root, size, permit }).is_ok());
-    assert_eq!(rt; (oracle.len(), oracle.status(root)), (1, Some(permit)));
-    assert_eq!(rt; oracle.cover(address("D3")?), Some((root, 1, 2)));
     let mut sizes = Sizes::new(rt.alloc());
-    assert!(rt; sizes.push(root, size).is_ok());
-    assert_eq!(rt; sizes.at(0), Some((root, size)));
+    sizes.push(root, size)?;
+    assert!(rt; sizes.at(0) == Some((root, size)));
     Ok(())
 }

@@ -1,11 +1,12 @@
 //! What a change affects, where names read names and look at places.
-use gl_plane::{NoMemory, Range, Share};
+use crate::tests::changes::ranges_of;
+use gl_plane::{NoMemory, Share};
 use gl_support::Support;
 use std::alloc::Global;
 use std::test::Fail;
 use tests_common::range;
 
-#[derive(Clone, Copy, PartialEq, Eq, Hash, Debug)]
+#[derive(Clone, Copy, PartialEq, Eq, Hash)]
 pub struct Name(pub u32);
 
 impl Share for Name {
@@ -22,38 +23,41 @@ impl Share for Name {
     }
 }
 
-/// The names that a change of these places affects, where name `k` reads its row.
-fn affected(
-    alloc: Global,
-    rows: &[(u32, &[Name], Range)],
-    changed: &[Range],
-) -> Result<Vec<Name>, NoMemory> {
+/// A name, the names that it reads, and the range that it looks at.
+type Row = (u32, &'static [Name], &'static str);
+
+// 3 reads 9, 9 reads 3 and 1; 1 alone looks at B1; 4 reads a name that has no triple.
+const ROWS: &[Row] = &[
+    (9, &[Name(3), Name(1)], "A1:A1"),
+    (4, &[Name(7)], "A1:A1"),
+    (3, &[Name(9)], "A1:A1"),
+    (1, &[], "B1:B1"),
+    (9, &[Name(4)], "A1:A1"),
+];
+
+/// Rows, ranges that change, and the names that this affects.
+const CHANGES: &[(&[Row], &[&str], &[Name])] = &[
+    (ROWS, &["B1:B1"], &[Name(9), Name(3), Name(1)]),
+    (ROWS, &["A1:A1"], &[Name(9), Name(4), Name(3)]),
+    (ROWS, &[], &[]),
+    (&[], &["A1:A1"], &[]),
+];
+
+/// The names that a change of these ranges affects.
+fn affected(alloc: Global, rows: &[Row], changed: &[&str]) -> Result<Vec<Name>, Fail> {
     let mut support = Support::new(alloc);
     for (by, reads, place) in rows {
-        support.add(alloc, Name(*by), reads, &[*place])?;
+        support.add(alloc, Name(*by), reads, &[range(place)?])?;
     }
-    support.affected(alloc, changed)
+    Ok(support.affected(alloc, &ranges_of(alloc, changed)?)?)
 }
 
 #[test]
 fn members_in_the_order_of_adding(rt: HostRuntime) -> Result<(), Fail> {
-    let alloc = rt.alloc();
-    let a = range("A1:A1")?;
-    let b = range("B1:B1")?;
-    // 3 reads 9, 9 reads 3 and 1; 1 alone looks at b; 4 reads a name that has no triple.
-    let rows = [
-        (9, [Name(3), Name(1)].as_slice(), a),
-        (4, [Name(7)].as_slice(), a),
-        (3, [Name(9)].as_slice(), a),
-        (1, [].as_slice(), b),
-        (9, [Name(4)].as_slice(), a),
-    ];
-    let found = affected(alloc, &rows, &[b])?;
-    assert_eq!(rt; found.as_slice(), [Name(9), Name(3), Name(1)].as_slice());
-    let found = affected(alloc, &rows, &[a])?;
-    assert_eq!(rt; found.as_slice(), [Name(9), Name(4), Name(3)].as_slice());
-    assert!(rt; affected(alloc, &rows, &[])?.is_empty());
-    assert!(rt; affected(alloc, &[], &[a])?.is_empty());
+    for (rows, changed, names) in CHANGES {
+        let found = affected(rt.alloc(), rows, changed)?;
+        assert!(rt; found.as_slice() == *names, "{changed:?}");
+    }
     Ok(())
 }
 

@@ -48,28 +48,22 @@ fn take(replica: &mut Replica, e: Edit) -> Result<Judged, RoomFault> {
     Ok(judged)
 }
 
-/// A register, as `2 1 A1 6`, or `2 1 A1` where there is no content.
-fn push_register(alloc: Global, out: &mut String, e: &Edit) -> Result<(), Fail> {
-    let stamp = e.stamp();
-    let place = e.place();
-    let line = format!(in alloc;
-        "{} {} {},{}",
-        stamp.time(),
-        stamp.site(),
-        place.col(),
-        place.row()
-    )?;
-    out.push_str(line.as_str())?;
-    match e.content() {
-        Some(Content::Const(x)) => {
-            out.push(' ')?;
-            out.push_str(scalar_text(alloc, x)?.as_str())?;
-        }
-        Some(Content::Form(_)) => out.push_str(" =")?,
-        None => {}
+/// A constant, `=` for a formula, and `-` where there is no content.
+pub fn told(alloc: Global, content: Option<&Content>) -> Result<String, Fail> {
+    match content {
+        Some(Content::Const(x)) => Ok(scalar_text(alloc, x)?),
+        Some(Content::Form(_)) => Ok("=".to_string(alloc)?),
+        None => Ok("-".to_string(alloc)?),
     }
-    out.push(';')?;
-    Ok(())
+}
+
+/// A register, as `2 1 1,1 6;` with its time, site, column, row and content.
+fn push_register(alloc: Global, out: &mut String, e: &Edit) -> Result<(), Fail> {
+    let (stamp, place) = (e.stamp(), e.place());
+    let (time, site, col, row) = (stamp.time(), stamp.site(), place.col(), place.row());
+    let content = told(alloc, e.content())?;
+    let line = format!(in alloc; "{time} {site} {col},{row} {content};")?;
+    Ok(out.push_str(line.as_str())?)
 }
 
 fn registers(alloc: Global, replica: &Replica) -> Result<String, Fail> {
@@ -113,7 +107,7 @@ const ORDERS: &[&[u8]] = &[
 fn agrees(alloc: Global, order: &[u8]) -> Result<bool, Fail> {
     let replica = taken(alloc, 9, order)?;
     let told = registers(alloc, &replica)?;
-    Ok(told.as_str() == "4 3 1,1;3 2 2,1 =;" && replica.next() == Stamp::new(5, 9))
+    Ok(told.as_str() == "4 3 1,1 -;3 2 2,1 =;" && replica.next() == Stamp::new(5, 9))
 }
 
 #[test]
@@ -142,6 +136,9 @@ const EDITS: &[Row] = &[
     (1, 1, "set B1 9", Judged::Wins),
 ];
 
+/// The times of removals of A1 behind them, and what these are.
+const REMOVALS: &[(u64, Judged)] = &[(4, Judged::Conflict), (7, Judged::Wins), (7, Judged::Same)];
+
 /// The replica takes the edit as the row says.
 fn is_judged(alloc: Global, replica: &mut Replica, row: &Row) -> Result<bool, Fail> {
     let (time, site, line, want) = row;
@@ -159,10 +156,10 @@ fn edits_are_judged(rt: HostRuntime) -> Result<(), Fail> {
     for row in EDITS {
         assert!(rt; is_judged(rt.alloc(), &mut replica, row)?, "{}", row.2);
     }
-    assert!(rt; is_removed(&mut replica, 4, Judged::Conflict)?);
-    assert!(rt; is_removed(&mut replica, 7, Judged::Wins)?);
-    assert!(rt; is_removed(&mut replica, 7, Judged::Same)?);
-    assert!(rt; registers(rt.alloc(), &replica)?.as_str() == "7 1 1,1;1 1 2,1 9;");
+    for (time, want) in REMOVALS {
+        assert!(rt; is_removed(&mut replica, *time, *want)?, "{time}");
+    }
+    assert!(rt; registers(rt.alloc(), &replica)?.as_str() == "7 1 1,1 -;1 1 2,1 9;");
     Ok(())
 }
 
@@ -202,17 +199,31 @@ fn take_row(replica: &mut Replica, row: u16, cols: u16) -> Result<(), Fail> {
     Ok(())
 }
 
-#[test]
-fn as_many_registers_as_there_may_be(rt: HostRuntime) -> Result<(), Fail> {
-    let mut replica = Replica::new(rt.alloc(), 1);
+/// A replica with as many registers as there may be.
+fn full(alloc: Global) -> Result<Replica, Fail> {
+    let mut replica = Replica::new(alloc, 1);
     for row in 0..256 {
         take_row(&mut replica, row + 1, 512)?;
     }
-    assert_eq!(rt; replica.len() as usize, MAX_REGISTERS);
-    let last = setting(rt.alloc(), 2, 1, "set A257 5")?;
-    assert_eq!(rt; take(&mut replica, last), Err(RoomFault::Edits));
-    let present = setting(rt.alloc(), 2, 1, "set A1 5")?;
-    assert_eq!(rt; take(&mut replica, present)?, Judged::Wins);
-    assert_eq!(rt; replica.len() as usize, MAX_REGISTERS);
+    Ok(replica)
+}
+
+/// The lines of edits of a new address and of one that has a register, and how a full replica takes them.
+const BEHIND: &[(&str, Result<Judged, RoomFault>)] = &[
+    ("set A257 5", Err(RoomFault::Edits)),
+    ("set A1 5", Ok(Judged::Wins)),
+];
+
+#[test]
+fn as_many_registers_as_there_may_be(rt: HostRuntime) -> Result<(), Fail> {
+    let mut replica = full(rt.alloc())?;
+    assert!(rt; replica.len() as usize == MAX_REGISTERS);
+    for (line, want) in BEHIND {
+        assert!(rt;
+            take(&mut replica, setting(rt.alloc(), 2, 1, line)?) == *want,
+            "{line}"
+        );
+    }
+    assert!(rt; replica.len() as usize == MAX_REGISTERS);
     Ok(())
 }

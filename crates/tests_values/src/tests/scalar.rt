@@ -2,7 +2,7 @@
 use gl_ast::Op;
 use gl_plane::NoMemory;
 use gl_scalar::{arith, compare, join_text, negate};
-use gl_value::{MAX_TEXT, Scalar};
+use gl_value::{ErrKind, MAX_TEXT, Scalar};
 use std::alloc::Global;
 use std::rc::RcStr;
 use std::test::Fail;
@@ -232,7 +232,13 @@ fn the_longest_text(rt: HostRuntime) -> Result<(), Fail> {
     let longest = longest(rt.alloc())?;
     let as_long = join_text(rt.alloc(), &longest, &Scalar::Blank)?;
     assert!(rt; as_long == longest);
+    Ok(())
+}
+
+#[test]
+fn a_text_that_is_longer(rt: HostRuntime) -> Result<(), Fail> {
+    let longest = longest(rt.alloc())?;
     let longer = join_text(rt.alloc(), &longest, &text(rt.alloc(), "x")?)?;
-    assert_eq!(rt; scalar_text(rt.alloc(), &longer)?.as_str(), "#SIZE!");
+    assert!(rt; longer == Scalar::Err(ErrKind::Size));
     Ok(())
 }

@@ -61,21 +61,20 @@ fn equal_sheets_built_apart_are_equal_and_hash_alike(rt: HostRuntime) -> Result<
     Ok(())
 }
 
+/// The sheet value with 2x2 cells and 1 in B1, where the 1 is set in a frame of this rank.
+fn holding_in(alloc: Global, rank: u8) -> Result<Rc<SheetVal>, Fail> {
+    let env = nest(alloc, rank)?;
+    let s = plain_sheet(alloc, "A1:B2")?;
+    made(update_in(alloc, &env, &*s, address("B1")?, number(1))?)
+}
+
 // The same override, set in a deeper frame: the rank alone differs.
 #[test]
 fn sheets_that_differ_in_their_rank(rt: HostRuntime) -> Result<(), Fail> {
-    let alloc = rt.alloc();
-    let s = holding(alloc, 1)?;
-    let deeper = nest(alloc, 5)?;
-    let t = made(update_in(
-        alloc,
-        &deeper,
-        &*plain_sheet(alloc, "A1:B2")?,
-        address("B1")?,
-        number(1),
-    )?)?;
-    assert_eq!(rt; (s.rank, t.rank), (1, 6));
-    assert_eq!(rt; s.weight, t.weight);
+    let s = holding(rt.alloc(), 1)?;
+    let t = holding_in(rt.alloc(), 5)?;
+    assert!(rt; (s.rank, t.rank) == (1, 6));
+    assert!(rt; s.weight == t.weight);
     assert!(rt; s != t);
     Ok(())
 }
@@ -98,33 +97,58 @@ fn put_in_turn(alloc: Global) -> Result<Rc<SheetVal>, Fail> {
     Ok(s)
 }
 
+/// The number that the sheet value, which must be sound, holds at an address, if it holds one.
+fn held_at(s: &SheetVal, name: &str) -> Result<Option<i64>, Fail> {
+    let a = address(name)?;
+    if !s.is_sound() {
+        return Err("not sound".into());
+    }
+    match s.get_override(a) {
+        Some(Value::One(Scalar::Int(n))) => Ok(Some(*n)),
+        Some(_) => Err("no number".into()),
+        None => Ok(None),
+    }
+}
+
 #[test]
 fn overrides_stand_in_row_major_order(rt: HostRuntime) -> Result<(), Fail> {
-    let alloc = rt.alloc();
-    let s = put_in_turn(alloc)?;
-    assert_eq!(rt; (s.overrides.len(), s.weight), (3, 4));
-    assert!(rt; s.is_sound());
-    for (a, n) in [("A1", 4), ("B1", 1), ("A2", 5)] {
-        assert!(rt; s.get_override(address(a)?) == Some(&number(n)), "{a}");
+    let s = put_in_turn(rt.alloc())?;
+    assert!(rt; (s.overrides.len(), s.weight) == (3, 4));
+    for (a, n) in [
+        ("A1", Some(4)),
+        ("B1", Some(1)),
+        ("A2", Some(5)),
+        ("B2", None),
+    ] {
+        assert!(rt; held_at(&*s, a)? == n, "{a}");
     }
-    assert!(rt; s.get_override(address("B2")?).is_none());
-    let c1 = update_in(alloc, &Env::Top, &*s, address("C1")?, number(0))?;
-    let outside = matches!(c1, Made::Outside);
-    assert!(rt; outside);
     Ok(())
+}
+
+#[test]
+fn an_override_outside_the_region(rt: HostRuntime) -> Result<(), Fail> {
+    let s = holding(rt.alloc(), 1)?;
+    let c1 = update_in(rt.alloc(), &Env::Top, &*s, address("C1")?, number(0))?;
+    let is_outside = matches!(c1, Made::Outside);
+    assert!(rt; is_outside);
+    Ok(())
+}
+
+/// The four numbers, and a sheet value in B2.
+fn with_a_sheet(alloc: Global, inner: Rc<SheetVal>) -> Result<Rc<SheetVal>, Fail> {
+    let s = put_in_turn(alloc)?;
+    let nested = Value::One(Scalar::Sheet(inner));
+    made(update_in(alloc, &Env::Top, &*s, address("B2")?, nested)?)
 }
 
 // A sheet value counts with its weight, and raises the rank.
 #[test]
 fn sheets_in_sheets(rt: HostRuntime) -> Result<(), Fail> {
-    let alloc = rt.alloc();
-    let s = put_in_turn(alloc)?;
-    let nested = Value::One(Scalar::Sheet(share_sheet(&holding(alloc, 1)?)?));
-    let a = address("B2")?;
-    let t = made(update_in(alloc, &Env::Top, &*s, a, nested.share()?)?)?;
-    assert_eq!(rt; (t.rank, t.weight), (2, 6));
+    let inner = holding(rt.alloc(), 1)?;
+    let t = with_a_sheet(rt.alloc(), share_sheet(&inner)?)?;
+    assert!(rt; (t.rank, t.weight) == (2, 6));
     assert!(rt; t.is_sound());
-    assert!(rt; t.get_override(a) == Some(&nested));
+    assert!(rt; t.get_override(address("B2")?) == Some(&Value::One(Scalar::Sheet(inner))));
     Ok(())
 }
 

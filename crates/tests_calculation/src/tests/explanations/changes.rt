@@ -1,7 +1,7 @@
 //! What is said of certificates of which something was changed.
-use crate::tests::certificates::{evaluator_of, found, verdict_on};
-use crate::tests::parts::Claimed::{Number, Of, Own};
-use crate::tests::parts::{Claimed, Parts, of_parts};
+use crate::tests::explanations::certificates::{evaluator_of, found, verdict_on};
+use crate::tests::explanations::parts::Claimed::{Number, Of, Own};
+use crate::tests::explanations::parts::{Claimed, Parts, of_parts};
 use gl_cert::Verdict;
 use gl_demand::{Evaluator, Silent, Steps};
 use gl_plane::{Oracle, Permit};

@@ -1,5 +1,7 @@
 //! What is found of addresses.
-use crate::tests::certificates::{Counts, evaluator_of, explained, found, is_found, verdict_on};
+use crate::tests::explanations::certificates::{
+    Counts, evaluator_of, explained, found, is_found, verdict_on,
+};
 use gl_cert::Verdict;
 use gl_demand::{Budget, Evaluator, Silent, Steps};
 use gl_explain::Explained;

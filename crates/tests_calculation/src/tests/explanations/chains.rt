@@ -1,5 +1,5 @@
 //! Certificates of long chains and long ranges.
-use crate::tests::certificates::{evaluator_of, found, verdict_on};
+use crate::tests::explanations::certificates::{evaluator_of, found, verdict_on};
 use gl_cells::Cells;
 use gl_cert::Verdict;
 use gl_demand::{Evaluator, Silent, Steps};

@@ -1,5 +1,5 @@
 //! Certificates of as many keys as a calculation may demand, and of one more.
-use crate::tests::certificates::{evaluator_of, explained, is_found};
+use crate::tests::explanations::certificates::{evaluator_of, explained, is_found};
 use gl_cells::Cells;
 use gl_demand::{Silent, Steps};
 use gl_explain::Explained;

@@ -1,5 +1,5 @@
 //! What is said of the certificate of one sheet, oracle and version by others.
-use crate::tests::certificates::{evaluator_of, found, verdict_on};
+use crate::tests::explanations::certificates::{evaluator_of, found, verdict_on};
 use gl_ast::Version;
 use gl_cert::{Cert, Verdict};
 use gl_demand::{Evaluator, Silent, Steps};

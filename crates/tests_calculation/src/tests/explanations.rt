@@ -1,4 +1,4 @@
-// The tests, a file for each concept.
+// The tests of certificates: what is found, and what is said of changed ones.
 mod certificates;
 mod chains;
 mod changes;
