@@ -40,23 +40,21 @@ fn is_read_by_the_rule(alloc: Global, text: &[u8]) -> Result<bool, Fail> {
     Ok(is_address(text) && out.as_slice() == text)
 }
 
-/// Each of so many texts of this length is.
-fn are_read_by_the_rule(alloc: Global, length: u32, texts: u32) -> Result<bool, Fail> {
+/// The number of the first of so many texts of this length that is not, if there is one.
+fn misread(alloc: Global, length: u32, texts: u32) -> Result<Option<u32>, Fail> {
     for number in 0..texts {
         if !is_read_by_the_rule(alloc, &text_at(alloc, length, number)?)? {
-            return Ok(false);
+            return Ok(Some(number));
         }
     }
-    Ok(true)
+    Ok(None)
 }
 
 #[test]
 fn addresses_are_read_by_the_rule(rt: HostRuntime) -> Result<(), Fail> {
     for (length, texts) in LENGTHS {
-        assert!(rt;
-            are_read_by_the_rule(rt.alloc(), *length, *texts)?,
-            "{length} bytes"
-        );
+        let found = misread(rt.alloc(), *length, *texts)?;
+        assert!(rt; found.is_none(), "{found:?} of {length}");
     }
     Ok(())
 }

@@ -127,7 +127,7 @@ fn overrides_stand_in_row_major_order(rt: HostRuntime) -> Result<(), Fail> {
 
 #[test]
 fn an_override_outside_the_region(rt: HostRuntime) -> Result<(), Fail> {
-    let s = holding(rt.alloc(), 1)?;
+    let s = put_in_turn(rt.alloc())?;
     let c1 = update_in(rt.alloc(), &Env::Top, &*s, address("C1")?, number(0))?;
     let is_outside = matches!(c1, Made::Outside);
     assert!(rt; is_outside);
