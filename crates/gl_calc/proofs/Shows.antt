@@ -1,10 +1,9 @@
 -- What an address shows by what is seen of formula cells.
-use Rattle.std.proofs.Common.{◌≡◌, ◌⊎◌, inl, inr, Bool, true, false, if◌then◌else◌, ℕ, zero, suc, [], ◌∷◌, Option, Some, None, Result, Ok, refl, sym, ap, subst, ◌∙◌, option_map}
-use Rattle.gl_query.specs.Query.{run, val, Has}
+use Rattle.std.proofs.Common.{◌≡◌, ◌⊎◌, inl, inr, Bool, true, false, if◌then◌else◌, ℕ, [], ◌∷◌, Option, Some, None, refl, sym, ap, subst, ◌∙◌, option_map}
+use Rattle.gl_query.specs.Query.{val, Has}
 use Rattle.gl_calculus.specs.Grid.{Addr}
-use Rattle.gl_calculus.specs.Value as V
-use Rattle.gl_calculus.specs.Value.{Oracle, Permit, Scalar, Blank, Value, Frame, Top}
-use Rattle.gl_calculus.specs.Formula.{Version, Formula, Content, Const, Form, Cells, content}
+use Rattle.gl_calculus.specs.Value.{Oracle, Permit, Blank, Value, Frame, Top}
+use Rattle.gl_calculus.specs.Formula.{Version, Formula, Form, Cells, content}
 use Rattle.gl_calculus.specs.Oracle.{status, Cover, cover}
 use Rattle.gl_calculus.specs.Key as K
 use Rattle.gl_calculus.specs.Key.{Cell, Outcome, Eval, same_key, give, ◌>>=◌}

@@ -78,7 +78,9 @@ fn finished(
     let sizes = collected(alloc, places, &quiet);
     match w.copy(alloc) {
         Ok(oracle) => {
-            let results = quiet.into_results();
+            let mut results = quiet.into_results();
+            // keys of copies that are gone would pile up from edit to edit
+            results.tidy(alloc);
             tables.keep(Table { oracle, results });
             sizes
         }

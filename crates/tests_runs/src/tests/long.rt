@@ -136,6 +136,20 @@ const TEXTS_AND_SHEETS: &[Long] = &[
         ],
         DONE,
     ),
+    // a hundred copies, each in place of the one before, whose results are given up
+    (
+        &[
+            Part::Once(b"set B1 0\n"),
+            Part::Lines("set A", 40, " =B1"),
+            Part::Lines(
+                "set D1 =SUM(VIEW(UPDATE(SHEET(A1:B40),B1,",
+                100,
+                "),A1:A40))/40\nshow D1",
+            ),
+        ],
+        &[Part::Times(b"", b"ok\n", 41, b""), Part::Lines("ok\n", 100, "")],
+        DONE,
+    ),
 ];
 
 #[test]
