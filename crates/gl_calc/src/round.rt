@@ -78,9 +78,10 @@ fn finished(
     let sizes = collected(alloc, places, &quiet);
     match w.copy(alloc) {
         Ok(oracle) => {
+            let known = quiet.len();
             let mut results = quiet.into_results();
-            // keys of copies that are gone would pile up from edit to edit
-            results.tidy(alloc);
+            // keys that are gone would pile up from edit to edit
+            results.tidy(alloc, known);
             tables.keep(Table { oracle, results });
             sizes
         }

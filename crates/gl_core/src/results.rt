@@ -18,8 +18,8 @@ use gl_plane::{Changes, NoMemory};
 use std::alloc::Global;
 use std::marker::Model;
 
-/// So many keys without a note may stay in the book for each half of those with one.
-const SPARE: usize = 512;
+/// Half as many keys that are gone may stay in the book, besides one for each that is not.
+const SPARE: u64 = 512;
 
 /// The notes of keys, each with the key's outcome, the keys that it read and the ranges that it
 /// looked at, in the order of noting: what a note read stands before it.
@@ -118,11 +118,13 @@ impl Results {
         Ok(Results { ledger })
     }
 
-    /// Gives back room that notes which are gone have left, as far as there is memory to do so.
-    pub fn tidy(&mut self, alloc: Global)
+    /// Gives back the room of keys that are gone: where more than twice as many have numbers as are
+    /// known, and 1,024 more, the notes are written anew with their own keys, if there is memory for
+    /// that. Known are the keys of the round that made the notes, also those that have none.
+    pub fn tidy(&mut self, alloc: Global, known: u64)
         ensures { self.new ≡ self.old }
     {
-        if self.ledger.book.len() / 2 > self.ledger.rows.len() + SPARE {
+        if self.ledger.book.len() as u64 / 2 > known.saturating_add(SPARE) {
             give_back(alloc, &mut self.ledger);
         }
     }

@@ -189,8 +189,9 @@ fn stay(alloc: Global, row: &Staying) -> Result<bool, Fail> {
     let mut kept = results_behind(&at, FORMULAS, place, 0)?;
     let mut copied = kept.copy(alloc)?;
     let alike = have(&kept, want)? && have(&copied, want)?;
-    kept.tidy(alloc);
-    copied.tidy(alloc);
+    let known = kept.len() as u64;
+    kept.tidy(alloc, known);
+    copied.tidy(alloc, known);
     Ok(alike && have(&kept, want)? && have(&copied, want)?)
 }
 

@@ -64,7 +64,8 @@ fn tidied(at: &Evaluator<'_>, results: Results, name: &str, row: u16) -> Result<
     );
     let mut results = results;
     let before = shape(&results, name)?;
-    results.tidy(at.alloc);
+    let known = results.len() as u64;
+    results.tidy(at.alloc, known);
     if before != want || shape(&results, name)? != want {
         return Err("other results".into());
     }
