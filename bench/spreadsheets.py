@@ -19,7 +19,7 @@ import zipfile
 
 
 def chain():
-    """9,999 formulas, each of the one above."""
+    """9,998 formulas, each of the one above."""
     cells = {'A1': 1}
     cells.update({f'A{i}': f'=A{i - 1}+1' for i in range(2, 10000)})
     return cells, 'A9999'
