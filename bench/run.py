@@ -94,6 +94,23 @@ def leaf_edits():
     return [], '\n'.join(lines) + '\n'
 
 
+def many_places():
+    """A formula set, asked and cleared in 50,000 places, one after another."""
+    lines = []
+    for i in range(50000):
+        place = '%s%d' % (column(i % 500 + 1), i // 500 + 1)
+        lines += ['set %s =%d+1' % (place, i), 'show %s' % place, 'clear %s' % place]
+    return [], '\n'.join(lines) + '\n'
+
+
+def many_copies():
+    """One formula set 2,000 times, to another copy of a chain of 30 formulas each time."""
+    lines = ['set A30 5'] + ['set A%d =A%d+1' % (i, i + 1) for i in range(1, 30)]
+    for i in range(2000):
+        lines += ['set D1 =VIEW(UPDATE(SHEET(A1:A30),A30,%d),A1)' % i, 'show D1']
+    return [], '\n'.join(lines) + '\n'
+
+
 def siblings():
     """3,000 copies that differ in one cell, each with a copy inside that changes nothing."""
     lines = ['set A1 1', 'set B1 =A1*10', 'set C1 =VIEW(SHEET(B1),B1)']
@@ -187,8 +204,9 @@ def flow_column():
 
 
 WORKLOADS = [generator, chain, sums, spills, copies, table, commands, asked_again, leaf_edits,
-             siblings, gridlets, what_ifs, recursion22, recursion26, recursion64, totals, explained_chain,
-             explained_total, flow_ranges, flow_arrays, flow_column]
+             many_places, many_copies, siblings, gridlets, what_ifs, recursion22, recursion26,
+             recursion64, totals, explained_chain, explained_total, flow_ranges, flow_arrays,
+             flow_column]
 
 
 def main():
