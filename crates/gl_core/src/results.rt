@@ -18,7 +18,8 @@ use gl_plane::{Changes, NoMemory};
 use std::alloc::Global;
 use std::marker::Model;
 
-/// Half as many keys that are gone may stay in the book, besides one for each that is not.
+/// Before room is given back, twice so many keys that are gone may have numbers, besides one for each
+/// key that is known: so the notes of a small sheet are never written anew.
 const SPARE: u64 = 512;
 
 /// The notes of keys, each with the key's outcome, the keys that it read and the ranges that it

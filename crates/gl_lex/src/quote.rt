@@ -6,6 +6,11 @@ ghost use Rattle.gl_lex.specs.Quote as spec;
 
 use std::alloc::{AllocError, Global};
 
+/// The control character behind the printable ones.
+const DELETE: u8 = 127;
+
+/// What stands before the next byte of a quoted text: whole characters, a backslash, or a backslash
+/// and `x` with no digit or with the first one, by its value.
 #[derive(Clone, Copy)]
 pub enum State {
     Plain,
@@ -14,6 +19,8 @@ pub enum State {
     HexSecond(u8),
 }
 
+/// What a byte does: it goes on to a state, ends a character of the text, ends the text, or may not
+/// stand there.
 #[derive(Clone, Copy)]
 pub enum Step {
     Go(State),
@@ -25,12 +32,12 @@ pub enum Step {
 fn hex(b: u8) -> u8
     ensures { result ≡ spec.hex b }
 {
-    if 48 <= b && b <= 57 {
-        b - 48
-    } else if 65 <= b && b <= 70 {
-        b - 55
-    } else if 97 <= b && b <= 102 {
-        b - 87
+    if b'0' <= b && b <= b'9' {
+        b - b'0'
+    } else if b'A' <= b && b <= b'F' {
+        b - b'A' + 10
+    } else if b'a' <= b && b <= b'f' {
+        b - b'a' + 10
     } else {
         16
     }
@@ -39,11 +46,11 @@ fn hex(b: u8) -> u8
 fn plain(b: u8) -> Step
     ensures { result ≡ spec.plain b }
 {
-    if b == 34 {
+    if b == b'"' {
         Step::End
-    } else if b == 92 {
+    } else if b == b'\\' {
         Step::Go(State::Escape)
-    } else if b < 32 || b == 127 {
+    } else if b < b' ' || b == DELETE {
         Step::Broken
     } else {
         Step::Push(b)
@@ -53,18 +60,13 @@ fn plain(b: u8) -> Step
 fn escape(b: u8) -> Step
     ensures { result ≡ spec.escape b }
 {
-    if b == 92 || b == 34 {
-        Step::Push(b)
-    } else if b == 110 {
-        Step::Push(10)
-    } else if b == 114 {
-        Step::Push(13)
-    } else if b == 116 {
-        Step::Push(9)
-    } else if b == 120 {
-        Step::Go(State::HexFirst)
-    } else {
-        Step::Broken
+    match b {
+        b'\\' | b'"' => Step::Push(b),
+        b'n' => Step::Push(b'\n'),
+        b'r' => Step::Push(b'\r'),
+        b't' => Step::Push(b'\t'),
+        b'x' => Step::Go(State::HexFirst),
+        _ => Step::Broken,
     }
 }
 

@@ -35,9 +35,9 @@ fn is_in(class: Class, b: u8) -> bool
     ensures { result ≡ front.is_in class b }
 {
     match class {
-        Class::Digit => 48 <= b && b <= 57,
-        Class::Upper => 65 <= b && b <= 90,
-        Class::Lower => 97 <= b && b <= 122,
+        Class::Digit => b'0' <= b && b <= b'9',
+        Class::Upper => b'A' <= b && b <= b'Z',
+        Class::Lower => b'a' <= b && b <= b'z',
     }
 }
 

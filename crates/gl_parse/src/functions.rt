@@ -64,6 +64,7 @@ fn is_word(fun: Fun, word: &[u8]) -> bool
     fun.word().as_bytes() == word
 }
 
+/// The word is `LET`, which binds a name and is not a function of values.
 pub fn is_let(word: &[u8]) -> bool
     ensures { result ≡ G.is_let word.now }
 {

@@ -10,9 +10,12 @@ use crate::raw::Raw;
 use gl_ast::Op;
 use gl_plane::{Addr, MAX_CELLS, Range};
 
+/// The faults that a form shows by itself.
 #[derive(Clone, Copy)]
 pub enum FormFault {
+    /// A range whose corners are out of order, or that has too many cells.
     Range,
+    /// A call with arguments that its function does not take.
     Arity,
 }
 

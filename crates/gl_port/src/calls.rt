@@ -1,4 +1,4 @@
-// Which of the calls fail, by their numbers.
+//! Which of the calls fail, by their numbers.
 ghost use Rattle.std.specs.Prelude.{◌<◌};
 
 /// The number of the next call from 0, the numbers of those that fail, and the most bytes of one.

@@ -1,4 +1,4 @@
-// The laws of edits.
+//! The laws of edits.
 ghost use Rattle.gl_protocol.specs.Laws.{SetsOne, SetsThese, ClearsThese};
 
 /// What stands at an address after an edit of a sheet.

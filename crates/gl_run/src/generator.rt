@@ -1,4 +1,4 @@
-// The generated script.
+//! The generated script.
 ghost use Rattle.std.specs.Prelude.{◌≡◌, ◌≤◌, ◌++◌, IfOk, OnOk, codes, flat_map, length};
 ghost use Rattle.std.specs.{Fmt.decimal, List.range_with_len, String.string_bytes};
 ghost use Rattle.gl_calculus.specs.Limits.{max_generated};

@@ -1,4 +1,4 @@
-// The words with which the program is called.
+//! The words with which the program is called.
 ghost use Rattle.std.specs.Prelude.{◌≡◌, ◌≤◌, ◌==◌, ◌&&◌, ◌||◌, nat_lt, nat_le, slice_index, Some};
 ghost use Rattle.std.specs.Prelude.{None, IfSome, option_map, if◌then◌else◌};
 ghost use Rattle.gl_calculus.specs.Limits.{max_generated};

@@ -1,4 +1,4 @@
-// Lines and payloads, one byte at a time.
+//! Lines and payloads, one byte at a time.
 ghost use Rattle.std.specs.Prelude.{◌≡◌, ◌≤◌, ◌<◌, [], OnOk, OnErr, IfOk, IsOk, vec_len};
 ghost use Rattle.std.specs.Prelude.{vec_capacity};
 ghost use Rattle.gl_calculus.specs.Limits.{max_payload};

@@ -1,4 +1,4 @@
-// Items: lines, and headers with their payloads.
+//! Items: lines, and headers with their payloads.
 ghost use Rattle.std.specs.Prelude.{◌≡◌, IfOk, None, false};
 ghost use Rattle.gl_script.specs.Framer.{stream_at, told, payload_at};
 ghost use Rattle.gl_script.specs.{Feed.idle, FeedView.begun_of, FeedView.piece_of};

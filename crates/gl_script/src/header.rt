@@ -1,4 +1,4 @@
-// The lines that say more than themselves.
+//! The lines that say more than themselves.
 ghost use Rattle.std.specs.Prelude.{◌≡◌, ◌≤◌, ◌∷◌, IfSome, codes};
 ghost use Rattle.std.specs.List.{list_all};
 ghost use Rattle.gl_calculus.specs.Limits.{max_payload};

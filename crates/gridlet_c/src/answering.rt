@@ -1,4 +1,4 @@
-// A script is answered into a sink.
+//! A script is answered into a sink.
 ghost use Rattle.std.specs.Prelude.{◌≡◌, ◌≢◌, ◌≤◌, ℕ, List, Option, map, string_bytes, IfOk, None};
 ghost use Rattle.gl_run.specs.{Call.words_call, Call.input_of, Status.number_of};
 ghost use Rattle.gridlet_c.specs.Statuses.{Leaves};

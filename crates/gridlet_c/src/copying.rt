@@ -1,4 +1,4 @@
-// The front of some bytes is copied.
+//! The front of some bytes is copied.
 ghost use Rattle.std.specs.Prelude.{◌≡◌, min, take, drop, length};
 
 /// Copies as many of the bytes as there is room for to the front of `out`, and tells how many.

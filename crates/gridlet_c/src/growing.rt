@@ -1,4 +1,4 @@
-// A sink in memory that grows.
+//! A sink in memory that grows.
 use gl_port::{Failed, Sink};
 use std::alloc::Global;
 

@@ -1,4 +1,4 @@
-// The replies of a session, item by item.
+//! The replies of a session, item by item.
 ghost use Rattle.std.specs.Prelude.{◌≡◌, ◌≢◌, ◌||◌, ℕ, false, None, IfOk, OnOk, IfSome, codes};
 ghost use Rattle.std.specs.Option.{option_to_list};
 ghost use Rattle.gl_order.specs.Rule.{PicksBelow};
