@@ -100,13 +100,6 @@ impl<K: Eq + Hash + Drop, O: Drop, A: Drop> Memo<K, O, A> {
         keep_chosen(&mut self.map, those);
     }
 
-    /// Gives back room that notes which are gone have left, as far as there is memory to do so.
-    pub fn shrink(&mut self)
-        ensures { notes_of self.new ≡ notes_of self.old }
-    {
-        self.map.shrink_to_fit();
-    }
-
     /// How many notes there are.
     pub fn len(&self) -> usize
         ensures count { result ≡ length (notes_of self.now) }
