@@ -19,7 +19,7 @@ use std::alloc::Global;
 use std::marker::Model;
 
 /// Before room is given back, twice so many keys that are gone may have numbers, besides one for each
-/// key that is known: so the notes of a small sheet are never written anew.
+/// key that is known: so the notes of a small sheet are not written anew at each round.
 const SPARE: u64 = 512;
 
 /// The notes of keys, each with the key's outcome, the keys that it read and the ranges that it

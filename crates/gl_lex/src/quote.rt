@@ -9,8 +9,8 @@ use std::alloc::{AllocError, Global};
 /// The control character behind the printable ones.
 const DELETE: u8 = 127;
 
-/// What stands before the next byte of a quoted text: whole characters, a backslash, or a backslash
-/// and `x` with no digit or with the first one, by its value.
+/// What stands before the next byte of a quoted text: no escape that is begun, a backslash, or a
+/// backslash and `x` with no digit or with the first one, by its value.
 #[derive(Clone, Copy)]
 pub enum State {
     Plain,
@@ -19,8 +19,8 @@ pub enum State {
     HexSecond(u8),
 }
 
-/// What a byte does: it goes on to a state, ends a character of the text, ends the text, or may not
-/// stand there.
+/// What a byte does: it goes on to a state, gives a byte of the text, ends the text, or may not stand
+/// there.
 #[derive(Clone, Copy)]
 pub enum Step {
     Go(State),
