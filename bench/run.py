@@ -103,6 +103,15 @@ def many_places():
     return [], '\n'.join(lines) + '\n'
 
 
+def few_formulas():
+    """65,000 constants and ten formulas: a cell that none reads is set 5,000 times, and asked."""
+    lines = ['set %s%d %d' % (column(c), r, r + c) for r in range(1, 1001) for c in range(1, 66)]
+    lines += ['set ZZ%d =A%d+B%d' % (r, r, r) for r in range(1, 11)]
+    for i in range(5000):
+        lines += ['set C%d %d' % (i % 1000 + 1, i), 'show ZZ%d' % (i % 10 + 1)]
+    return [], '\n'.join(lines) + '\n'
+
+
 def many_copies():
     """One formula set 2,000 times, to another copy of a chain of 30 formulas each time."""
     lines = ['set A30 5'] + ['set A%d =A%d+1' % (i, i + 1) for i in range(1, 30)]
@@ -204,9 +213,9 @@ def flow_column():
 
 
 WORKLOADS = [generator, chain, sums, spills, copies, table, commands, asked_again, leaf_edits,
-             many_places, many_copies, siblings, gridlets, what_ifs, recursion22, recursion26,
-             recursion64, totals, explained_chain, explained_total, flow_ranges, flow_arrays,
-             flow_column]
+             many_places, many_copies, few_formulas, siblings, gridlets, what_ifs, recursion22,
+             recursion26, recursion64, totals, explained_chain, explained_total, flow_ranges,
+             flow_arrays, flow_column]
 
 
 def main():

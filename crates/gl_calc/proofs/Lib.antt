@@ -9,5 +9,6 @@ pub mod Seeds
 pub mod Called
 pub mod Marks
 pub mod Calcs
+pub mod Places
 pub mod Shows
 pub mod Telling

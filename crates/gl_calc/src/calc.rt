@@ -14,11 +14,14 @@ ghost use Rattle.gl_cells.specs.Sheet as cells;
 ghost use Rattle.gl_order.specs.Rule.{PicksBelow, rule_of};
 ghost use Rattle.gl_calc.specs.Answers.{Answers, Takes, IsShownBy};
 ghost use Rattle.gl_calc.specs.{View.View, View.sheet_of, View.memory_of, Why.why_tree};
-ghost use Rattle.gl_calc.specs.{Held.answer_of, Held.IsCalc};
+ghost use Rattle.gl_calc.specs.{Held.answer_of, Held.IsCalc, Held.ArePlaces};
 
 use crate::calculating::calculate;
 use crate::ending::Answered;
-use crate::holding::{earlier_tables, held_after, parted, same_version, standing, table_of};
+use crate::holding::{
+    earlier_tables, held_after, known_places, parted, places_after, same_version, standing,
+    table_of,
+};
 use crate::marking::{mark_all, mark_in, places_of};
 use crate::reasons::why_at;
 use crate::showing::shown_at;
@@ -36,7 +39,7 @@ use std::mem;
 
 /// A sheet, with the held answer: that of the latest `refresh` that settled since the last edit that
 /// was not refused; and with what is remembered of the latest calculation: the tables of its first
-/// rounds, and which addresses were touched since.
+/// rounds, which addresses were touched since, and the addresses of the formulas, where known.
 pub struct Calc {
     cells: Cells,
     held: Option<Answered>,
@@ -46,6 +49,8 @@ pub struct Calc {
     touched: Vec<Addr>,
     // what the latest calculation came to, where nothing was touched since
     ended: Option<Answer>,
+    // the addresses of the formulas, where they are known
+    places: Option<Vec<Addr>>,
 }
 
 // One call wherever it is dropped, in place of one for each part.
@@ -58,6 +63,7 @@ impl Drop for Calc {
             version,
             touched,
             ended,
+            places,
         } = self;
     }
 }
@@ -77,7 +83,8 @@ impl Model for Calc {
         } };
 
     ghost invariant = { λ c.
-        IsCalc (sheet c.cells) c.held c.tables.items (version_tree c.version) c.touched c.ended };
+        IsCalc (sheet c.cells) c.held c.tables.items (version_tree c.version) c.touched c.ended
+        × ArePlaces (sheet c.cells) c.places };
 }
 
 impl Calc {
@@ -96,6 +103,7 @@ impl Calc {
             version: Version::One,
             touched: Vec::new(alloc),
             ended: None,
+            places: None,
         }
     }
 
@@ -123,11 +131,14 @@ impl Calc {
         let Ok(()) = self.touched.reserve(room) else {
             return Err(PutFault::NoMemory);
         };
+        let formulas = self.cells.formulas();
         match self.cells.put(a, c) {
             Ok(()) => {
                 self.touched.push_reserved(a);
                 self.held = None;
                 self.ended = None;
+                let places = self.places.take();
+                self.places = places_after(places, formulas, self.cells.formulas());
                 Ok(())
             }
             Err(fault) => Err(fault),
@@ -160,6 +171,7 @@ impl Calc {
                 mark_all(&mut self.touched, &places);
                 self.held = None;
                 self.ended = None;
+                self.places = None;
                 Ok(())
             }
             Err(fault) => Err(fault),
@@ -178,9 +190,12 @@ impl Calc {
         ensures version { self.new.version ≡ self.old.version }
     {
         mark_in(&mut self.touched, &self.cells, r);
+        let formulas = self.cells.formulas();
         let count = self.cells.clear(r);
         self.held = None;
         self.ended = None;
+        let places = self.places.take();
+        self.places = places_after(places, formulas, self.cells.formulas());
         count
     }
 
@@ -225,8 +240,11 @@ impl Calc {
         let tables = mem::replace(&mut self.tables, Vec::new(alloc));
         let tables = earlier_tables(alloc, tables, is_same);
         self.ended = None;
+        let places = self.places.take();
+        let places = known_places(alloc, &self.cells, places)?;
         let engine = Engine { alloc, order, kind };
-        let ended = calculate(&engine, &self.cells, version, tables, &self.touched, steps)?;
+        let (cells, touched) = (&self.cells, &self.touched);
+        let ended = calculate(&engine, cells, &places, version, tables, touched, steps)?;
         let answer = ended.answer();
         self.ended = Some(ended.answer());
         let held = self.held.take();
@@ -235,6 +253,7 @@ impl Calc {
         self.version = version;
         self.tables = tables;
         self.touched.clear();
+        self.places = Some(places);
         Ok(answer)
     }
 

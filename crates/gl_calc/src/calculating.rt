@@ -1,6 +1,6 @@
 //! The rounds of the whole sheet, to their end.
 ghost use Rattle.std.specs.Prelude.{◌≡◌, IfOk};
-ghost use Rattle.gl_calculus.specs.Formula.{IsSheet};
+ghost use Rattle.gl_calculus.specs.Formula.{IsSheet, formula_addresses};
 ghost use Rattle.gl_ast.specs.View.{version_tree};
 ghost use Rattle.gl_cells.specs.Sheet.{sheet};
 ghost use Rattle.gl_order.specs.Rule.{PicksBelow};
@@ -19,17 +19,19 @@ use gl_rounds::{Settled, iterate};
 use std::marker::PhantomData;
 
 /// Goes through the rounds from the empty oracle to the first that is its own next one, or to a
-/// spent budget. The rounds begin with these tables from before, after these addresses were
-/// touched.
+/// spent budget. Its formulas stand at these places. The rounds begin with these tables from before,
+/// after these addresses were touched.
 pub fn calculate<F: Fn(u8, u64, u64) -> u64, L: Watch>(
     engine: &Engine<F>,
     cells: &Cells,
+    places: &[Addr],
     version: Version,
     earlier: Vec<Table>,
     touched: &[Addr],
     steps: &mut Steps<L>,
 ) -> Result<Ended, NoMemory>
     requires rule { PicksBelow (F.pre (rule_in engine.now)) (F.post (rule_in engine.now)) }
+    requires all { places.now ≡ formula_addresses (sheet cells.now) }
     requires earlier { AreEarlier (version_tree version) (sheet cells.now) earlier.items
         touched.now }
     ensures ends { IfOk result (λ x.
@@ -39,14 +41,13 @@ pub fn calculate<F: Fn(u8, u64, u64) -> u64, L: Watch>(
 {
     let budget = cells.formulas() + EXTRA_ROUNDS;
     let blocks = TopBlocks { cells };
-    let places = cells.formula_addresses(engine.alloc)?;
     let ranges = merged(engine.alloc, touched)?;
     let tables = Tables::new(engine.alloc, earlier)?;
     let mut round = TopRound {
         engine,
         cells,
         version,
-        places: &places,
+        places,
         touched,
         ranges: &ranges,
         tables,

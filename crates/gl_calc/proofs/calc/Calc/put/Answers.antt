@@ -3,7 +3,9 @@ use Rattle.gl_calculus.specs.Formula.{content}
 use Rattle.gl_ast.specs.View.{version_tree}
 use Rattle.gl_cells.specs.Content.{content_tree}
 use Rattle.gl_cells.specs.Sheet.{sheet}
+use Rattle.gl_calc.specs.Held.{ArePlaces}
 use Rattle.gl_calc.proofs.Calcs.{edited, set_same, set_length}
+use Rattle.gl_calc.proofs.Places.{AreSame, put_same, places_stay}
 use Rattle.gl_calc.proofs.calc.Calc.put.Goals as goal
 
 pub invariant_of-self-in-Ok-put : goal.invariant_of-self-in-Ok-put
@@ -13,8 +15,13 @@ invariant_of-self-in-Ok-put c =
     let x = content_tree c.args.c in
     let goal = c.in-Ok-put.ensures.0 in
     let longer = ap length goal in
-    let most = set_length S a x in
-    edited S (sheet c.put.new.self) c.self.inside.held c.self.inside.tables.items (version_tree c.self.inside.version) c.self.inside.touched c.push_reserved.new.self c.self.inside.ended (a ∷ []) c.self.invariant
-    (c.push_reserved.ensures.items ∙ ap (λ xs. xs ++ a ∷ []) c.reserve.ensures.items)
-    (λ b f. subst (λ T. content T b ≡ content S b) (sym goal) (set_same S a x b f))
-    (omega (arith, longer, most, c.push_reserved.ensures.len, c.push_reserved.ensures.capacity, c.reserve.ensures.len, c.in-Ok.ensures.ok, c.contents.ensures.count))
+    let most = set_length S a x in (
+      edited S (sheet c.put.new.self) c.self.inside.held c.self.inside.tables.items (version_tree c.self.inside.version) c.self.inside.touched c.push_reserved.new.self c.self.inside.ended (a ∷ []) c.self.invariant.0
+          (c.push_reserved.ensures.items ∙ ap (λ xs. xs ++ a ∷ []) c.reserve.ensures.items)
+          (λ b f. subst (λ T. content T b ≡ content S b) (sym goal) (set_same S a x b f))
+          (omega (arith, longer, most, c.push_reserved.ensures.len, c.push_reserved.ensures.capacity, c.reserve.ensures.len, c.in-Ok.ensures.ok, c.contents.ensures.count)),
+      subst (ArePlaces (sheet c.put.new.self)) (sym c.places_after.ensures)
+          (places_stay S (sheet c.put.new.self) c.take-places.result c.formulas-formulas.result c.formulas.result c.formulas-formulas.ensures.count c.formulas.ensures.count
+          (subst (AreSame S) (sym goal) (put_same S a x))
+          (subst (ArePlaces S) (sym c.take-places.ensures.value) c.self.invariant.1)),
+    )

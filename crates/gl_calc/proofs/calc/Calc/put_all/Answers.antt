@@ -20,11 +20,13 @@ invariant_of-self-in-Ok-put_all c =
     let given = c.deref-in-Ok-put_all.ensures.value in
     let listed = given ∙ c.in-Ok-places_of.ensures ∙ ap (λ l. map (λ e. e.0) (sheet l)) c.deref.ensures.value in
     let marked = ap length listed in
-    let places = places_length xs in
-    edited S (sheet c.put_all.new.self) c.self.inside.held c.self.inside.tables.items (version_tree c.self.inside.version) c.self.inside.touched c.mark_all.new.touched c.self.inside.ended (map (λ e. e.0) xs) c.self.invariant
-    (c.mark_all.ensures.items ∙ ap (λ ys. ys ++ c.deref-in-Ok-put_all.result.now) c.reserve.ensures.items ∙ ap (λ ys. c.self.inside.touched.items ++ ys) listed)
-    (λ b f. subst (λ T. content T b ≡ content S b) (sym goal) (sets_these S xs b f))
-    (omega (arith, longer, most, many, marked, places, c.mark_all.ensures.len, c.mark_all.ensures.capacity, c.reserve.ensures.len, c.in-Ok.ensures.ok, c.contents.ensures.count, c.len.ensures, c.len-2.ensures, c.args.list.ok.0))
+    let places = places_length xs in (
+      edited S (sheet c.put_all.new.self) c.self.inside.held c.self.inside.tables.items (version_tree c.self.inside.version) c.self.inside.touched c.mark_all.new.touched c.self.inside.ended (map (λ e. e.0) xs) c.self.invariant.0
+          (c.mark_all.ensures.items ∙ ap (λ ys. ys ++ c.deref-in-Ok-put_all.result.now) c.reserve.ensures.items ∙ ap (λ ys. c.self.inside.touched.items ++ ys) listed)
+          (λ b f. subst (λ T. content T b ≡ content S b) (sym goal) (sets_these S xs b f))
+          (omega (arith, longer, most, many, marked, places, c.mark_all.ensures.len, c.mark_all.ensures.capacity, c.reserve.ensures.len, c.in-Ok.ensures.ok, c.contents.ensures.count, c.len.ensures, c.len-2.ensures, c.args.list.ok.0)),
+      tt,
+    )
 
 pub mark_all-requires : goal.mark_all-requires
 mark_all-requires c = grind (arith, common_steps)
