@@ -1,5 +1,5 @@
 //! The replies of a session, item by item.
-ghost use Rattle.std.specs.Prelude.{◌≡◌, ◌≢◌, ◌||◌, ℕ, false, None, IfOk, OnOk, IfSome, codes};
+ghost use Rattle.std.specs.Prelude.{◌≡◌, ◌≢◌, ◌||◌, ℕ, false, None, IfOk, OnOk, OnErr, IfSome, codes};
 ghost use Rattle.std.specs.Option.{option_to_list};
 ghost use Rattle.gl_order.specs.Rule.{PicksBelow};
 ghost use Rattle.gl_ast.specs.View.{version_tree};
@@ -9,6 +9,7 @@ ghost use Rattle.gl_protocol.specs.{FramingLaw.up_to_quit, Framing.has_quit, Out
 ghost use Rattle.gl_protocol.specs.{Output.is_refusal};
 ghost use Rattle.gl_run.specs.State.{state_of, start, fresh};
 ghost use Rattle.gl_run.specs.Serving.{ended_item, byte_item, last_item, TellsQuit, Serves};
+ghost use Rattle.gl_run.specs.{Sending.Collects};
 ghost use Rattle.gl_run.specs.Answering.{ActsOnSome, SpendsOnSome, Leads};
 ghost use Rattle.gl_run.specs.{Script.known_of, Framed.IsFramed, Framed.HasHeader};
 ghost use Rattle.gl_calc.specs.{Engine.rule_in};
@@ -16,13 +17,13 @@ ghost use Rattle.gl_calc.specs.{Engine.rule_in};
 use crate::answers::{answer_line, answer_long, answer_truncated, is_version_line};
 use crate::imports::answer_import;
 use crate::script::new_script;
+use crate::sending::{pass_on, send};
 use crate::session::{Session, Stop};
-use crate::write::write_all;
 use gl_ast::Version;
 use gl_calc::Engine;
 use gl_demand::{Steps, Watch};
 use gl_plane::NoMemory;
-use gl_port::{Failed, Sink};
+use gl_port::Sink;
 use gl_script::{Ended, Framer, is_quit};
 use std::alloc::Global;
 
@@ -164,74 +165,75 @@ impl Session {
         }
     }
 
-    // Answers an item, and writes the reply. Tells whether it is `quit`.
-    fn emit_item<F: Fn(u8, u64, u64) -> u64, L: Watch, K: Sink>(
+    // Answers an item, and collects the reply. Tells whether it is `quit`.
+    fn emit_item<F: Fn(u8, u64, u64) -> u64, L: Watch>(
         &mut self,
         engine: &Engine<F>,
         steps: &mut Steps<L>,
         ended: Ended,
-        sink: &mut K,
-    ) -> Result<bool, Stop>
+        out: &mut Vec<u8>,
+    ) -> Result<bool, NoMemory>
         requires rule { PicksBelow (F.pre (rule_in engine.now)) (F.post (rule_in engine.now)) }
         requires some { ended ≢ Ended.Nothing }
         requires framed { IfSome (told ended self.old.framer) IsFramed }
-        ensures serves { Serves K.taken K.takes K.is_exact K.faults sink.old sink.new result
-            self.old steps.old self.new steps.new (ended_item ended self.old.framer) }
+        ensures collects { OnOk result (Collects self.old self.new steps.old steps.new out.old.items
+            out.new.items (ended_item ended self.old.framer)) }
+        ensures err { OnErr result (out.new.items ≡ out.old.items) }
         ensures quits { TellsQuit result (ended_item ended self.old.framer) }
         ensures framer { self.new.framer ≡ self.old.framer }
     {
         let quits = self.quits(ended);
         let reply = self.answer(engine, steps, ended)?;
         self.refused = either(self.refused, is_refusal(&reply));
-        match write_all(sink, &reply) {
-            Ok(()) => Ok(quits),
-            Err(Failed) => Err(Stop::WriteFault),
-        }
+        out.extend_from_slice(&reply)?;
+        Ok(quits)
     }
 
     // The same, where an item ended.
-    fn emit<F: Fn(u8, u64, u64) -> u64, L: Watch, K: Sink>(
+    fn emit<F: Fn(u8, u64, u64) -> u64, L: Watch>(
         &mut self,
         engine: &Engine<F>,
         steps: &mut Steps<L>,
         ended: Ended,
-        sink: &mut K,
-    ) -> Result<bool, Stop>
+        out: &mut Vec<u8>,
+    ) -> Result<bool, NoMemory>
         requires rule { PicksBelow (F.pre (rule_in engine.now)) (F.post (rule_in engine.now)) }
         requires framed { IfSome (told ended self.old.framer) IsFramed }
-        ensures serves { Serves K.taken K.takes K.is_exact K.faults sink.old sink.new result
-            self.old steps.old self.new steps.new (ended_item ended self.old.framer) }
+        ensures collects { OnOk result (Collects self.old self.new steps.old steps.new out.old.items
+            out.new.items (ended_item ended self.old.framer)) }
+        ensures err { OnErr result (out.new.items ≡ out.old.items) }
         ensures quits { TellsQuit result (ended_item ended self.old.framer) }
         ensures framer { self.new.framer ≡ self.old.framer }
     {
         match ended {
             Ended::Nothing => Ok(false),
-            item => self.emit_item(engine, steps, item, sink),
+            item => self.emit_item(engine, steps, item, out),
         }
     }
 
     // Takes the next byte. Tells whether a `quit` ended with it.
-    fn take_byte<F: Fn(u8, u64, u64) -> u64, L: Watch, K: Sink>(
+    fn take_byte<F: Fn(u8, u64, u64) -> u64, L: Watch>(
         &mut self,
         engine: &Engine<F>,
         steps: &mut Steps<L>,
         b: u8,
-        sink: &mut K,
-    ) -> Result<bool, Stop>
+        out: &mut Vec<u8>,
+    ) -> Result<bool, NoMemory>
         requires rule { PicksBelow (F.pre (rule_in engine.now)) (F.post (rule_in engine.now)) }
         requires header { HasHeader (stream_at self.old.framer) }
-        ensures serves { Serves K.taken K.takes K.is_exact K.faults sink.old sink.new result
-            self.old steps.old self.new steps.new (byte_item self.old.framer b) }
+        ensures collects { OnOk result (Collects self.old self.new steps.old steps.new out.old.items
+            out.new.items (byte_item self.old.framer b)) }
+        ensures err { OnErr result (out.new.items ≡ out.old.items) }
         ensures quits { TellsQuit result (byte_item self.old.framer b) }
         ensures framer { OnOk result
             (stream_at self.new.framer ≡ (step (stream_at self.old.framer) b).0) }
     {
         let ended = self.framer.push(b)?;
-        self.emit(engine, steps, ended, sink)
+        self.emit(engine, steps, ended, out)
     }
 
-    /// Takes the next bytes, up to a `quit`, and writes the replies to the items that end in them.
-    /// Tells whether a `quit` did. After an `Err` it is of no further use.
+    /// Takes the next bytes, up to a `quit`, and writes the replies to the items that end in them,
+    /// many at once. Tells whether a `quit` did. After an `Err` it is of no further use.
     pub fn take<F: Fn(u8, u64, u64) -> u64, L: Watch, K: Sink>(
         &mut self,
         engine: &Engine<F>,
@@ -248,14 +250,19 @@ impl Session {
         ensures framer { IfOk result (λ quits. quits ≡ false
             → stream_at self.new.framer ≡ after (stream_at self.old.framer) chunk.now) }
     {
+        let mut out = Vec::new(engine.alloc);
         for b in chunk {
-            match self.take_byte(engine, steps, *b, sink) {
+            match self.take_byte(engine, steps, *b, &mut out) {
                 Ok(false) => {}
-                Ok(true) => return Ok(true),
+                Ok(true) => return send(sink, &out, Ok(true)),
+                Err(NoMemory) => return send(sink, &out, Err(Stop::NoMemory)),
+            }
+            match pass_on(sink, &mut out) {
+                Ok(()) => {}
                 Err(stop) => return Err(stop),
             }
         }
-        Ok(false)
+        send(sink, &out, Ok(false))
     }
 
     /// Ends the input, and writes the reply to the item that ends with it. After an `Err` it is of no
@@ -271,8 +278,9 @@ impl Session {
         ensures serves { Serves K.taken K.takes K.is_exact K.faults sink.old sink.new result
             self.old steps.old self.new steps.new (last_item self.old.framer) }
     {
+        let mut out = Vec::new(engine.alloc);
         let ended = self.framer.finish()?;
-        self.emit(engine, steps, ended, sink)?;
-        Ok(())
+        self.emit(engine, steps, ended, &mut out)?;
+        send(sink, &out, Ok(()))
     }
 }

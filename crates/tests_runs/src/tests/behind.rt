@@ -1,5 +1,6 @@
 //! No read follows a write that failed, and no write follows a read that failed: all reads and all
 //! writes of a run are counted, and there are as many as were needed up to the failure.
+use crate::tests::calls::DONE;
 use crate::tests::faults::{SCRIPT, Watched};
 use gl_demand::{Silent, Steps};
 use gl_order::{Order, by_kind};
@@ -102,14 +103,23 @@ const ROWS: &[Row] = &[
         status: Status::ReadFault,
         calls: (5, 9),
     },
-    // the one that would tell the end
+    // the one that would tell the end; the replies of each of the others were written together
     Row {
         read_step: 26,
         write_step: 2,
         reads: &[2],
         writes: &[],
         status: Status::ReadFault,
-        calls: (3, 8),
+        calls: (3, 6),
+    },
+    // none fails: the replies to all lines of one read are one write
+    Row {
+        read_step: 100,
+        write_step: 100,
+        reads: &[],
+        writes: &[],
+        status: DONE,
+        calls: (2, 1),
     },
 ];
 

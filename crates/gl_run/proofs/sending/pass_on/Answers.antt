@@ -1,0 +1,16 @@
+use Rattle.std.proofs.Common.{List, ℕ, subst}
+use Rattle.gl_run.specs.Sending.{Passes}
+use Rattle.gl_run.proofs.Collecting.{passes_none, passes_all}
+use Rattle.gl_run.proofs.sending.pass_on.Goals as goal
+
+pub returns-then-len-lt-FULL : goal.returns-then-len-lt-FULL
+returns-then-len-lt-FULL g c = passes_none _ _ _ _ _ _
+
+pub returns : goal.returns
+returns g c =
+    let S = g.K.Sink.taken in
+    let old = c.args.sink.now in
+    let new = c.send-done.new.sink in
+    let left = c.clear.new.self.items in
+    let P : List ℕ → Type 0 = λ out. Passes (g.K.Sink.taken old) (g.K.Sink.taken new) (g.K.Sink.takes old) (g.K.Sink.takes new) (g.K.Sink.is_exact old) (g.K.Sink.is_exact new) (g.K.Sink.faults old) (g.K.Sink.faults new) out left c.send-done.result in
+    subst P c.deref.ensures.value (passes_all _ _ _ _ _ _ _ _ c.deref.result.now left _ c.send-done.result c.clear.ensures.items c.send-done.ensures)

@@ -1,0 +1,35 @@
+//! Replies that are collected, and then written together.
+ghost use Rattle.gl_run.specs.Sending.{Sends, Passes};
+
+use crate::session::Stop;
+use crate::write::write_all;
+use gl_port::{Failed, Sink};
+
+/// So many bytes of replies are written before more are collected.
+const FULL: usize = 65_536;
+
+/// Writes what is collected, and answers what is given; where the write fails, that.
+pub fn send<K: Sink, T: Copy>(sink: &mut K, out: &[u8], given: Result<T, Stop>) -> Result<T, Stop>
+    ensures { Sends (K.taken sink.old) (K.taken sink.new) (K.takes sink.old) (K.takes sink.new)
+        (K.is_exact sink.old) (K.is_exact sink.new) (K.faults sink.old) (K.faults sink.new) out.now
+        given result }
+{
+    match write_all(sink, out) {
+        Ok(()) => given,
+        Err(Failed) => Err(Stop::WriteFault),
+    }
+}
+
+/// Writes what is collected, and begins anew, where it is much.
+pub fn pass_on<K: Sink>(sink: &mut K, out: &mut Vec<u8>) -> Result<(), Stop>
+    ensures { Passes (K.taken sink.old) (K.taken sink.new) (K.takes sink.old) (K.takes sink.new)
+        (K.is_exact sink.old) (K.is_exact sink.new) (K.faults sink.old) (K.faults sink.new)
+        out.old.items out.new.items result }
+{
+    if out.len() < FULL {
+        return Ok(());
+    }
+    let done = send(sink, out, Ok(()));
+    out.clear();
+    done
+}
