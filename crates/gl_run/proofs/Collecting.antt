@@ -8,7 +8,7 @@ use Rattle.gl_protocol.specs.Stream.{Stream, step, gained}
 use Rattle.gl_protocol.specs.FramingLaw.{up_to_quit}
 use Rattle.gl_run.specs.State.{State, state_of}
 use Rattle.gl_run.specs.Emitted.{Emitted, EmittedPart, EmittedCut, Leaves}
-use Rattle.gl_run.specs.Sending.{WroteWhole, WroteFront, Sends, Passes}
+use Rattle.gl_run.specs.Sending.{WroteWhole, WroteFront, Sends, Passes, full}
 use Rattle.gl_run.specs.Serving.{Serves}
 use Rattle.gl_run.specs.declared.session.Session.{Session}
 use Rattle.gl_run.specs.declared.session.Stop.{Stop}
@@ -105,12 +105,12 @@ module _ {X : Type 0} {k l : Option (List ℕ)} {room rest : ℕ → Type 0} {F 
   sent_stop stop P (inl (e, w)) = subst (λ q. IfOk q P) (sym e) tt
   sent_stop stop P (inr (e, w)) = subst (λ q. IfOk q P) (sym e) tt
 
-pub passes_none : (k : Option (List ℕ)) (room : ℕ → Type 0) (F : Type 0) (f : ℕ) (out : List ℕ) (u : Unit {0}) → Passes k k room room F F f f out out (Ok u)
-passes_none k room F f out u = record { ok = ([], refl, wrote_none k room F f); err = tt }
+pub passes_none : (k : Option (List ℕ)) (room : ℕ → Type 0) (F : Type 0) (f : ℕ) (out : List ℕ) (u : Unit {0}) → length out < full → Passes k k room room F F f f out out (Ok u)
+passes_none k room F f out u few = record { ok = ([], refl, wrote_none k room F f); left = few; err = tt }
 
 pub passes_all : (k l : Option (List ℕ)) (room rest : ℕ → Type 0) (F G : Type 0) (f g : ℕ) (out new : List ℕ) (u : Unit {0}) (r : Result (Unit {0}) Stop) → new ≡ [] → Sends k l room rest F G f g out (Ok u) r → Passes k l room rest F G f g out new r
-passes_all k l room rest F G f g out new u r n (inl (e, w)) = subst (Passes k l room rest F G f g out new) (sym e) (record { ok = (out, sym (append-nil out) ∙ ap (λ ys. out ++ ys) (sym n), w); err = tt })
-passes_all k l room rest F G f g out new u r n (inr (e, w)) = subst (Passes k l room rest F G f g out new) (sym e) (record { ok = tt; err = (refl, w) })
+passes_all k l room rest F G f g out new u r n (inl (e, w)) = subst (Passes k l room rest F G f g out new) (sym e) (record { ok = (out, sym (append-nil out) ∙ ap (λ ys. out ++ ys) (sym n), w); left = omega (arith, ap length n); err = tt })
+passes_all k l room rest F G f g out new u r n (inr (e, w)) = subst (Passes k l room rest F G f g out new) (sym e) (record { ok = tt; left = tt; err = (refl, w) })
 
 abbrev PartFor : Session → ℕ → List ℕ → List Item → Type 0
 PartFor old n all is = EmittedPart (state_of old n) (Some []) (Some all) is

@@ -32,7 +32,12 @@ pub record WroteFront (k k' : Option (List ℕ)) (room : ℕ → Type 0) (f f' :
 abbrev pub Sends : {X : Type 0} → Option (List ℕ) → Option (List ℕ) → (ℕ → Type 0) → (ℕ → Type 0) → (exact exact' : Type 0) → ℕ → ℕ → List ℕ → Result X Stop → Result X Stop → Type 0
 Sends k k' room room' exact exact' f f' bytes given r = (r ≡ given) × WroteWhole k k' room room' exact exact' f f' bytes ⊎ (r ≡ Err WriteFault) × WroteFront k k' room f f' bytes
 
--- a front of what is collected was written, which may be none of it, or a write failed
+-- so many bytes are written before more are collected
+abbrev pub full : ℕ
+full = 65536
+
+-- a front of what is collected was written, none of it or all where it was much, or a write failed
 pub record Passes (k k' : Option (List ℕ)) (room room' : ℕ → Type 0) (exact exact' : Type 0) (f f' : ℕ) (out out' : List ℕ) (r : Result (Unit {0}) Stop) : Type 0 where
   pub ok : OnOk r ((front : List ℕ) × (out ≡ front ++ out') × WroteWhole k k' room room' exact exact' f f' front)
+  pub left : OnOk r (length out' < full)
   pub err : IfErr r (λ stop. (stop ≡ WriteFault) × WroteFront k k' room f f' out)

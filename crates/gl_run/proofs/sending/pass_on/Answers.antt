@@ -1,10 +1,10 @@
-use Rattle.std.proofs.Common.{List, ℕ, subst}
+use Rattle.std.proofs.Common.{List, ℕ, subst, arith}
 use Rattle.gl_run.specs.Sending.{Passes}
 use Rattle.gl_run.proofs.Collecting.{passes_none, passes_all}
 use Rattle.gl_run.proofs.sending.pass_on.Goals as goal
 
 pub returns-then-len-lt-FULL : goal.returns-then-len-lt-FULL
-returns-then-len-lt-FULL g c = passes_none _ _ _ _ _ _
+returns-then-len-lt-FULL g c = passes_none _ _ _ _ _ _ (omega (arith, c.if-len-lt-FULL.true, c.len.ensures, c.args.out.now.ok.0))
 
 pub returns : goal.returns
 returns g c =
