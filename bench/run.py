@@ -104,7 +104,7 @@ def many_places():
 
 
 def few_formulas():
-    """65,000 constants and ten formulas: a cell that none reads is set 5,000 times, and asked."""
+    """65,000 constants and ten formulas: 5,000 edits of cells that none reads, each with a query."""
     lines = ['set %s%d %d' % (column(c), r, r + c) for r in range(1, 1001) for c in range(1, 66)]
     lines += ['set ZZ%d =A%d+B%d' % (r, r, r) for r in range(1, 11)]
     for i in range(5000):
