@@ -32,6 +32,7 @@ pub mod Words
 pub mod Resumed
 pub mod Marks
 pub mod Resolved
+pub mod Whole
 pub mod Converted
 pub mod Seeded
 pub mod Rooms

@@ -110,7 +110,7 @@ rest_marked marks (r ∷ rs) k t m = by (is_marked marks r.by) refl m (rest_mark
 
 -- ---- what seeds reach
 
-has_there : (xs : List ℕ) (k : ℕ) → Member k xs → has xs k ≡ true
+pub has_there : (xs : List ℕ) (k : ℕ) → Member k xs → has xs k ≡ true
 has_there [] k m = absurd m
 has_there (x ∷ xs) k (inl e) = ap (λ b. b || has xs k) (eq-eqb k x e)
 has_there (x ∷ xs) k (inr m) = by (nat_eq k x) (has_there xs k m)
@@ -119,7 +119,7 @@ has_there (x ∷ xs) k (inr m) = by (nat_eq k x) (has_there xs k m)
     by true e = refl
     by false e = e
 
-there_has : (xs : List ℕ) (k : ℕ) → has xs k ≡ true → Member k xs
+pub there_has : (xs : List ℕ) (k : ℕ) → has xs k ≡ true → Member k xs
 there_has [] k e = absurd (cc e)
 there_has (x ∷ xs) k e = by (nat_eq k x) refl e (there_has xs k)
   where
@@ -159,13 +159,13 @@ and_not true true e = absurd (cc e)
 and_not true false e = (refl, refl)
 and_not false b e = absurd (cc e)
 
+-- each read has a row
+pub read_noted : (rs : List (Row Outcome Range)) → AreOrdered [] (notes_of rs) → (n : Note ℕ Outcome Range) → Member n (notes_of rs) → (j : ℕ) → Member j n.reads → Member j (numbers_of rs)
+read_noted rs o n m j r = let (x, i, q) = ordered_closed ℕ Outcome Range (notes_of rs) o n m j r in subst (λ k. Member k (numbers_of rs)) q (note_number rs x i)
+
 module _ (l : Ledger) (h : IsLedger l) (o : AreOrdered [] (notes_of l.rows.items)) (seeds : List ℕ) (below : Each (λ n. n < length l.book) seeds) (apart : AreDistinct seeds) (marks left : List Bool)
     (seeded : (s : ℕ) → Member s seeds → is_marked marks s ≡ true) (followed : AreFollowed (notes_of l.rows.items) marks) (reached : AreReached (notes_of l.rows.items) seeds marks)
     (unmarked : (k : ℕ) → is_marked left k ≡ (is_marked marks k && not (has seeds k))) where
-  -- each read has a row
-  read_noted : (n : Note ℕ Outcome Range) → Member n (notes_of l.rows.items) → (j : ℕ) → Member j n.reads → Member j (numbers_of l.rows.items)
-  read_noted n m j r = let (x, i, q) = ordered_closed ℕ Outcome Range (notes_of l.rows.items) o n m j r in subst (λ k. Member k (numbers_of l.rows.items)) q (note_number l.rows.items x i)
-
   left_marked : (k : ℕ) → is_marked left k ≡ true → (is_marked marks k ≡ true) × (has seeds k ≡ false)
   left_marked k t = and_not (is_marked marks k) (has seeds k) (sym (unmarked k) ∙ t)
 
@@ -176,8 +176,8 @@ module _ (l : Ledger) (h : IsLedger l) (o : AreOrdered [] (notes_of l.rows.items
     below = subst (λ (ns : List ℕ). Each (λ n. n < length l.book) ns) (sym e) (each_both (λ n. n < length l.book) seeds rest below rb);
     apart = subst (λ (ns : List ℕ). AreDistinct ns) (sym e) (apart_both seeds rest apart ra (λ k m i. (let non : true ≡ false = sym (has_there seeds k m) ∙ (left_marked k (out k i)).1 in cc non)));
     reached = λ k m. reached k (marked k m);
-    closed = λ n i m j r. into j (followed n i (marked n.key m) j r) (read_noted n i j r);
-    noted = read_noted;
+    closed = λ n i m j r. into j (followed n i (marked n.key m) j r) (read_noted l.rows.items o n i j r);
+    noted = read_noted l.rows.items o;
   }
     where
       marked : (k : ℕ) → Member k all → is_marked marks k ≡ true

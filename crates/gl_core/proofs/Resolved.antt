@@ -29,7 +29,7 @@ use Rattle.gl_core.proofs.Cores.{readable, status_there, absent, rows_there}
 -- ---- the test
 
 -- a number that is known has its status
-has_at : (ms : List ℕ) (ss : List Status) (p n : ℕ) (s : Status) → AreDistinct ms → slice_get ms p ≡ Some n → slice_get ss p ≡ Some s → has_in ms ss n ≡ is_row s
+pub has_at : (ms : List ℕ) (ss : List Status) (p n : ℕ) (s : Status) → AreDistinct ms → slice_get ms p ≡ Some n → slice_get ss p ≡ Some s → has_in ms ss n ≡ is_row s
 has_at [] ss p n s d e f = absurd (cc e)
 has_at (m ∷ ms) [] p n s d e f = absurd (cc f)
 has_at (m ∷ ms) (t ∷ ss) zero n s d e f =
@@ -44,7 +44,7 @@ has_none [] ss n non = refl
 has_none (m ∷ ms) [] n non = refl
 has_none (m ∷ ms) (t ∷ ss) n non = ap (λ c. cond c (is_row t) (has_in ms ss n)) (not_same n m (λ i. non (inl i))) ∙ has_none ms ss n (λ i. non (inr i))
 
-known_apart : (e : Entries) → IsIndexed e → AreDistinct e.known.items
+pub known_apart : (e : Entries) → IsIndexed e → AreDistinct e.known.items
 known_apart e i = distinct_by e.known.items (λ p q n d f.
     let a = i.there p (get_within e.known.items p n d) in
     let b = i.there q (get_within e.known.items q n f) in

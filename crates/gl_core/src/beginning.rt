@@ -67,7 +67,7 @@ fn statuses_of(alloc: Global, known: &[u32], ledger: &Ledger) -> Result<Statuses
 fn no_lists(alloc: Global, count: usize) -> Result<Vec<Vec<usize>>, NoMemory>
     ensures { IfOk result (λ lists. length lists.items ≡ count) }
 {
-    let mut lists = Vec::new(alloc);
+    let mut lists = Vec::with_capacity(alloc, count)?;
     for _ in 0..count {
         lists.push(Vec::new(alloc))?;
     }
@@ -79,7 +79,7 @@ fn no_marks(alloc: Global, count: usize) -> Result<Vec<Mark>, NoMemory>
     ensures size { IfOk result (λ marks. length marks.items ≡ count) }
     ensures nothing { IfOk result (λ marks. TellNothing (mark_trees marks.items)) }
 {
-    let mut marks = Vec::new(alloc);
+    let mut marks = Vec::with_capacity(alloc, count)?;
     for _ in 0..count {
         marks.push(Mark::none())?;
     }

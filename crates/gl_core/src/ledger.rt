@@ -150,7 +150,12 @@ impl Ledger {
         ensures kept { IsLedger self.new }
     {
         let gone = mark(alloc, &self.rows, self.book.len(), changes)?;
+        let count = self.rows.len();
         keep_unmarked(&mut self.rows, &gone);
+        if self.rows.len() == count {
+            // each note has the place that it had
+            return Ok(());
+        }
         number_rows(&mut self.row_of, &self.rows);
         Ok(())
     }

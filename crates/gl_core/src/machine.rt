@@ -189,8 +189,8 @@ impl Core {
             → MoreThan max_demanded
             (Demanded (program_of evaluator.now) (map (K.Cell V.Top) places.now))) }
     {
-        let mut ledger = results.into_ledger();
-        match resumed(evaluator.alloc, places, &mut ledger) {
+        let (mut ledger, before) = results.into_ledger();
+        match resumed(evaluator.alloc, places, &before, &mut ledger) {
             Ok(entries) => Ok(Core {
                 entries,
                 seeds: places.len(),

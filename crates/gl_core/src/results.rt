@@ -26,12 +26,14 @@ const SPARE: u64 = 512;
 /// looked at, in the order of noting: what a note read stands before it.
 pub struct Results {
     ledger: Ledger,
+    // of the keys that the round knew, its seeds first: guesses for the next one
+    numbers: Vec<u32>,
 }
 
 // One call wherever it is dropped, in place of one for each part.
 impl Drop for Results {
     fn drop(self) {
-        let Results { ledger } = self;
+        let Results { ledger, numbers } = self;
     }
 }
 
@@ -67,26 +69,27 @@ impl Results {
     {
         Results {
             ledger: Ledger::new(alloc),
+            numbers: Vec::new(alloc),
         }
     }
 
-    /// These notes.
-    pub(crate) fn of(ledger: Ledger) -> Results
+    /// These notes, and the numbers of the keys of their round, those of its seeds first.
+    pub(crate) fn of(ledger: Ledger, numbers: Vec<u32>) -> Results
         requires kept { IsLedger ledger }
         requires results { AreResults (written ledger) }
         ensures { result ≡ written ledger }
     {
-        Results { ledger }
+        Results { ledger, numbers }
     }
 
-    /// The notes by numbers.
-    pub(crate) fn into_ledger(self) -> Ledger
-        ensures notes { written result ≡ self }
-        ensures kept { IsLedger result }
-        ensures results { AreResults (written result) }
+    /// The notes by numbers, and guesses for the numbers of the next round's seeds, in their order.
+    pub(crate) fn into_ledger(self) -> (Ledger, Vec<u32>)
+        ensures notes { written result.0 ≡ self }
+        ensures kept { IsLedger result.0 }
+        ensures results { AreResults (written result.0) }
     {
-        let Results { ledger } = self;
-        ledger
+        let Results { ledger, numbers } = self;
+        (ledger, numbers)
     }
 
     /// How many notes there are.
@@ -116,7 +119,9 @@ impl Results {
         ensures { IfOk result (λ r. r ≡ self.now) }
     {
         let ledger = copy_ledger(alloc, &self.ledger)?;
-        Ok(Results { ledger })
+        // the keys of a copy have other numbers
+        let numbers = Vec::new(alloc);
+        Ok(Results { ledger, numbers })
     }
 
     /// Gives back the room of keys that are gone: where more than twice as many have numbers as are

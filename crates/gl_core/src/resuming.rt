@@ -1,19 +1,21 @@
 //! What a round knows at its start.
 ghost use Rattle.std.specs.Prelude.{◌≡◌, ◌<◌, ◌≤◌, ◌++◌, ◌&&◌, ◌∷◌, [], ℕ, List, All, Some, not};
 ghost use Rattle.std.specs.Prelude.{if◌then◌else◌, length, map, filter, slice_get, IfOk, OnOk};
-ghost use Rattle.std.specs.Prelude.{IfErr, vec_len};
+ghost use Rattle.std.specs.Prelude.{IfErr, IfSome, vec_len};
 ghost use Rattle.gl_query.specs.{Lists.AreDistinct, InOrder.AreOrdered};
 ghost use Rattle.gl_calculus.specs.{Limits.max_demanded, Grid.Range};
 ghost use Rattle.gl_calculus.specs.Key as K;
 ghost use Rattle.gl_calculus.specs.Value as V;
 ghost use Rattle.gl_support.specs.{declared.row.Row.Row, Reach.is_marked, Reach.has, Rows.notes_of};
 ghost use Rattle.gl_demand.specs.{declared.outcome.Outcome.Outcome, Marks.mark_trees};
+ghost use Rattle.gl_demand.specs.View.{key_tree};
 ghost use Rattle.gl_core.specs.Numbers.{Each, numbers_of, AreNumbers, Grows};
 ghost use Rattle.gl_core.specs.{Ledger.written, Ledger.IsLedger, Marks.TellNothing, Table.IsCore};
 ghost use Rattle.gl_core.specs.{Table.AreBegun, Resuming.IsClosure, Resuming.IsResumed};
 
 use crate::answers::CoreFault;
 use crate::beginning::begun;
+use crate::book::Book;
 use crate::entries::Entries;
 use crate::ledger::Ledger;
 use gl_demand::{Key, MAX_DEMANDED, Outcome};
@@ -22,8 +24,40 @@ use gl_support::{Row, wanted};
 use gl_value::Env;
 use std::alloc::Global;
 
-/// The number of a cell of the sheet, which is likely to be this one.
-fn top_number(ledger: &mut Ledger, near: usize, a: Addr) -> Result<u32, NoMemory>
+/// The number at a place of a list. The greatest number, behind the end, is that of no key.
+fn number_at(numbers: &[u32], at: usize) -> u32 {
+    match numbers.get(at) {
+        Some(n) => *n,
+        None => u32::MAX,
+    }
+}
+
+/// The place behind that of a number, which is looked for at a place and at the next one.
+fn behind(numbers: &[u32], at: usize, n: u32) -> usize {
+    let next = at.wrapping_add(1);
+    if number_at(numbers, at) == n {
+        next
+    } else if number_at(numbers, next) == n {
+        next.wrapping_add(1)
+    } else {
+        at
+    }
+}
+
+/// The number of a key, if it is one of these.
+fn guessed(book: &Book, guesses: &[u32], key: &Key) -> Option<u32>
+    ensures { IfSome result (λ n. slice_get book.now n ≡ Some (key_tree key.now)) }
+{
+    for n in guesses {
+        if book.is_at(*n as usize, key) {
+            return Some(*n);
+        }
+    }
+    None
+}
+
+/// The number of a cell of the sheet, which is likely to be one of these.
+fn top_number(ledger: &mut Ledger, guesses: &[u32], a: Addr) -> Result<u32, NoMemory>
     requires { IsLedger ledger.old }
     ensures number { IfOk result (λ n. slice_get ledger.new.book n ≡ Some (K.Cell V.Top a)) }
     ensures grows { Grows ledger.old.book ledger.new.book }
@@ -31,14 +65,20 @@ fn top_number(ledger: &mut Ledger, near: usize, a: Addr) -> Result<u32, NoMemory
     ensures kept { IsLedger ledger.new }
 {
     let key = Key::Cell(Env::Top, a);
-    if ledger.book.is_at(near, &key) {
-        return Ok(near as u32);
+    match guessed(&ledger.book, guesses, &key) {
+        Some(n) => Ok(n),
+        None => ledger.number(key),
     }
-    ledger.number(key)
 }
 
-/// The numbers of cells of the sheet. Those of neighbours mostly stand side by side.
-fn top_numbers(alloc: Global, ledger: &mut Ledger, places: &[Addr]) -> Result<Vec<u32>, NoMemory>
+/// The numbers of cells of the sheet. They mostly stand in this order among those of the round
+/// before, and else side by side.
+fn top_numbers(
+    alloc: Global,
+    ledger: &mut Ledger,
+    places: &[Addr],
+    before: &[u32],
+) -> Result<Vec<u32>, NoMemory>
     requires { IsLedger ledger.old }
     ensures numbers { IfOk result
         (λ ns. AreNumbers ledger.new.book ns.items (map (K.Cell V.Top) places.now)) }
@@ -46,12 +86,16 @@ fn top_numbers(alloc: Global, ledger: &mut Ledger, places: &[Addr]) -> Result<Ve
     ensures rows { ledger.new.rows.items ≡ ledger.old.rows.items }
     ensures kept { IsLedger ledger.new }
 {
-    let mut numbers = Vec::new(alloc);
-    let mut near = 0;
+    let mut numbers = Vec::with_capacity(alloc, places.len())?;
+    let mut at = 0usize;
+    let mut next = 0u32;
     for a in places {
-        let n = top_number(ledger, near, *a)?;
+        let first = number_at(before, at);
+        let second = number_at(before, at.wrapping_add(1));
+        let n = top_number(ledger, &[first, second, next], *a)?;
         numbers.push(n)?;
-        near = n as usize + 1;
+        at = behind(before, at, n);
+        next = n.wrapping_add(1);
     }
     Ok(numbers)
 }
@@ -105,13 +149,22 @@ fn reached(alloc: Global, seeds: Vec<u32>, ledger: &Ledger) -> Result<Vec<u32>, 
     requires apart { AreDistinct seeds.items }
     ensures { IfOk result (λ all. IsClosure ledger.now seeds.items all.items) }
 {
+    if seeds.len() == ledger.book.len() {
+        // each key is a seed
+        return Ok(seeds);
+    }
     let mut marks = wanted(alloc, &ledger.rows, ledger.book.len(), &seeds)?;
     unmark(&mut marks, &seeds);
     with_marked(seeds, &marks, &ledger.rows)
 }
 
 /// The numbers that are known at the start.
-fn known(alloc: Global, places: &[Addr], ledger: &mut Ledger) -> Result<Vec<u32>, NoMemory>
+fn known(
+    alloc: Global,
+    places: &[Addr],
+    before: &[u32],
+    ledger: &mut Ledger,
+) -> Result<Vec<u32>, NoMemory>
     requires kept { IsLedger ledger.old }
     requires ordered { AreOrdered [] (written ledger.old) }
     requires apart { AreDistinct (map (K.Cell V.Top) places.now) }
@@ -120,12 +173,18 @@ fn known(alloc: Global, places: &[Addr], ledger: &mut Ledger) -> Result<Vec<u32>
     ensures notes { written ledger.new ≡ written ledger.old }
     ensures kept { IsLedger ledger.new }
 {
-    let seeds = top_numbers(alloc, ledger, places)?;
+    let seeds = top_numbers(alloc, ledger, places, before)?;
     reached(alloc, seeds, ledger)
 }
 
-/// The seeds and what they reach through notes, each resolved where it has a note.
-pub fn resumed(alloc: Global, places: &[Addr], ledger: &mut Ledger) -> Result<Entries, CoreFault>
+/// The seeds and what they reach through notes, each resolved where it has a note. Their numbers are
+/// looked for among those of the round before.
+pub fn resumed(
+    alloc: Global,
+    places: &[Addr],
+    before: &[u32],
+    ledger: &mut Ledger,
+) -> Result<Entries, CoreFault>
     requires kept { IsLedger ledger.old }
     requires ordered { AreOrdered [] (written ledger.old) }
     requires apart { AreDistinct (map (K.Cell V.Top) places.now) }
@@ -141,7 +200,7 @@ pub fn resumed(alloc: Global, places: &[Addr], ledger: &mut Ledger) -> Result<En
     ensures notes { written ledger.new ≡ written ledger.old }
     ensures kept { IsLedger ledger.new }
 {
-    let Ok(known) = known(alloc, places, ledger) else {
+    let Ok(known) = known(alloc, places, before, ledger) else {
         return Err(CoreFault::NoMemory);
     };
     if known.len() > MAX_DEMANDED {

@@ -6,8 +6,8 @@ use Rattle.gl_core.proofs.beginning.no_marks.Goals as goal
 
 pub loop-init : goal.loop-init
 loop-init c = record {
-  size = ap length c.new-marks.ensures.items;
-  nothing = nothing_told (mark_trees c.new-marks.result.items) (ap (λ (xs : List Mark). mark_trees xs) c.new-marks.ensures.items);
+  size = ap length c.in_ok-marks.ensures.items;
+  nothing = nothing_told (mark_trees c.in_ok-marks.marks.items) (ap (λ (xs : List Mark). mark_trees xs) c.in_ok-marks.ensures.items);
 }
 
 pub loop-preserved : goal.loop-preserved

@@ -11,17 +11,21 @@ use Rattle.gl_core.proofs.Places.{if_ok}
 use Rattle.gl_core.proofs.Filtered.{each_all, rows_below, numbers_below, numbers_apart}
 use Rattle.gl_core.proofs.Dropping.{keys_of_rows}
 use Rattle.gl_core.proofs.Marks.{closure}
+use Rattle.gl_core.proofs.Whole.{all_seeds}
 use Rattle.gl_core.proofs.resuming.reached.Goals as goal
+
+pub returns-then-len : goal.returns-then-len
+returns-then-len c = all_seeds c.args.ledger.now c.requires.kept c.requires.ordered c.args.seeds.items c.requires.below c.requires.apart (sym c.args.seeds.ok.0 ∙ sym c.len.ensures ∙ c.if-len.true ∙ c.len-2.ensures.count)
 
 pub wanted-requires-clause-below : goal.wanted-requires-clause-below
 wanted-requires-clause-below c =
     let l = c.args.ledger.now in
-    subst (λ n. AreBelow n c.deref.result.now) (sym c.len.ensures.count) (subst (λ (rs : List (Row Outcome Range)). AreBelow (length l.book) rs) (sym c.deref.ensures.value) (rows_below (length l.book) l.rows.items c.requires.kept.below))
+    subst (λ n. AreBelow n c.deref.result.now) (sym c.len-3.ensures.count) (subst (λ (rs : List (Row Outcome Range)). AreBelow (length l.book) rs) (sym c.deref.ensures.value) (rows_below (length l.book) l.rows.items c.requires.kept.below))
 
 pub wanted-requires-clause-seeds_below : goal.wanted-requires-clause-seeds_below
 wanted-requires-clause-seeds_below c =
     let l = c.args.ledger.now in
-    subst (λ n. All (λ s. s < n) c.deref-2.result.now) (sym c.len.ensures.count) (subst (λ (ns : List ℕ). All (λ s. s < length l.book) ns) (sym c.deref-2.ensures.value) (each_all (λ s. s < length l.book) c.args.seeds.items c.requires.below))
+    subst (λ n. All (λ s. s < n) c.deref-2.result.now) (sym c.len-3.ensures.count) (subst (λ (ns : List ℕ). All (λ s. s < length l.book) ns) (sym c.deref-2.ensures.value) (each_all (λ s. s < length l.book) c.args.seeds.items c.requires.below))
 
 pub wanted-requires-clause-ordered : goal.wanted-requires-clause-ordered
 wanted-requires-clause-ordered c = subst (λ (rs : List (Row Outcome Range)). AreOrdered [] (notes_of rs)) (sym c.deref.ensures.value) c.requires.ordered
@@ -34,12 +38,12 @@ wanted-requires-clause-apart c =
 pub unmark-requires : goal.unmark-requires
 unmark-requires c =
     let l = c.args.ledger.now in
-    subst (λ n. All (λ s. s < n) c.deref-3.result.now) (sym (c.in_ok-marks.ensures.size ∙ c.len.ensures.count)) (subst (λ (ns : List ℕ). All (λ s. s < length l.book) ns) (sym c.deref-3.ensures.value) (each_all (λ s. s < length l.book) c.args.seeds.items c.requires.below))
+    subst (λ n. All (λ s. s < n) c.deref-3.result.now) (sym (c.in_ok-marks.ensures.size ∙ c.len-3.ensures.count)) (subst (λ (ns : List ℕ). All (λ s. s < length l.book) ns) (sym c.deref-3.ensures.value) (each_all (λ s. s < length l.book) c.args.seeds.items c.requires.below))
 
 pub with_marked-requires : goal.with_marked-requires
 with_marked-requires c =
     let l = c.args.ledger.now in
-    let n : length c.deref-4.result.now ≡ length l.book = ap length c.deref-4.ensures.value ∙ sym c.unmark.new.marks.ok.0 ∙ c.unmark.ensures.size ∙ c.in_ok-marks.ensures.size ∙ c.len.ensures.count in
+    let n : length c.deref-4.result.now ≡ length l.book = ap length c.deref-4.ensures.value ∙ sym c.unmark.new.marks.ok.0 ∙ c.unmark.ensures.size ∙ c.in_ok-marks.ensures.size ∙ c.len-3.ensures.count in
     subst (λ m. Each (λ s. s < m) (numbers_of c.deref-5.result.now)) (sym n) (subst (λ (rs : List (Row Outcome Range)). Each (λ s. s < length l.book) (numbers_of rs)) (sym c.deref-5.ensures.value) (numbers_below (length l.book) l.rows.items c.requires.kept.below))
 
 pub returns : goal.returns

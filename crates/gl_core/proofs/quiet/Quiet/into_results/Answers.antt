@@ -10,8 +10,8 @@ use Rattle.gl_core.proofs.quiet.Quiet.into_results.Goals as goal
 pub of-requires-clause-results : goal.of-requires-clause-results
 of-requires-clause-results c =
     let (version, S, w, h) = c.requires.for_it in
-    subst (λ (ns : Notes). AreResults ns) (sym c.resolved_notes.ensures.kept) (resolved_ordered version S w c.args.self h c.requires.ordered c.resolved_notes.ensures.sound)
+    subst (λ (ns : Notes). AreResults ns) (sym c.resolved_notes-ledger.ensures.kept) (resolved_ordered version S w c.args.self h c.requires.ordered c.resolved_notes-ledger.ensures.sound)
 
 pub returns-clause-notes : goal.returns-clause-notes
 returns-clause-notes c = λ version S w f q.
-    the_notes version S w c.args.self c.resolved_notes.ensures.sound c.of.result (subst (λ (ns : Notes). AreDistinct (note_keys ns)) (sym c.of.ensures) (notes_apart c.resolved_notes.result c.resolved_notes.ensures.ledger)) (c.of.ensures ∙ c.resolved_notes.ensures.kept) f q
+    the_notes version S w c.args.self c.resolved_notes-ledger.ensures.sound c.of.result (subst (λ (ns : Notes). AreDistinct (note_keys ns)) (sym c.of.ensures) (notes_apart c.resolved_notes-ledger.result.0 c.resolved_notes-ledger.ensures.ledger)) (c.of.ensures ∙ c.resolved_notes-ledger.ensures.kept) f q

@@ -1,0 +1,50 @@
+use Rattle.std.proofs.Common.{◌≡◌, ◌<◌, List, nat_eq, filter, length, sym, ap, subst, arith, ◌∙◌}
+use Rattle.std.specs.List.{list_all}
+use Rattle.gl_query.specs.Lists.{AreDistinct}
+use Rattle.gl_calculus.specs.Grid.{Range}
+use Rattle.gl_support.specs.declared.row.Row.{Row}
+use Rattle.gl_demand.specs.declared.outcome.Outcome.{Outcome}
+use Rattle.gl_core.specs.Numbers.{Each, numbers_of}
+use Rattle.gl_core.specs.Table.{is_row, has_outcome}
+use Rattle.gl_core.proofs.Filtered.{numbers_there, numbers_apart, some_there, some_rows, filter_apart, filter_length}
+use Rattle.gl_core.proofs.Cores.{indexed}
+use Rattle.gl_core.proofs.Whole.{both, all_kept}
+use Rattle.gl_core.proofs.quiet.keep_known.Goals as goal
+
+pub keep_resolved-requires : goal.keep_resolved-requires
+keep_resolved-requires c = indexed c.args.entries.now c.requires.table
+
+pub renumber-requires-clause-there : goal.renumber-requires-clause-there
+renumber-requires-clause-there c =
+    let l = c.args.ledger.now in
+    let p = λ (r : Row Outcome Range). has_outcome c.args.entries.now r.by in
+    subst (λ (rs : List (Row Outcome Range)). Each (λ n. n < length l.row_of.items) (numbers_of rs)) (sym c.keep_resolved.ensures) (some_there p l.rows.items (λ n. n < length l.row_of.items) (numbers_there l c.requires.ledger))
+
+pub renumber-requires-clause-apart : goal.renumber-requires-clause-apart
+renumber-requires-clause-apart c =
+    let l = c.args.ledger.now in
+    let p = λ (r : Row Outcome Range). has_outcome c.args.entries.now r.by in
+    subst (λ (rs : List (Row Outcome Range)). AreDistinct (numbers_of rs)) (sym c.keep_resolved.ensures) (filter_apart p l.rows.items (numbers_apart l c.requires.ledger))
+
+pub renumber-requires-clause-few : goal.renumber-requires-clause-few
+renumber-requires-clause-few c =
+    let l = c.args.ledger.now in
+    let p = λ (r : Row Outcome Range). has_outcome c.args.entries.now r.by in
+    let n = filter_length p l.rows.items in
+    let s : length c.keep_resolved.new.rows.items ≡ length (filter p l.rows.items) = ap length c.keep_resolved.ensures in
+    omega (arith, n, s, c.requires.ledger.few)
+
+pub returns-then-are_resolved-clause-rows : goal.returns-then-are_resolved-clause-rows
+returns-then-are_resolved-clause-rows c =
+    let l = c.args.ledger.now in
+    let e = c.args.entries.now in
+    let b = both (nat_eq (length e.known.items) c.len.result) (list_all is_row e.statuses.items.items) (sym c.are_resolved.ensures ∙ c.if-are_resolved.true) in
+    all_kept l e c.requires b.1 c.len.result b.0 (c.len.ensures ∙ l.rows.ok.0)
+
+pub returns-clause-rows : goal.returns-clause-rows
+returns-clause-rows c = c.renumber.ensures.rows ∙ c.keep_resolved.ensures
+
+pub returns-clause-kept : goal.returns-clause-kept
+returns-clause-kept c =
+    let p = λ (r : Row Outcome Range). has_outcome c.args.entries.now r.by in
+    some_rows c.args.ledger.now c.renumber.new.self p c.requires.ledger c.renumber.ensures.book (c.renumber.ensures.rows ∙ c.keep_resolved.ensures) c.renumber.ensures.index
