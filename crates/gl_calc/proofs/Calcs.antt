@@ -9,7 +9,7 @@ use Rattle.gl_calculus.specs.Calculation as C
 use Rattle.gl_calculus.specs.Calculation.{has_content, Reaches}
 use Rattle.gl_calculus.specs.Differences.{AreApart}
 use Rattle.gl_calculus.specs.Memory as M
-use Rattle.gl_calculus.specs.Memory.{Table, IsTableOf, AreTables}
+use Rattle.gl_calculus.specs.Memory.{Table, AreTables}
 use Rattle.gl_calculus.specs.Oracle.{grant}
 use Rattle.gl_calculus.proofs.Apart.{apart}
 use Rattle.gl_calculus.proofs.Settles.{array_order}

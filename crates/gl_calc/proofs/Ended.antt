@@ -5,7 +5,7 @@ use Rattle.gl_calculus.specs.Value.{Oracle}
 use Rattle.gl_calculus.specs.Formula as F
 use Rattle.gl_calculus.specs.Formula.{Cells, IsSheet}
 use Rattle.gl_calculus.specs.Calculation as C
-use Rattle.gl_calculus.specs.Calculation.{IsUnspent, IsAnswer, Ends}
+use Rattle.gl_calculus.specs.Calculation.{IsAnswer, Ends}
 use Rattle.gl_calculus.specs.Memory.{Table, base, AreTables}
 use Rattle.gl_calculus.specs.Costs.{Finishes}
 use Rattle.gl_calculus.proofs.Keeps.{nothing_asked}

@@ -6,7 +6,7 @@ use Rattle.gl_calculus.specs.Value.{Oracle, Permit, Blank, Value, Frame, Top}
 use Rattle.gl_calculus.specs.Formula.{Version, Formula, Form, Cells, content}
 use Rattle.gl_calculus.specs.Oracle.{status, Cover, cover}
 use Rattle.gl_calculus.specs.Key as K
-use Rattle.gl_calculus.specs.Key.{Cell, Outcome, Eval, same_key, give, ◌>>=◌}
+use Rattle.gl_calculus.specs.Key.{Cell, Outcome, same_key}
 use Rattle.gl_calculus.specs.Reference.{shown, spilled}
 use Rattle.gl_calculus.specs.Evaluation.{program}
 use Rattle.gl_calculus.specs.Calculation as C

@@ -1,10 +1,9 @@
 -- How many contents and formulas a sheet has, with contents that are put.
-use Rattle.std.proofs.Common.{◌≡◌, ◌∙◌, ◌≤◌, suc, Bool, true, false, cond, List, [], ◌∷◌, map, length, Option, Some, None, refl, sym, ap, subst, arith}
+use Rattle.std.proofs.Common.{◌≡◌, ◌∙◌, ◌≤◌, suc, Bool, true, false, cond, [], ◌∷◌, map, length, Some, None, refl, sym, ap, arith}
 use Rattle.std.specs.List.{AllByRecursion}
-use Rattle.gl_calculus.specs.Grid.{Addr, same_addr, is_before, AreInOrder}
+use Rattle.gl_calculus.specs.Grid.{Addr, same_addr, is_before}
 use Rattle.gl_calculus.specs.Value.{Scalar}
 use Rattle.gl_calculus.specs.Formula.{Content, Const, Form, Cells, IsSheet, content, formula_addresses}
-use Rattle.gl_calculus.specs.Formula as F
 use Rattle.gl_edits.proofs.Orders.{tail}
 use Rattle.gl_protocol.specs.Commands.{with_content, with_contents}
 use Rattle.gl_protocol.proofs.SameSheets.{nothing_before}

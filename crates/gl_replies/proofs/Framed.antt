@@ -1,5 +1,5 @@
 -- Lines that are clean, no longer than a line may be, no header and no `quit` are framed as they are.
-use Rattle.std.proofs.Common.{◌≡◌, ◌∙◌, ℕ, zero, suc, ◌+◌, ◌≤◌, Bool, true, false, cond, ◌==◌, ◌-◌, List, [], ◌∷◌, ◌++◌, length, take, map, get_or, length-append, Option, Some, None, refl, ap, arith}
+use Rattle.std.proofs.Common.{◌≡◌, ◌∙◌, ℕ, zero, suc, ◌≤◌, Bool, true, false, cond, ◌==◌, ◌-◌, List, [], ◌∷◌, ◌++◌, length, take, map, get_or, length-append, Option, Some, None, refl, ap, arith}
 use Rattle.std.specs.Prelude.{flat_map, codes, nat_lt}
 use Rattle.std.specs.List.{AllByRecursion}
 use Rattle.std.proofs.lemmas.Bool.Decides.{nat_tests}

@@ -4,7 +4,7 @@ use Rattle.gl_calculus.specs.Formula.{Version, One, Two}
 use Rattle.gl_language.specs.Text.{Bytes}
 use Rattle.gl_protocol.specs.Framing.{Item}
 use Rattle.gl_protocol.specs.Commands.{ok_line}
-use Rattle.gl_protocol.specs.Script.{Script, new_script}
+use Rattle.gl_protocol.specs.Script.{Script}
 use Rattle.gl_protocol.specs.Output as O
 use Rattle.gl_protocol.specs.Output.{Runs, AreReplies}
 use Rattle.gl_replies.specs.Laws.{FirstRepliesFirst}

@@ -1,5 +1,5 @@
 -- Each item leaves a state whose steps lead back and on, and whose replica holds its sheet.
-use Rattle.std.proofs.Common.{◌≡◌, ◌≢◌, ◌∙◌, ◌⊎◌, inl, inr, ℕ, ◌+◌, ◌≤◌, ◌<◌, zero, suc, max, nat_lt, Bool, true, false, cond, not, List, [], ◌∷◌, map, take, length, Option, Some, None, IfSome, refl, sym, ap, subst, arith, IsTrue, length-take}
+use Rattle.std.proofs.Common.{◌≡◌, ◌∙◌, ◌⊎◌, inl, inr, ℕ, ◌+◌, ◌≤◌, ◌<◌, zero, suc, max, nat_lt, Bool, true, false, cond, not, List, [], ◌∷◌, map, take, length, Option, Some, None, IfSome, refl, sym, ap, subst, arith, IsTrue, length-take}
 use Rattle.std.proofs.lemmas.Bool.Decides.{nat_tests}
 use Rattle.std.proofs.lemmas.Grind.{common_steps}
 use Rattle.std.specs.List.{AllByRecursion}

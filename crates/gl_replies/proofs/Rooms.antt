@@ -1,24 +1,19 @@
 -- What comes with a step has room beside all that is there.
-use Rattle.std.proofs.Common.{◌≡◌, ◌∙◌, ℕ, ◌≤◌, zero, suc, Bool, true, false, cond, not, is_none, List, [], ◌∷◌, map, filter, take, length, Option, Some, None, refl, sym, ap, subst, arith, IsTrue}
-use Rattle.std.specs.List.{AllByRecursion, list_all}
-use Rattle.std.specs.Str.{is_utf8}
-use Rattle.gl_calculus.specs.Grid.{Addr, Range, same_addr, single, covers}
-use Rattle.gl_calculus.specs.Formula.{Version, Content, Const, Cells, IsSheet, content, formula_addresses}
+use Rattle.std.proofs.Common.{◌≡◌, ◌∙◌, Bool, true, false, cond, [], ◌∷◌, map, filter, length, Option, Some, None, refl, sym, ap, subst, arith}
+use Rattle.std.specs.List.{AllByRecursion}
+use Rattle.gl_calculus.specs.Grid.{Addr, Range, same_addr, covers}
+use Rattle.gl_calculus.specs.Formula.{Content, Cells, IsSheet, content, formula_addresses}
 use Rattle.gl_calculus.proofs.Tests.{addr_exact, addr_same}
-use Rattle.gl_language.specs.Text.{Bytes}
-use Rattle.gl_edits.specs.Limits.{max_steps}
-use Rattle.gl_edits.specs.Replicas.{Changes, Replica}
-use Rattle.gl_edits.specs.Steps.{Step, step_of, befores, afters, pushed}
-use Rattle.gl_protocol.specs.Commands as C
-use Rattle.gl_protocol.specs.Commands.{Read, Is, Not, Word, Utf8Word, with_content, with_contents, without, allowed, field_fault, contents, fields, imported, plain_scalar}
-use Rattle.gl_protocol.specs.Script.{Script, and_content, coming, with_change, with_changes, settings, removals}
-use Rattle.gl_protocol.proofs.Rising.{contents_by}
+use Rattle.gl_edits.specs.Replicas.{Changes}
+use Rattle.gl_edits.specs.Steps.{step_of, befores, afters}
+use Rattle.gl_protocol.specs.Commands.{with_content, with_contents, without}
+use Rattle.gl_protocol.specs.Script.{and_content, coming, with_change, with_changes, settings, removals}
 use Rattle.gl_protocol.proofs.SameSheets.{same_sheets}
 use Rattle.gl_protocol.proofs.SheetChanges.{found}
 use Rattle.gl_protocol.proofs.SheetOrders.{order_with_all}
 use Rattle.gl_protocol.proofs.TakenBack.{after_changes, found_changes, is_changed, unchanged, taken_back, done_again, contents_are_changes, cleared_by_removals}
 use Rattle.gl_replies.specs.Laws.{IsWithinLimits}
-use Rattle.gl_replies.specs.Rooms.{HasRoom, RoomBack, RoomOn}
+use Rattle.gl_replies.specs.Rooms.{HasRoom}
 use Rattle.gl_replies.proofs.Counts.{AreOver, IsConst, length_all_over, formulas_consts}
 
 -- both ways

@@ -1,9 +1,9 @@
 -- Each item leaves a state in which no undo and no redo passes a limit.
-use Rattle.std.proofs.Common.{◌≡◌, ◌∙◌, ℕ, zero, suc, Bool, true, false, cond, List, [], ◌∷◌, map, take, Option, Some, None, IfSome, refl, sym, ap, subst}
+use Rattle.std.proofs.Common.{◌≡◌, ◌∙◌, ℕ, zero, suc, Bool, true, false, cond, List, [], ◌∷◌, take, Option, Some, None, IfSome, refl, sym, ap, subst}
 use Rattle.std.specs.List.{AllByRecursion, list_all}
 use Rattle.std.specs.Str.{is_utf8}
 use Rattle.gl_calculus.specs.Grid.{Addr}
-use Rattle.gl_calculus.specs.Formula.{Version, Content, Cells}
+use Rattle.gl_calculus.specs.Formula.{Version, Cells}
 use Rattle.gl_language.specs.Text.{Bytes}
 use Rattle.gl_edits.specs.Limits.{max_steps}
 use Rattle.gl_edits.specs.Replicas.{Stamp, Edit, Changes, Replica, Judged, next_stamp, taking, taking_all, stamped, has_room}
@@ -16,8 +16,8 @@ use Rattle.gl_protocol.specs.Script.{Script, is_change, change, with_changes, ed
 use Rattle.gl_protocol.specs.Acts as T
 use Rattle.gl_protocol.specs.Acts.{Does, Acts}
 use Rattle.gl_protocol.proofs.Edited.{is_script, not_script, alone_done, no_stamp, no_room, replica_done, edited_sheet}
-use Rattle.gl_protocol.proofs.Rising.{contents_by, then_contents, constant}
-use Rattle.gl_protocol.proofs.TakenBack.{taken_back, done_again, contents_are_changes, cleared_by_removals}
+use Rattle.gl_protocol.proofs.Rising.{contents_by, then_contents}
+use Rattle.gl_protocol.proofs.TakenBack.{taken_back, contents_are_changes, cleared_by_removals}
 use Rattle.gl_replies.specs.Rooms.{HasRoom, RoomBack, RoomOn, IsRoomy, ActsKeepRooms}
 use Rattle.gl_replies.specs.States.{IsState, IsReplicaOf, LeadBack, LeadOn}
 use Rattle.gl_replies.proofs.Counts.{IsConst}

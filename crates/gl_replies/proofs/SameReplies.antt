@@ -1,5 +1,5 @@
 -- Equal sheets give equal replies.
-use Rattle.std.proofs.Common.{◌≡◌, ◌∙◌, List, sym, subst, IsTrue}
+use Rattle.std.proofs.Common.{◌≡◌, List, sym, subst, IsTrue}
 use Rattle.gl_calculus.specs.Formula.{Version, Cells, content}
 use Rattle.gl_calculus.specs.Calculation as A
 use Rattle.gl_calculus.specs.Calculation.{IsAnswer}

@@ -1,5 +1,5 @@
 -- The laws of replies and of sheets that public functions state.
-use Rattle.std.specs.Prelude.{◌≡◌, ◌≤◌, length, List, [], ◌++◌, IsTrue}
+use Rattle.std.specs.Prelude.{◌≡◌, ◌≤◌, length, List, ◌++◌, IsTrue}
 use Rattle.gl_calculus.specs.Limits.{max_formulas, max_contents}
 use Rattle.gl_calculus.specs.Formula.{Version, Cells, IsSheet, formula_addresses}
 use Rattle.gl_language.specs.Text.{Bytes}

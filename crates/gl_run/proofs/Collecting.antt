@@ -14,7 +14,7 @@ use Rattle.gl_run.specs.declared.session.Session.{Session}
 use Rattle.gl_run.specs.declared.session.Stop.{Stop}
 use Rattle.gl_run.specs.declared.session.Stop.TheVariants.{NoMemory, WriteFault}
 use Rattle.gl_run.proofs.Faults.{stays_none, stays_then, rose_then}
-use Rattle.gl_run.proofs.Runs.{take-past}
+use Rattle.gl_run.proofs.Runs.{room-then, no_room-then, take-past}
 use Rattle.gl_run.proofs.Taking.{Taking, Taking-none, Byte-more, Byte-quits, Byte-stops}
 
 -- no room is told
@@ -32,12 +32,7 @@ module _ {k l m : Option (List ℕ)} {room rest : ℕ → Type 0} {F G : Type 0}
   pub whole_then : {last : ℕ → Type 0} {H : Type 0} → WroteWhole l m rest last G H g h b → WroteWhole k m room last F H f h (a ++ b)
   whole_then {last = last} v = record {
     written = Appends-trans k l m a b w.written v.written;
-    left_room = λ n told le.
-        let size = length-append a b in
-        let first : length a ≤ n = omega (arith, size, le) in
-        let second : length b ≤ n - length a = omega (arith, size, le) in
-        let same : n - length a - length b ≡ n - length (a ++ b) = omega (arith, size, le) in
-        subst last same (v.left_room (n - length a) (w.left_room n told first) second);
+    left_room = room-then a b room rest last w.left_room v.left_room;
     stays = stays_then w.stays v.stays;
   }
 
@@ -46,11 +41,7 @@ module _ {k l m : Option (List ℕ)} {room rest : ℕ → Type 0} {F G : Type 0}
     count = length a + v.count;
     short = omega (arith, length-append a b, v.short);
     written = subst (Appends k m) (take-past a b v.count) (Appends-trans k l m a (take v.count b) w.written v.written);
-    no_room = λ n told le.
-        let size = length-append a b in
-        let first : length a ≤ n = omega (arith, size, le) in
-        let second : length b ≤ n - length a = omega (arith, size, le) in
-        v.no_room (n - length a) (w.left_room n told first) second;
+    no_room = no_room-then a b room rest w.left_room v.no_room;
     later = omega (arith, w.stays.later, v.later);
     rose = rose_then w.stays.later v.rose;
   }

@@ -1,5 +1,5 @@
 -- Counts of faults from one call to the next.
-use Rattle.std.proofs.Common.{◌≡◌, ℕ, ◌≤◌, ◌<◌, refl, ◌∙◌, arith}
+use Rattle.std.proofs.Common.{ℕ, ◌≤◌, refl, ◌∙◌, arith}
 use Rattle.gl_port.specs.Causes.{Rose, Stays}
 
 pub stays_none : (F : Type 0) (f : ℕ) → Stays F F f f

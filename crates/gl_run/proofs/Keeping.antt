@@ -1,7 +1,6 @@
 -- Each item leaves a state that is kept.
-use Rattle.std.proofs.Common.{◌≡◌, ◌∙◌, ◌<◌, ◌≤◌, ℕ, List, [], ◌∷◌, length, Option, Some, None, Result, Ok, Err, IfOk, OnErr, sym, ap, subst, arith}
-use Rattle.gl_calculus.specs.Formula.{Version, Cells, formula_addresses}
-use Rattle.gl_calculus.specs.Limits.{max_formulas, max_contents}
+use Rattle.std.proofs.Common.{◌≡◌, ◌<◌, List, [], ◌∷◌, length, Result, Ok, Err, IfOk, OnErr, sym, subst, arith}
+use Rattle.gl_calculus.specs.Formula.{Version, Cells}
 use Rattle.gl_language.specs.Text.{Bytes}
 use Rattle.gl_edits.specs.Replicas.{Changes}
 use Rattle.gl_edits.specs.Steps.{Step, befores, afters}

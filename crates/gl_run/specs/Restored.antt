@@ -1,5 +1,5 @@
 -- What is listed of the step that is undone or done again.
-use Rattle.std.specs.Prelude.{◌≡◌, ◌<◌, List, ◌∷◌, length, Option, None}
+use Rattle.std.specs.Prelude.{◌≡◌, ◌<◌, List, length, Option, None}
 use Rattle.gl_query.specs.Lists.{AreDistinct}
 use Rattle.gl_calculus.specs.Grid.{Addr}
 use Rattle.gl_edits.specs.Steps.{befores, afters}

@@ -1,12 +1,28 @@
 //! Replies that are collected, and then written together.
+ghost use Rattle.std.specs.Prelude.{◌≡◌, ◌++◌, OnOk, OnErr};
 ghost use Rattle.gl_run.specs.Sending.{Sends, Passes};
 
 use crate::session::Stop;
 use crate::write::write_all;
+use gl_plane::NoMemory;
 use gl_port::{Failed, Sink};
 
 /// So many bytes of replies are written before more are collected.
 const FULL: usize = 65_536;
+
+/// One more reply. The first one is taken over, so that a long reply stands in memory once. After
+/// `NoMemory` what is collected is as before.
+pub fn collect(out: &mut Vec<u8>, reply: Vec<u8>) -> Result<(), NoMemory>
+    ensures ok { OnOk result (out.new.items ≡ out.old.items ++ reply.items) }
+    ensures err { OnErr result (out.new.items ≡ out.old.items) }
+{
+    if out.is_empty() {
+        *out = reply;
+        return Ok(());
+    }
+    out.extend_from_slice(&reply)?;
+    Ok(())
+}
 
 /// Writes what is collected, and answers what is given; where the write fails, that.
 pub fn send<K: Sink, T: Copy>(sink: &mut K, out: &[u8], given: Result<T, Stop>) -> Result<T, Stop>

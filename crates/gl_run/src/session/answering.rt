@@ -17,7 +17,7 @@ ghost use Rattle.gl_calc.specs.{Engine.rule_in};
 use crate::answers::{answer_line, answer_long, answer_truncated, is_version_line};
 use crate::imports::answer_import;
 use crate::script::new_script;
-use crate::sending::{pass_on, send};
+use crate::sending::{collect, pass_on, send};
 use crate::session::{Session, Stop};
 use gl_ast::Version;
 use gl_calc::Engine;
@@ -185,7 +185,7 @@ impl Session {
         let quits = self.quits(ended);
         let reply = self.answer(engine, steps, ended)?;
         self.refused = either(self.refused, is_refusal(&reply));
-        out.extend_from_slice(&reply)?;
+        collect(out, reply)?;
         Ok(quits)
     }
 
