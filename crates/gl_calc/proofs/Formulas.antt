@@ -9,11 +9,11 @@ use Rattle.gl_calculus.specs.Sound.{IsProperKey, is_sound_key}
 use Rattle.gl_calculus.proofs.Tests.{addr_exact, addr_same}
 use Rattle.gl_calculus.proofs.Grants.{Before, before_of, of_before, before_trans, not_same, split}
 
-order_tail : (a : Addr) (rest : List Addr) → AreInOrder (a ∷ rest) → AreInOrder rest
+pub order_tail : (a : Addr) (rest : List Addr) → AreInOrder (a ∷ rest) → AreInOrder rest
 order_tail a [] o = tt
 order_tail a (b ∷ rest) (p, o) = o
 
-after_head : (a : Addr) (rest : List Addr) → AreInOrder (a ∷ rest) → (b : Addr) → Member b rest → Before a b
+pub after_head : (a : Addr) (rest : List Addr) → AreInOrder (a ∷ rest) → (b : Addr) → Member b rest → Before a b
 after_head a [] o b m = absurd m
 after_head a (c ∷ rest) (p, o) b (inl e) = subst (λ u. Before a u) (sym e) (before_of a c p)
 after_head a (c ∷ rest) (p, o) b (inr m) = before_trans a c b (before_of a c p) (after_head c rest o b m)
@@ -22,7 +22,7 @@ order_cons : (a : Addr) (rest : List Addr) → ((b : Addr) → Member b rest →
 order_cons a [] h o = tt
 order_cons a (b ∷ rest) h o = (of_before a b (h b (inl refl)), o)
 
-formula_member : (S : Cells) (a : Addr) → Member a (formula_addresses S) → Member a (map (λ c. c.0) S)
+pub formula_member : (S : Cells) (a : Addr) → Member a (formula_addresses S) → Member a (map (λ c. c.0) S)
 formula_member [] a m = m
 formula_member ((b, Form f) ∷ S) a (inl e) = inl e
 formula_member ((b, Form f) ∷ S) a (inr m) = inr (formula_member S a m)

@@ -3,7 +3,7 @@ use Rattle.std.specs.Prelude.{◌≡◌, ◌≤◌, ℕ, ◌+◌, List, [], leng
 use Rattle.std.specs.declared.alloc.Global.{Global}
 use Rattle.gl_calculus.specs.Grid.{Addr, grid}
 use Rattle.gl_calculus.specs.Value.{Oracle}
-use Rattle.gl_calculus.specs.Formula.{Version, Cells, IsSheet, formula_addresses}
+use Rattle.gl_calculus.specs.Formula.{Version, Cells, IsSheet}
 use Rattle.gl_calculus.specs.Oracle.{ArePermits}
 use Rattle.gl_calculus.specs.Calculation.{has_content, IsUnspent}
 use Rattle.gl_calculus.specs.Memory.{Table, IsTableOf, AreTables}
@@ -82,7 +82,3 @@ pub record IsCalc (S : Cells) (held : Option Answered) (tables : List Table) (ve
   pub answer : IsKept S tables held
   pub latest : IsOfLatest held version ended
   pub stands : IfSome ended (λ x. (touched.items ≡ []) × Stands version S tables x × HoldsLatest version S tables x held)
-
--- the addresses of the formulas, where they are known
-abbrev pub ArePlaces : Cells → Option (Vec Addr Global) → Type 0
-ArePlaces S places = IfSome places (λ v. v.items ≡ formula_addresses S)

@@ -7,6 +7,7 @@ pub mod Visits
 pub mod Round
 pub mod Starting
 pub mod Held
+pub mod Places
 pub mod Ending
 pub mod Single
 pub mod Progress

@@ -14,15 +14,13 @@ ghost use Rattle.gl_cells.specs.Sheet as cells;
 ghost use Rattle.gl_order.specs.Rule.{PicksBelow, rule_of};
 ghost use Rattle.gl_calc.specs.Answers.{Answers, Takes, IsShownBy};
 ghost use Rattle.gl_calc.specs.{View.View, View.sheet_of, View.memory_of, Why.why_tree};
-ghost use Rattle.gl_calc.specs.{Held.answer_of, Held.IsCalc, Held.ArePlaces};
+ghost use Rattle.gl_calc.specs.{Held.answer_of, Held.IsCalc, Places.ArePlaces};
 
 use crate::calculating::calculate;
 use crate::ending::Answered;
-use crate::holding::{
-    earlier_tables, held_after, known_places, parted, places_after, same_version, standing,
-    table_of,
-};
+use crate::holding::{earlier_tables, held_after, parted, same_version, standing, table_of};
 use crate::marking::{mark_all, mark_in, places_of};
+use crate::placing::{known_places, places_with, places_without, while_few};
 use crate::reasons::why_at;
 use crate::showing::shown_at;
 use crate::table::Table;
@@ -138,7 +136,8 @@ impl Calc {
                 self.held = None;
                 self.ended = None;
                 let places = self.places.take();
-                self.places = places_after(places, formulas, self.cells.formulas());
+                let places = while_few(places, self.touched.len());
+                self.places = places_with(places, a, formulas, self.cells.formulas());
                 Ok(())
             }
             Err(fault) => Err(fault),
@@ -190,12 +189,12 @@ impl Calc {
         ensures version { self.new.version ≡ self.old.version }
     {
         mark_in(&mut self.touched, &self.cells, r);
-        let formulas = self.cells.formulas();
         let count = self.cells.clear(r);
         self.held = None;
         self.ended = None;
         let places = self.places.take();
-        self.places = places_after(places, formulas, self.cells.formulas());
+        let places = while_few(places, self.touched.len());
+        self.places = places_without(places, r);
         count
     }
 

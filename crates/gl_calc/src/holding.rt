@@ -1,17 +1,15 @@
 //! What a calculator holds and remembers from one calculation to the next.
 ghost use Rattle.std.specs.Prelude.{◌≡◌, [], None, IsSome, Bool, true, if◌then◌else◌, option_map};
-ghost use Rattle.std.specs.Prelude.{option_copied, nat_eq, IfOk};
-ghost use Rattle.gl_calculus.specs.Formula.{Cells as Sheet, formula_addresses};
+ghost use Rattle.std.specs.Prelude.{option_copied};
+ghost use Rattle.gl_calculus.specs.Formula.{Cells as Sheet};
 ghost use Rattle.gl_calculus.specs.Memory as M;
 ghost use Rattle.gl_ast.specs.View.{version_tree};
-ghost use Rattle.gl_cells.specs.Sheet.{sheet};
-ghost use Rattle.gl_calc.specs.Held.{table_of, answer_of, IsKept, Parts, held_by, ArePlaces};
+ghost use Rattle.gl_calc.specs.Held.{table_of, answer_of, IsKept, Parts, held_by};
 
 use crate::Answer;
 use crate::ending::{Answered, Ended};
 use crate::table::Table;
 use gl_ast::Version;
-use gl_cells::Cells;
 use gl_plane::{Addr, NoMemory};
 use std::alloc::Global;
 
@@ -33,29 +31,6 @@ pub fn standing(is_same: bool, ended: Option<Answer>) -> Option<Answer>
     ensures { result ≡ (if is_same then ended else None) }
 {
     if is_same { ended } else { None }
-}
-
-/// The addresses of the formulas after one cell or range was changed, where they were known before
-/// and are as many.
-pub fn places_after(places: Option<Vec<Addr>>, before: u32, after: u32) -> Option<Vec<Addr>>
-    ensures { result ≡ (if nat_eq before after then places else None) }
-{
-    if before == after { places } else { None }
-}
-
-/// The addresses of the formulas: those that are known, else as they are found in the sheet.
-pub fn known_places(
-    alloc: Global,
-    cells: &Cells,
-    places: Option<Vec<Addr>>,
-) -> Result<Vec<Addr>, NoMemory>
-    requires { ArePlaces (sheet cells.now) places }
-    ensures { IfOk result (λ v. v.items ≡ formula_addresses (sheet cells.now)) }
-{
-    match places {
-        Some(places) => Ok(places),
-        None => cells.formula_addresses(alloc),
-    }
 }
 
 /// The table of the held answer.

@@ -10,6 +10,7 @@ mod engine;
 mod holding;
 mod keeping;
 mod marking;
+mod placing;
 mod reasons;
 mod round;
 mod showing;

@@ -3,9 +3,8 @@ use Rattle.gl_calculus.specs.Formula.{content}
 use Rattle.gl_protocol.specs.Commands.{places_in}
 use Rattle.gl_ast.specs.View.{version_tree}
 use Rattle.gl_cells.specs.Sheet.{sheet}
-use Rattle.gl_calc.specs.Held.{ArePlaces}
+use Rattle.gl_calc.specs.Places.{ArePlaces}
 use Rattle.gl_calc.proofs.Calcs.{edited, clear_same, clear_length}
-use Rattle.gl_calc.proofs.Places.{AreSame, clear_same_places, places_stay}
 use Rattle.gl_calc.proofs.calc.Calc.clear.Goals as goal
 
 pub invariant_of-self : goal.invariant_of-self
@@ -19,8 +18,5 @@ invariant_of-self c =
           c.mark_in.ensures.items
           (λ b f. subst (λ T. content T b ≡ content S b) (sym goal) (clear_same S r b f))
           (omega (arith, left, all, c.mark_in.ensures.len, c.mark_in.ensures.capacity, c.self.invariant.0.room)),
-      subst (ArePlaces (sheet c.clear-count.new.self)) (sym c.places_after.ensures)
-          (places_stay S (sheet c.clear-count.new.self) c.take-places.result c.formulas-formulas.result c.formulas.result c.formulas-formulas.ensures.count c.formulas.ensures.count
-          (subst (AreSame S) (sym goal) (clear_same_places S r))
-          (subst (ArePlaces S) (sym c.take-places.ensures.value) c.self.invariant.1)),
+      subst (λ T. ArePlaces T c.places_without.result) (sym goal) (c.places_without.ensures S (c.while_few-places.ensures S (subst (ArePlaces S) (sym c.take-places.ensures.value) c.self.invariant.1))),
     )

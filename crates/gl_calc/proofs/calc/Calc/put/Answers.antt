@@ -1,11 +1,10 @@
 use Rattle.std.proofs.Common.{◌≡◌, ◌++◌, ◌∷◌, [], length, ap, sym, subst, ◌∙◌, arith}
-use Rattle.gl_calculus.specs.Formula.{content}
+use Rattle.gl_calculus.specs.Formula.{content, formula_addresses}
 use Rattle.gl_ast.specs.View.{version_tree}
 use Rattle.gl_cells.specs.Content.{content_tree}
 use Rattle.gl_cells.specs.Sheet.{sheet}
-use Rattle.gl_calc.specs.Held.{ArePlaces}
+use Rattle.gl_calc.specs.Places.{ArePlaces}
 use Rattle.gl_calc.proofs.Calcs.{edited, set_same, set_length}
-use Rattle.gl_calc.proofs.Places.{AreSame, put_same, places_stay}
 use Rattle.gl_calc.proofs.calc.Calc.put.Goals as goal
 
 pub invariant_of-self-in-Ok-put : goal.invariant_of-self-in-Ok-put
@@ -20,8 +19,8 @@ invariant_of-self-in-Ok-put c =
           (c.push_reserved.ensures.items ∙ ap (λ xs. xs ++ a ∷ []) c.reserve.ensures.items)
           (λ b f. subst (λ T. content T b ≡ content S b) (sym goal) (set_same S a x b f))
           (omega (arith, longer, most, c.push_reserved.ensures.len, c.push_reserved.ensures.capacity, c.reserve.ensures.len, c.in-Ok.ensures.ok, c.contents.ensures.count)),
-      subst (ArePlaces (sheet c.put.new.self)) (sym c.places_after.ensures)
-          (places_stay S (sheet c.put.new.self) c.take-places.result c.formulas-formulas.result c.formulas.result c.formulas-formulas.ensures.count c.formulas.ensures.count
-          (subst (AreSame S) (sym goal) (put_same S a x))
-          (subst (ArePlaces S) (sym c.take-places.ensures.value) c.self.invariant.1)),
+      subst (λ T. ArePlaces T c.places_with.result) (sym goal)
+          (c.places_with.ensures S x c.formulas-formulas.ensures.ordered c.formulas-formulas.ensures.count
+          (c.formulas.ensures.count ∙ ap (λ T. length (formula_addresses T)) goal)
+          (c.while_few-places.ensures S (subst (ArePlaces S) (sym c.take-places.ensures.value) c.self.invariant.1))),
     )

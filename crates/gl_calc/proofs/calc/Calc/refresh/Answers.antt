@@ -6,7 +6,8 @@ use Rattle.gl_cells.specs.Sheet.{sheet}
 use Rattle.gl_calc.specs.View.{View, sheet_of, memory_of}
 use Rattle.gl_calc.specs.Answers.{Answers, Takes}
 use Rattle.gl_calc.specs.Kept.{AreEarlier}
-use Rattle.gl_calc.specs.Held.{answer_of, Parts, held_by, IsCalc, ArePlaces}
+use Rattle.gl_calc.specs.Held.{answer_of, Parts, held_by, IsCalc}
+use Rattle.gl_calc.specs.Places.{ArePlaces}
 use Rattle.gl_calc.proofs.Calcs.{standing_answers, standing_takes, standing_tables, tables_passed, passed_earlier, emptied, on_err, left_answers, left_calc}
 use Rattle.gl_calc.proofs.calc.Calc.refresh.Goals as goal
 
