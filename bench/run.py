@@ -112,6 +112,17 @@ def few_formulas():
     return [], '\n'.join(lines) + '\n'
 
 
+def passing_formulas():
+    """65,000 constants and ten formulas: 5,000 edits that bring a formula or take it, each with a
+    query."""
+    lines = ['set %s%d %d' % (column(c), r, r + c) for r in range(1, 1001) for c in range(1, 66)]
+    lines += ['set ZZ%d =A%d+B%d' % (r, r, r) for r in range(1, 11)]
+    for i in range(5000):
+        row = i // 2 % 100 + 1
+        lines += ['set ZY%d %s' % (row, '5' if i % 2 else '=A%d+1' % row), 'show ZY%d' % row]
+    return [], '\n'.join(lines) + '\n'
+
+
 def many_copies():
     """One formula set 2,000 times, to another copy of a chain of 30 formulas each time."""
     lines = ['set A30 5'] + ['set A%d =A%d+1' % (i, i + 1) for i in range(1, 30)]
@@ -213,21 +224,21 @@ def flow_column():
 
 
 WORKLOADS = [generator, chain, sums, spills, copies, table, commands, asked_again, leaf_edits,
-             many_places, many_copies, few_formulas, siblings, gridlets, what_ifs, recursion22,
-             recursion26, recursion64, totals, explained_chain, explained_total, flow_ranges,
-             flow_arrays, flow_column]
+             many_places, many_copies, few_formulas, passing_formulas, siblings, gridlets,
+             what_ifs, recursion22, recursion26, recursion64, totals, explained_chain,
+             explained_total, flow_ranges, flow_arrays, flow_column]
 
 
 def main():
     program, names = sys.argv[1], sys.argv[2:]
-    print('%-15s %10s %10s %6s %8s' % ('workload', 'in', 'out', 'status', 'seconds'))
+    print('%-16s %10s %10s %6s %8s' % ('workload', 'in', 'out', 'status', 'seconds'))
     for workload in WORKLOADS:
         if names and workload.__name__ not in names:
             continue
         words, script = workload()
         start = time.time()
         done = subprocess.run([program] + words, input=script.encode(), capture_output=True)
-        print('%-15s %10d %10d %6d %8.2f' % (workload.__name__, len(script), len(done.stdout), done.returncode, time.time() - start))
+        print('%-16s %10d %10d %6d %8.2f' % (workload.__name__, len(script), len(done.stdout), done.returncode, time.time() - start))
 
 
 if __name__ == '__main__':
