@@ -10,6 +10,7 @@ use Rattle.gl_calculus.proofs.Tests.{addr_exact, addr_same}
 use Rattle.gl_calculus.proofs.Grants.{Before, before_of, of_before, before_trans}
 use Rattle.gl_protocol.specs.Commands.{with_content, without}
 use Rattle.gl_calc.specs.Places.{ArePlaces, ArePut, with_place, without_place}
+use Rattle.gl_plane.proofs.Search.{other_side}
 use Rattle.gl_core.proofs.Trees.{same_or_other}
 use Rattle.gl_calc.proofs.Formulas.{order_tail, after_head, formula_member}
 
@@ -23,9 +24,6 @@ apart a b h = grind (arith, common_steps)
 
 before_apart : (a b : Addr) → is_before a b ≡ true → same_addr a b ≡ false
 before_apart a b h = grind (arith, common_steps)
-
-behind : (a b : Addr) → same_addr a b ≡ false → is_before a b ≡ false → is_before b a ≡ true
-behind a b h k = grind (arith, common_steps)
 
 -- ---- an address before all of a list
 
@@ -95,7 +93,7 @@ put_becomes (x ∷ S) o a c = by x c (same_addr a x.0) (is_before a x.0) refl re
         first b (inl e) = subst (λ u. Before a u) (sym e) (before_of a d q)
         first b (inr m) = before_trans a d b (before_of a d q) (h b m)
     by (d, Const y) c false false p q h r = r
-    by (d, Form g) c false false p q h r = behind_one a d (formula_addresses S) (formula_addresses (with_content S a c)) (behind a d p q) r
+    by (d, Form g) c false false p q h r = behind_one a d (formula_addresses S) (formula_addresses (with_content S a c)) (other_side a d p q) r
 
 if_same : (v : Option (Vec Addr Global)) (xs ys : List Addr) → xs ≡ ys → IfSome v (λ zs. zs.items ≡ xs) → IfSome v (λ zs. zs.items ≡ ys)
 if_same None xs ys e h = tt

@@ -1,11 +1,12 @@
 -- Lists that have all there is: as many seeds as keys, or as many notes as keys that have outcomes.
-use Rattle.std.proofs.Common.{◌≡◌, ◌⊎◌, ◌≢◌, ℕ, zero, suc, ◌<◌, ◌≤◌, ◌&&◌, Bool, true, false, nat_eq, if◌then◌else◌, List, [], ◌∷◌, length, filter, slice_get, Some, refl, sym, ap, ◌∙◌, subst, inl, inr, arith, append-nil, eqb-true}
+use Rattle.std.proofs.Common.{◌≡◌, ◌⊎◌, ◌≢◌, ℕ, zero, suc, ◌<◌, ◌≤◌, Bool, true, false, nat_eq, if◌then◌else◌, List, [], ◌∷◌, length, filter, slice_get, Some, refl, sym, ap, ◌∙◌, subst, inl, inr, arith, append-nil, eqb-true}
 use Rattle.std.specs.List.{list_all}
 use Rattle.gl_query.specs.Lists.{Member, AreDistinct}
 use Rattle.gl_query.specs.Remembered.{Note, Here}
 use Rattle.gl_query.specs.InOrder.{AreOrdered}
 use Rattle.gl_query.proofs.Quiet.{distinct_within}
 use Rattle.gl_calculus.specs.Grid.{Range}
+use Rattle.gl_calculus.proofs.Tests.{both}
 use Rattle.gl_support.specs.Reach.{has}
 use Rattle.gl_support.specs.Rows.{notes_of}
 use Rattle.gl_support.specs.declared.row.Row.{Row}
@@ -81,10 +82,6 @@ all_seeds l h o seeds b d e = record {
         fills seeds (below (length l.book)) d (λ j m. below_there (length l.book) j (all_in (λ i. i < length l.book) seeds b j m)) (omega (arith, n, e)) k (below_there (length l.book) k q)
 
 -- ---- as many notes as keys that have outcomes
-
-pub both : (a b : Bool) → (a && b) ≡ true → (a ≡ true) × (b ≡ true)
-both true b e = (refl, e)
-both false b e = absurd (cc e)
 
 row_at : (ss : List Status) (p : ℕ) (s : Status) → list_all is_row ss ≡ true → slice_get ss p ≡ Some s → is_row s ≡ true
 row_at [] p s t e = absurd (cc e)

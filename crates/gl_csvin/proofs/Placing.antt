@@ -1,11 +1,10 @@
 -- The contents of fields, one field after the other.
-use Rattle.std.proofs.Common.{◌≡◌, ◌∙◌, ℕ, ◌+◌, List, [], ◌∷◌, ◌++◌, Option, Some, None, Err, refl, ap, arith, append-nil}
+use Rattle.std.proofs.Common.{◌≡◌, ◌∙◌, ℕ, ◌+◌, List, [], ◌∷◌, ◌++◌, Err, refl, ap, arith, append-nil}
 use Rattle.gl_calculus.specs.Formula as F
-use Rattle.gl_calculus.specs.Formula.{Const}
 use Rattle.gl_calculus.specs.Grid.{Addr, addr, shifted}
 use Rattle.gl_language.specs.Text.{Bytes}
-use Rattle.gl_protocol.specs.Commands.{Read, Is, Not, Word, FieldWord, GridWord, plain_scalar, fields_of_record, field_fault, contents}
-use Rattle.gl_protocol.proofs.Rising.{Fields, constant, contents_by}
+use Rattle.gl_protocol.specs.Commands.{Read, Is, Not, Word, FieldWord, GridWord, fields_of_record, contents}
+use Rattle.gl_protocol.proofs.Rising.{Fields}
 use Rattle.gl_cells.specs.Sheet.{Table, sheet}
 use Rattle.gl_csvin.specs.declared.fault.CsvFault.{CsvFault}
 use Rattle.gl_csvin.specs.declared.fault.CsvFault.TheVariants as f

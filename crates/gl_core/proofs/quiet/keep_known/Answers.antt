@@ -2,13 +2,14 @@ use Rattle.std.proofs.Common.{◌≡◌, ◌<◌, List, nat_eq, filter, length, 
 use Rattle.std.specs.List.{list_all}
 use Rattle.gl_query.specs.Lists.{AreDistinct}
 use Rattle.gl_calculus.specs.Grid.{Range}
+use Rattle.gl_calculus.proofs.Tests.{both}
 use Rattle.gl_support.specs.declared.row.Row.{Row}
 use Rattle.gl_demand.specs.declared.outcome.Outcome.{Outcome}
 use Rattle.gl_core.specs.Numbers.{Each, numbers_of}
 use Rattle.gl_core.specs.Table.{is_row, has_outcome}
 use Rattle.gl_core.proofs.Filtered.{numbers_there, numbers_apart, some_there, some_rows, filter_apart, filter_length}
 use Rattle.gl_core.proofs.Cores.{indexed}
-use Rattle.gl_core.proofs.Whole.{both, all_kept}
+use Rattle.gl_core.proofs.Whole.{all_kept}
 use Rattle.gl_core.proofs.quiet.keep_known.Goals as goal
 
 pub keep_resolved-requires : goal.keep_resolved-requires

@@ -1,4 +1,4 @@
-use Rattle.std.proofs.Common.{◌<◌, ◌≤◌, arith, rules, length}
+use Rattle.std.proofs.Common.{◌<◌, ◌≤◌, rules, length}
 use Rattle.std.proofs.lemmas.List.Sorted.{answers_always}
 use Rattle.gl_value.specs.Sound.{sheet_facts}
 use Rattle.gl_value.proofs.Finding.{places_found, places_absent}

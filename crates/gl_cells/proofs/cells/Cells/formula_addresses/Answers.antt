@@ -1,4 +1,4 @@
-use Rattle.std.proofs.Common.{◌≡◌, ◌≤◌, ◌∙◌, ap, sym, subst, length}
+use Rattle.std.proofs.Common.{◌≤◌, ◌∙◌, ap, sym, subst, length}
 use Rattle.gl_calculus.specs.Formula.{IsSheet, formula_addresses}
 use Rattle.gl_calculus.specs.Limits.{max_formulas}
 use Rattle.gl_cells.specs.Sheet.{Table, sheet}
