@@ -123,6 +123,16 @@ def passing_formulas():
     return [], '\n'.join(lines) + '\n'
 
 
+def few_undos():
+    """65,000 constants and ten formulas: 2,500 edits of a constant, each undone, with a query behind
+    each edit and each undo."""
+    lines = ['set %s%d %d' % (column(c), r, r + c) for r in range(1, 1001) for c in range(1, 66)]
+    lines += ['set ZZ%d =A%d+B%d' % (r, r, r) for r in range(1, 11)]
+    for i in range(2500):
+        lines += ['set A1 %d' % i, 'show ZZ1', 'undo', 'show ZZ1']
+    return [], '\n'.join(lines) + '\n'
+
+
 def many_copies():
     """One formula set 2,000 times, to another copy of a chain of 30 formulas each time."""
     lines = ['set A30 5'] + ['set A%d =A%d+1' % (i, i + 1) for i in range(1, 30)]
@@ -224,8 +234,8 @@ def flow_column():
 
 
 WORKLOADS = [generator, chain, sums, spills, copies, table, commands, asked_again, leaf_edits,
-             many_places, many_copies, few_formulas, passing_formulas, siblings, gridlets,
-             what_ifs, recursion22, recursion26, recursion64, totals, explained_chain,
+             many_places, many_copies, few_formulas, passing_formulas, few_undos, siblings,
+             gridlets, what_ifs, recursion22, recursion26, recursion64, totals, explained_chain,
              explained_total, flow_ranges, flow_arrays, flow_column]
 
 

@@ -1,17 +1,20 @@
 -- The addresses of the formulas after an edit.
-use Rattle.std.proofs.Common.{◌≡◌, ◌⊎◌, ◌≢◌, inl, inr, ℕ, zero, suc, ◌+◌, ◌<◌, ◌≤◌, Bool, true, false, not, if◌then◌else◌, List, [], ◌∷◌, length, map, filter, slice_get, Vec, Option, Some, None, refl, sym, ap, ◌∙◌, subst, arith, IfSome}
+use Rattle.std.proofs.Common.{◌≡◌, inl, inr, refl, ℕ, zero, suc, ◌<◌, ◌≤◌, Bool, true, false, not, if◌then◌else◌, List, [], ◌∷◌, length, map, filter, get_or, Vec, Option, sym, ap, ◌∙◌, subst, arith}
 use Rattle.std.proofs.lemmas.Grind.{common_steps}
-use Rattle.std.specs.List.{insert}
+use Rattle.std.specs.List.{insert, remove, HoldsAt}
+use Rattle.std.specs.List.Sorted.{IsNonDecreasingBy, IsPartitionPoint}
+use Rattle.std.specs.Ordering.{ordering_index}
+use Rattle.std.specs.declared.cmp.Ordering.TheVariants.{Less, Equal, Greater}
 use Rattle.std.specs.declared.alloc.Global.{Global}
 use Rattle.gl_query.specs.Lists.{Member}
-use Rattle.gl_calculus.specs.Grid.{Addr, Range, same_addr, is_before, covers}
+use Rattle.gl_calculus.specs.Grid.{Addr, Range, same_addr, is_before, covers, AreInOrder}
 use Rattle.gl_calculus.specs.Formula.{Content, Const, Form, Cells, IsSheet, formula_addresses}
-use Rattle.gl_calculus.proofs.Tests.{addr_exact, addr_same}
+use Rattle.gl_calculus.proofs.Tests.{addr_exact}
 use Rattle.gl_calculus.proofs.Grants.{Before, before_of, of_before, before_trans}
-use Rattle.gl_protocol.specs.Commands.{with_content, without}
-use Rattle.gl_calc.specs.Places.{ArePlaces, ArePut, with_place, without_place}
+use Rattle.gl_protocol.specs.Commands.{with_content, with_contents, without}
 use Rattle.gl_plane.proofs.Search.{other_side}
-use Rattle.gl_core.proofs.Trees.{same_or_other}
+use Rattle.gl_plane.specs.contracts.addr.AddrOrd.TheImpl.{ghosts as addr}
+use Rattle.gl_calc.specs.Places.{ArePlaces, is_formula, with_place}
 use Rattle.gl_calc.proofs.Formulas.{order_tail, after_head, formula_member}
 
 -- ---- two addresses in order
@@ -30,83 +33,110 @@ before_apart a b h = grind (arith, common_steps)
 abbrev After : Addr → List Addr → Type 0
 After a xs = (b : Addr) → Member b xs → Before a b
 
-with_front : (a : Addr) (xs : List Addr) → After a xs → with_place xs a ≡ a ∷ xs
-with_front a [] h = refl
-with_front a (x ∷ xs) h = ap (λ b. if b then x ∷ with_place xs a else a ∷ x ∷ xs) (not_back a x (of_before a x (h x (inl refl))))
+in_front : (a : Addr) (xs : List Addr) (f : Bool) → After a xs → with_place xs a f ≡ (if f then a ∷ xs else xs)
+in_front a [] f h = refl
+in_front a (x ∷ xs) f h =
+    let b = of_before a x (h x (inl refl)) in
+    rw (before_apart a x b, b) refl
 
-without_none : (a : Addr) (xs : List Addr) → After a xs → without_place xs a ≡ xs
-without_none a [] h = refl
-without_none a (x ∷ xs) h = by (same_addr x a) (apart a x (of_before a x (h x (inl refl)))) (without_none a xs (λ b m. h b (inr m)))
-  where
-    by : (b : Bool) → b ≡ false → without_place xs a ≡ xs → (if not b then x ∷ without_place xs a else without_place xs a) ≡ x ∷ xs
-    by true e f = absurd (cc e)
-    by false e f = ap (λ t. x ∷ t) f
-
--- ---- where an address is inserted
-
-pub placed : (xs : List Addr) (a : Addr) (n : ℕ) → n ≤ length xs → ((i : ℕ) (x : Addr) → i < n → slice_get xs i ≡ Some x → is_before x a ≡ true) → ((x : Addr) → slice_get xs n ≡ Some x → is_before x a ≡ false) → insert xs n a ≡ with_place xs a
-placed [] a zero l h k = refl
-placed [] a (suc n) l h k = absurd (omega (arith, l))
-placed (x ∷ xs) a zero l h k = sym (ap (λ b. if b then x ∷ with_place xs a else a ∷ x ∷ xs) (k x refl))
-placed (x ∷ xs) a (suc n) l h k =
-    ap (λ t. x ∷ t) (placed xs a n (omega (arith, l)) (λ i y m e. h (suc i) y (omega (arith, m)) e) k)
-    ∙ sym (ap (λ b. if b then x ∷ with_place xs a else a ∷ x ∷ xs) (h zero x (omega arith) refl))
-
--- one more of the first
-pub one_more : (xs : List Addr) (a : Addr) (n : ℕ) (z : Addr) → slice_get xs n ≡ Some z → is_before z a ≡ true → ((i : ℕ) (x : Addr) → i < n → slice_get xs i ≡ Some x → is_before x a ≡ true) → (i : ℕ) (x : Addr) → i < n + 1 → slice_get xs i ≡ Some x → is_before x a ≡ true
-one_more xs a n z e t h i x l d = by (same_or_other i n)
-  where
-    by : (i ≡ n) ⊎ (i ≢ n) → is_before x a ≡ true
-    by (inl s) = let same : Some x ≡ Some z = sym d ∙ ap (slice_get xs) s ∙ e in let is : x ≡ z = cc in subst (λ y. is_before y a ≡ true) (sym is) t
-    by (inr o) = h i x (omega (arith, l, o)) d
+-- behind the first
+further : (a x : Addr) (xs : List Addr) (f : Bool) → is_before x a ≡ true → with_place (x ∷ xs) a f ≡ x ∷ with_place xs a f
+further a x xs f b = rw (apart x a b, not_back x a b) refl
 
 -- ---- a content is put
 
--- what becomes of addresses
-abbrev Becomes : Addr → List Addr → List Addr → Type 0
-Becomes a xs ys = (ys ≡ xs) ⊎ (((length ys ≡ suc (length xs)) × (ys ≡ with_place xs a)) ⊎ ((suc (length ys) ≡ length xs) × (ys ≡ without_place xs a)))
-
-behind_one : (a d : Addr) (xs ys : List Addr) → is_before d a ≡ true → Becomes a xs ys → Becomes a (d ∷ xs) (d ∷ ys)
-behind_one a d xs ys p (inl e) = inl (ap (λ t. d ∷ t) e)
-behind_one a d xs ys p (inr (inl (n, e))) = inr (inl (ap suc n, ap (λ t. d ∷ t) e ∙ sym (ap (λ b. if b then d ∷ with_place xs a else a ∷ d ∷ xs) p)))
-behind_one a d xs ys p (inr (inr (n, e))) = inr (inr (ap suc n, ap (λ t. d ∷ t) e ∙ sym (ap (λ b. if not b then d ∷ without_place xs a else without_place xs a) (before_apart d a p))))
-
-put_becomes : (S : Cells) → IsSheet S → (a : Addr) (c : Content) → Becomes a (formula_addresses S) (formula_addresses (with_content S a c))
-put_becomes [] o a (Const x) = inl refl
-put_becomes [] o a (Form f) = inr (inl (refl, refl))
-put_becomes (x ∷ S) o a c = by x c (same_addr a x.0) (is_before a x.0) refl refl (λ b m. after_head x.0 (map (λ (y : Addr × Content). y.0) S) o b (formula_member S b m)) (put_becomes S (order_tail x.0 (map (λ (y : Addr × Content). y.0) S) o) a c)
+-- the addresses of the formulas with the content at an address
+pub put_placed : (S : Cells) → IsSheet S → (a : Addr) (c : Content) → formula_addresses (with_content S a c) ≡ with_place (formula_addresses S) a (is_formula c)
+put_placed [] o a (Const x) = refl
+put_placed [] o a (Form f) = refl
+put_placed (x ∷ S) o a c = by x c (same_addr a x.0) (is_before a x.0) refl refl (λ b m. after_head x.0 (map (λ (y : Addr × Content). y.0) S) o b (formula_member S b m)) (put_placed S (order_tail x.0 (map (λ (y : Addr × Content). y.0) S) o) a c)
   where
-    by : (x : Addr × Content) (c : Content) (s b : Bool) → same_addr a x.0 ≡ s → is_before a x.0 ≡ b → After x.0 (formula_addresses S) → Becomes a (formula_addresses S) (formula_addresses (with_content S a c))
-        → Becomes a (formula_addresses (x ∷ S)) (formula_addresses (if s then (a, c) ∷ S else if b then (a, c) ∷ x ∷ S else x ∷ with_content S a c))
-    by (d, Const y) (Const z) true b p q h r = inl refl
-    by (d, Form g) (Form f) true b p q h r = inl (ap (λ u. u ∷ formula_addresses S) (addr_exact a d p))
-    by (d, Const y) (Form f) true b p q h r = inr (inl (refl, sym (with_front a (formula_addresses S) (subst (λ u. After u (formula_addresses S)) (sym (addr_exact a d p)) h))))
-    by (d, Form g) (Const z) true b p q h r =
-        let e : a ≡ d = addr_exact a d p in
-        let s : same_addr d a ≡ true = subst (λ u. same_addr d u ≡ true) (sym e) (addr_same d) in
-        inr (inr (refl, sym (ap (λ b. if not b then d ∷ without_place (formula_addresses S) a else without_place (formula_addresses S) a) s ∙ without_none a (formula_addresses S) (subst (λ u. After u (formula_addresses S)) (sym e) h))))
-    by (d, y) (Const z) false true p q h r = inl refl
-    by (d, Const y) (Form f) false true p q h r = inr (inl (refl, sym (with_front a (formula_addresses S) (λ b m. before_trans a d b (before_of a d q) (h b m)))))
-    by (d, Form g) (Form f) false true p q h r = inr (inl (refl, sym (with_front a (d ∷ formula_addresses S) (λ b m. first b m))))
-      where
-        first : (b : Addr) → Member b (d ∷ formula_addresses S) → Before a b
-        first b (inl e) = subst (λ u. Before a u) (sym e) (before_of a d q)
-        first b (inr m) = before_trans a d b (before_of a d q) (h b m)
+    by : (x : Addr × Content) (c : Content) (s b : Bool) → same_addr a x.0 ≡ s → is_before a x.0 ≡ b → After x.0 (formula_addresses S) → formula_addresses (with_content S a c) ≡ with_place (formula_addresses S) a (is_formula c)
+        → formula_addresses (if s then (a, c) ∷ S else if b then (a, c) ∷ x ∷ S else x ∷ with_content S a c) ≡ with_place (formula_addresses (x ∷ S)) a (is_formula c)
+    by (d, Const y) (Const z) true b p q h r = sym (in_front a (formula_addresses S) false (subst (λ u. After u (formula_addresses S)) (sym (addr_exact a d p)) h))
+    by (d, Const y) (Form f) true b p q h r = sym (in_front a (formula_addresses S) true (subst (λ u. After u (formula_addresses S)) (sym (addr_exact a d p)) h))
+    by (d, Form g) (Const z) true b p q h r = rw p refl
+    by (d, Form g) (Form f) true b p q h r = rw p (ap (λ u. u ∷ formula_addresses S) (addr_exact a d p))
+    by (d, Const y) (Const z) false true p q h r = sym (in_front a (formula_addresses S) false (λ b m. before_trans a d b (before_of a d q) (h b m)))
+    by (d, Const y) (Form f) false true p q h r = sym (in_front a (formula_addresses S) true (λ b m. before_trans a d b (before_of a d q) (h b m)))
+    by (d, Form g) (Const z) false true p q h r = rw (p, q) refl
+    by (d, Form g) (Form f) false true p q h r = rw (p, q) refl
     by (d, Const y) c false false p q h r = r
-    by (d, Form g) c false false p q h r = behind_one a d (formula_addresses S) (formula_addresses (with_content S a c)) (other_side a d p q) r
+    by (d, Form g) c false false p q h r = ap (λ t. d ∷ t) r ∙ sym (further a d (formula_addresses S) (is_formula c) (other_side a d p q))
 
-if_same : (v : Option (Vec Addr Global)) (xs ys : List Addr) → xs ≡ ys → IfSome v (λ zs. zs.items ≡ xs) → IfSome v (λ zs. zs.items ≡ ys)
-if_same None xs ys e h = tt
-if_same (Some zs) xs ys e h = h ∙ e
+-- ---- where an address is found, and where it is not
 
--- the addresses that were known are those of the new sheet
-pub places_put : (S : Cells) → IsSheet S → (a : Addr) (c : Content) (n m : ℕ) → n ≡ length (formula_addresses S) → m ≡ length (formula_addresses (with_content S a c)) → (xs : Vec Addr Global) → xs.items ≡ formula_addresses S → (v : Option (Vec Addr Global)) → ArePut a n m xs.items v → ArePlaces (with_content S a c) v
-places_put S o a c n m e f xs k v h = by (put_becomes S o a c)
+equal_same : (p a : Addr) → addr.cmp p a ≡ Equal → same_addr a p ≡ true
+equal_same p a h = grind (arith, common_steps)
+
+less_before : (p a : Addr) → addr.cmp p a ≡ Less → is_before p a ≡ true
+less_before p a h = grind (arith, common_steps)
+
+greater_behind : (p a : Addr) → addr.cmp p a ≡ Greater → is_before a p ≡ true
+greater_behind p a h = grind (arith, common_steps)
+
+rises : (p q a : Addr) → is_before p q ≡ true → ordering_index (addr.cmp p a) ≤ ordering_index (addr.cmp q a)
+rises p q a h = grind (arith, common_steps)
+
+get_member : (xs : List Addr) (k : ℕ) (d : Addr) → k < length xs → Member (get_or xs k d) xs
+get_member [] k d l = absurd (omega (arith, l))
+get_member (x ∷ xs) zero d l = inl refl
+get_member (x ∷ xs) (suc k) d l = inr (get_member xs k d (omega (arith, l)))
+
+head_before : (x : Addr) (xs : List Addr) (k : ℕ) (d : Addr) → AreInOrder (x ∷ xs) → k < length xs → is_before x (get_or xs k d) ≡ true
+head_before x xs k d o l = of_before x (get_or xs k d) (after_head x xs o (get_or xs k d) (get_member xs k d l))
+
+risen : (xs : List Addr) (a : Addr) → AreInOrder xs → IsNonDecreasingBy (λ (p : Addr). ordering_index (addr.cmp p a)) xs
+risen [] a o i j d le lt = absurd (omega (arith, lt))
+risen (x ∷ xs) a o zero zero d le lt = omega arith
+risen (x ∷ xs) a o zero (suc j) d le lt = rises x (get_or xs j d) a (head_before x xs j d o (omega (arith, lt)))
+risen (x ∷ xs) a o (suc i) zero d le lt = absurd (omega (arith, le))
+risen (x ∷ xs) a o (suc i) (suc j) d le lt = risen xs a (order_tail x xs o) i j d (omega (arith, le)) (omega (arith, lt))
+
+pub found : (xs : List Addr) (a : Addr) (i : ℕ) (f : Bool) → AreInOrder xs → i < length xs → HoldsAt (λ (p : Addr). addr.cmp p a ≡ Equal) xs i → (if f then xs else remove xs i) ≡ with_place xs a f
+found [] a i f o l at = absurd (omega (arith, l))
+found (x ∷ xs) a zero f o l at = let e : same_addr a x ≡ true = equal_same x a (at x) in rw e refl
+found (x ∷ xs) a (suc i) f o l at =
+    let s = addr_exact a (get_or xs i x) (equal_same (get_or xs i x) a (at x)) in
+    let b : is_before x a ≡ true = subst (λ u. is_before x u ≡ true) (sym s) (head_before x xs i x o (omega (arith, l))) in
+    by f (found xs a i f (order_tail x xs o) (omega (arith, l)) at) ∙ sym (further a x xs f b)
   where
-    by : Becomes a (formula_addresses S) (formula_addresses (with_content S a c)) → ArePlaces (with_content S a c) v
-    by (inl q) = let l = ap length q in if_same v xs.items (formula_addresses (with_content S a c)) (k ∙ sym q) (h.same (omega (arith, e, f, l)))
-    by (inr (inl (l, q))) = if_same v (with_place xs.items a) (formula_addresses (with_content S a c)) (ap (λ ys. with_place ys a) k ∙ sym q) (h.more (omega (arith, e, f, l)))
-    by (inr (inr (l, q))) = if_same v (without_place xs.items a) (formula_addresses (with_content S a c)) (ap (λ ys. without_place ys a) k ∙ sym q) (h.fewer (omega (arith, e, f, l)))
+    by : (f : Bool) → (if f then xs else remove xs i) ≡ with_place xs a f → (if f then x ∷ xs else x ∷ remove xs i) ≡ x ∷ with_place xs a f
+    by true e = ap (λ t. x ∷ t) e
+    by false e = ap (λ t. x ∷ t) e
+
+between : (xs : List Addr) (a : Addr) (i : ℕ) (f : Bool) → i ≤ length xs
+    → ((k : ℕ) (d : Addr) → k < length xs → k < i → addr.cmp (get_or xs k d) a ≡ Less)
+    → ((k : ℕ) (d : Addr) → i ≤ k → k < length xs → addr.cmp (get_or xs k d) a ≡ Greater)
+    → (if f then insert xs i a else xs) ≡ with_place xs a f
+between [] a zero f l below above = refl
+between [] a (suc i) f l below above = absurd (omega (arith, l))
+between (x ∷ xs) a zero f l below above =
+    let b = greater_behind x a (above 0 x (omega arith) (omega arith)) in
+    rw (before_apart a x b, b) refl
+between (x ∷ xs) a (suc i) f l below above =
+    let b = less_before x a (below 0 x (omega arith) (omega arith)) in
+    by f (between xs a i f (omega (arith, l)) (λ k d m n. below (suc k) d (omega (arith, m)) (omega (arith, n))) (λ k d m n. above (suc k) d (omega (arith, m)) (omega (arith, n)))) ∙ sym (further a x xs f b)
+  where
+    by : (f : Bool) → (if f then insert xs i a else xs) ≡ with_place xs a f → (if f then x ∷ insert xs i a else x ∷ xs) ≡ x ∷ with_place xs a f
+    by true e = ap (λ t. x ∷ t) e
+    by false e = ap (λ t. x ∷ t) e
+
+pub absent : (xs : List Addr) (a : Addr) (i : ℕ) (f : Bool) → AreInOrder xs → i ≤ length xs
+    → (IsNonDecreasingBy (λ (p : Addr). ordering_index (addr.cmp p a)) xs → IsPartitionPoint (λ (p : Addr). addr.cmp p a ≡ Less) (λ (p : Addr). addr.cmp p a ≡ Greater) xs i)
+    → (if f then insert xs i a else xs) ≡ with_place xs a f
+absent xs a i f o l place =
+    let parts = place (risen xs a o) in
+    between xs a i f l (λ k d m n. parts.0 k d (omega arith) n) (λ k d m n. parts.1 k d m n)
+
+-- ---- one content after the other
+
+-- the addresses that were known before all of a list are those of a sheet in which the rest is still to be put
+pub record Reached (S : Cells) (all rest : Cells) (places : Option (Vec Addr Global)) : Type 0 where
+  pub now : Cells
+  pub ordered : IsSheet now
+  pub known : ArePlaces now places
+  pub same : with_contents now rest ≡ with_contents S all
 
 -- ---- contents are removed
 

@@ -1,23 +1,18 @@
 -- The addresses of the formulas, from one calculation to the next.
-use Rattle.std.specs.Prelude.{◌≡◌, ℕ, ◌<◌, not, if◌then◌else◌, List, [], ◌∷◌, filter, Option, Vec, IfSome}
+use Rattle.std.specs.Prelude.{◌≡◌, Bool, true, false, if◌then◌else◌, List, [], ◌∷◌, Option, Vec, IfSome}
 use Rattle.std.specs.declared.alloc.Global.{Global}
 use Rattle.gl_calculus.specs.Grid.{Addr, same_addr, is_before}
-use Rattle.gl_calculus.specs.Formula.{Cells, formula_addresses}
+use Rattle.gl_calculus.specs.Formula.{Content, Const, Form, Cells, formula_addresses}
 
 -- the addresses of the formulas, where they are known
 abbrev pub ArePlaces : Cells → Option (Vec Addr Global) → Type 0
 ArePlaces S places = IfSome places (λ v. v.items ≡ formula_addresses S)
 
--- one more address among those in order
-abbrev pub with_place : List Addr → Addr → List Addr
-with_place [] a = a ∷ []
-with_place (x ∷ xs) a = if is_before x a then x ∷ with_place xs a else a ∷ x ∷ xs
+abbrev pub is_formula : Content → Bool
+is_formula (Const x) = false
+is_formula (Form f) = true
 
-abbrev pub without_place : List Addr → Addr → List Addr
-without_place xs a = filter (λ b. not (same_addr b a)) xs
-
--- what becomes of them where a content was put at an address, and in place of n formulas there are m
-pub record ArePut (a : Addr) (n m : ℕ) (xs : List Addr) (v : Option (Vec Addr Global)) : Type 0 where
-  pub more : n < m → IfSome v (λ ys. ys.items ≡ with_place xs a)
-  pub fewer : m < n → IfSome v (λ ys. ys.items ≡ without_place xs a)
-  pub same : n ≡ m → IfSome v (λ ys. ys.items ≡ xs)
+-- addresses in order, with one of them exactly where it is a formula's
+abbrev pub with_place : List Addr → Addr → Bool → List Addr
+with_place [] a f = if f then a ∷ [] else []
+with_place (x ∷ xs) a f = if same_addr a x then (if f then x ∷ xs else xs) else if is_before a x then (if f then a ∷ x ∷ xs else x ∷ xs) else x ∷ with_place xs a f

@@ -20,7 +20,9 @@ use crate::calculating::calculate;
 use crate::ending::Answered;
 use crate::holding::{earlier_tables, held_after, parted, same_version, standing, table_of};
 use crate::marking::{mark_all, mark_in, places_of};
-use crate::placing::{known_places, places_with, places_without, while_few};
+use crate::placing::{
+    is_formula, known_places, places_with, places_with_all, places_without, while_few,
+};
 use crate::reasons::why_at;
 use crate::showing::shown_at;
 use crate::table::Table;
@@ -129,7 +131,7 @@ impl Calc {
         let Ok(()) = self.touched.reserve(room) else {
             return Err(PutFault::NoMemory);
         };
-        let formulas = self.cells.formulas();
+        let formula = is_formula(&c);
         match self.cells.put(a, c) {
             Ok(()) => {
                 self.touched.push_reserved(a);
@@ -137,7 +139,7 @@ impl Calc {
                 self.ended = None;
                 let places = self.places.take();
                 let places = while_few(places, self.touched.len());
-                self.places = places_with(places, a, formulas, self.cells.formulas());
+                self.places = places_with(places, a, formula);
                 Ok(())
             }
             Err(fault) => Err(fault),
@@ -165,12 +167,15 @@ impl Calc {
         let Ok(places) = places_of(alloc, &list) else {
             return Err(PutFault::NoMemory);
         };
+        let touched = self.touched.len().saturating_add(list.len());
+        let known = while_few(self.places.take(), touched);
+        let known = places_with_all(known, &list);
         match self.cells.put_all(alloc, list) {
             Ok(()) => {
                 mark_all(&mut self.touched, &places);
                 self.held = None;
                 self.ended = None;
-                self.places = None;
+                self.places = known;
                 Ok(())
             }
             Err(fault) => Err(fault),

@@ -1,13 +1,15 @@
 //! The addresses of the formulas, from one calculation to the next.
-ghost use Rattle.std.specs.Prelude.{◌≡◌, ◌≤◌, not, length, filter, IfOk, IfSome, OnOk};
-ghost use Rattle.std.specs.List.{insert};
-ghost use Rattle.gl_calculus.specs.Grid.{same_addr, covers};
-ghost use Rattle.gl_calculus.specs.Formula.{Cells as Sheet, Content, IsSheet, formula_addresses};
-ghost use Rattle.gl_protocol.specs.Commands.{with_content, without};
-ghost use Rattle.gl_cells.specs.Sheet.{sheet};
-ghost use Rattle.gl_calc.specs.Places.{ArePlaces, ArePut, with_place, without_place};
+ghost use Rattle.std.specs.Prelude.{◌≡◌, ◌<◌, ◌≤◌, not, length, filter, IfOk, IfSome};
+ghost use Rattle.std.specs.Prelude.{if◌then◌else◌};
+ghost use Rattle.std.specs.List.{insert, remove};
+ghost use Rattle.gl_calculus.specs.Grid.{AreInOrder, covers};
+ghost use Rattle.gl_calculus.specs.Formula.{Cells as Sheet, Content as Plain};
+ghost use Rattle.gl_calculus.specs.Formula.{IsSheet, formula_addresses};
+ghost use Rattle.gl_protocol.specs.Commands.{with_content, with_contents, without};
+ghost use Rattle.gl_cells.specs.{Content.content_tree, Sheet.sheet};
+ghost use Rattle.gl_calc.specs.Places.{ArePlaces, is_formula, with_place};
 
-use gl_cells::Cells;
+use gl_cells::{Cells, Content};
 use gl_plane::{Addr, NoMemory, Range};
 use std::alloc::Global;
 
@@ -37,72 +39,77 @@ pub fn known_places(
     }
 }
 
-/// Where an address is inserted.
-fn place_for(places: &[Addr], a: Addr) -> usize
-    ensures within { result ≤ length places.now }
-    ensures place { insert places.now result a ≡ with_place places.now a }
-{
-    let mut at = 0;
-    while at < places.len() && places[at].is_before(a) {
-        at += 1;
-    }
-    at
-}
-
-/// One more address, if there is memory for it.
-fn more_places(places: Vec<Addr>, a: Addr) -> Option<Vec<Addr>>
-    ensures { IfSome result (λ v. v.items ≡ with_place places.items a) }
+/// The addresses where one was found at a place: it stays exactly where it is a formula's.
+fn found_place(places: Vec<Addr>, at: usize, formula: bool) -> Vec<Addr>
+    requires { at < length places.items }
+    ensures { result.items ≡ (if formula then places.items else remove places.items at) }
 {
     let mut places = places;
-    let at = place_for(&places, a);
-    match places.insert(at, a) {
-        Ok(()) => Some(places),
-        Err(_) => None,
+    if !formula {
+        places.remove(at);
     }
-}
-
-fn is_other(a: Addr, b: Addr) -> bool
-    ensures { result ≡ not (same_addr a b) }
-{
-    a != b
-}
-
-/// The addresses without one.
-fn fewer_places(places: Vec<Addr>, a: Addr) -> Vec<Addr>
-    ensures { result.items ≡ without_place places.items a }
-{
-    let mut places = places;
-    places.retain(|b| is_other(*b, a));
     places
 }
 
-/// The addresses where there were so many formulas and are so many, after one content was put.
-fn put_places(places: Vec<Addr>, a: Addr, before: u32, after: u32) -> Option<Vec<Addr>>
-    ensures { ArePut a before after places.items result }
+/// The addresses with one more at a place where it is a formula's, if there is memory for it.
+fn new_place(places: Vec<Addr>, at: usize, a: Addr, formula: bool) -> Option<Vec<Addr>>
+    requires { at ≤ length places.items }
+    ensures { IfSome result
+        (λ v. v.items ≡ (if formula then insert places.items at a else places.items)) }
 {
-    if before < after {
-        more_places(places, a)
-    } else if after < before {
-        Some(fewer_places(places, a))
-    } else {
-        Some(places)
+    let mut places = places;
+    if formula {
+        let Ok(()) = places.insert(at, a) else {
+            return None;
+        };
+    }
+    Some(places)
+}
+
+/// The addresses in order, with one of them exactly where it is a formula's, if there is memory
+/// for it.
+fn put_place(places: Vec<Addr>, a: Addr, formula: bool) -> Option<Vec<Addr>>
+    ensures { AreInOrder places.items
+        → IfSome result (λ v. v.items ≡ with_place places.items a formula) }
+{
+    match places.binary_search(&a) {
+        Ok(at) => Some(found_place(places, at, formula)),
+        Err(at) => new_place(places, at, a, formula),
     }
 }
 
-/// The addresses after a content was put at one, where they were known before. There were so many
-/// formulas, and are so many.
-pub fn places_with(places: Option<Vec<Addr>>, a: Addr, before: u32, after: u32) -> Option<Vec<Addr>>
-    ensures { (S : Sheet) (c : Content)
+pub fn is_formula(content: &Content) -> bool
+    ensures { result ≡ is_formula (content_tree content.now) }
+{
+    matches!(content, Content::Form(_))
+}
+
+/// The addresses after a content was put at one, a formula or not, where they were known before.
+pub fn places_with(places: Option<Vec<Addr>>, a: Addr, formula: bool) -> Option<Vec<Addr>>
+    ensures { (S : Sheet) (c : Plain)
         → IsSheet S
-        → before ≡ length (formula_addresses S)
-        → after ≡ length (formula_addresses (with_content S a c))
+        → formula ≡ is_formula c
         → ArePlaces S places
         → ArePlaces (with_content S a c) result }
 {
     match places {
-        Some(places) => put_places(places, a, before, after),
+        Some(places) => put_place(places, a, formula),
         None => None,
     }
+}
+
+/// The addresses after all contents were put in turn, where they were known before.
+pub fn places_with_all(places: Option<Vec<Addr>>, list: &[(Addr, Content)]) -> Option<Vec<Addr>>
+    ensures { (S : Sheet)
+        → IsSheet S
+        → ArePlaces S places
+        → ArePlaces (with_contents S (sheet list.now)) result }
+{
+    let mut places = places;
+    for (a, content) in list {
+        places = places_with(places, *a, is_formula(content));
+    }
+    places
 }
 
 /// The addresses outside a range.

@@ -1,5 +1,5 @@
 use Rattle.std.proofs.Common.{◌≡◌, ◌++◌, ◌∷◌, [], length, ap, sym, subst, ◌∙◌, arith}
-use Rattle.gl_calculus.specs.Formula.{content, formula_addresses}
+use Rattle.gl_calculus.specs.Formula.{content}
 use Rattle.gl_ast.specs.View.{version_tree}
 use Rattle.gl_cells.specs.Content.{content_tree}
 use Rattle.gl_cells.specs.Sheet.{sheet}
@@ -20,7 +20,6 @@ invariant_of-self-in-Ok-put c =
           (λ b f. subst (λ T. content T b ≡ content S b) (sym goal) (set_same S a x b f))
           (omega (arith, longer, most, c.push_reserved.ensures.len, c.push_reserved.ensures.capacity, c.reserve.ensures.len, c.in-Ok.ensures.ok, c.contents.ensures.count)),
       subst (λ T. ArePlaces T c.places_with.result) (sym goal)
-          (c.places_with.ensures S x c.formulas-formulas.ensures.ordered c.formulas-formulas.ensures.count
-          (c.formulas.ensures.count ∙ ap (λ T. length (formula_addresses T)) goal)
+          (c.places_with.ensures S x c.contents.ensures.ordered c.is_formula-formula.ensures
           (c.while_few-places.ensures S (subst (ArePlaces S) (sym c.take-places.ensures.value) c.self.invariant.1))),
     )

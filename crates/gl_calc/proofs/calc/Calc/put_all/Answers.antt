@@ -1,10 +1,14 @@
-use Rattle.std.proofs.Common.{◌≡◌, ◌++◌, length, map, ap, sym, subst, ◌∙◌, arith}
+use Rattle.std.proofs.Common.{◌≡◌, ◌++◌, List, length, map, ap, sym, subst, ◌∙◌, arith}
 use Rattle.std.proofs.lemmas.Grind.{common_steps}
+use Rattle.gl_calculus.specs.Grid.{Addr}
 use Rattle.gl_calculus.specs.Formula.{content}
+use Rattle.gl_protocol.specs.Commands.{with_contents}
 use Rattle.gl_protocol.proofs.SheetChanges.{sets_these}
 use Rattle.gl_ast.specs.View.{version_tree}
 use Rattle.gl_cells.proofs.TableLemmas.{length_sheet}
+use Rattle.gl_cells.specs.declared.content.Content.{Content}
 use Rattle.gl_cells.specs.Sheet.{sheet}
+use Rattle.gl_calc.specs.Places.{ArePlaces}
 use Rattle.gl_calc.proofs.Calcs.{edited, sets_length}
 use Rattle.gl_calc.proofs.Marks.{places_length}
 use Rattle.gl_calc.proofs.calc.Calc.put_all.Goals as goal
@@ -25,7 +29,10 @@ invariant_of-self-in-Ok-put_all c =
           (c.mark_all.ensures.items ∙ ap (λ ys. ys ++ c.deref-in-Ok-put_all.result.now) c.reserve.ensures.items ∙ ap (λ ys. c.self.inside.touched.items ++ ys) listed)
           (λ b f. subst (λ T. content T b ≡ content S b) (sym goal) (sets_these S xs b f))
           (omega (arith, longer, most, many, marked, places, c.mark_all.ensures.len, c.mark_all.ensures.capacity, c.reserve.ensures.len, c.in-Ok.ensures.ok, c.contents.ensures.count, c.len.ensures, c.len-2.ensures, c.args.list.ok.0)),
-      tt,
+      subst (λ T. ArePlaces T c.places_with_all-known.result) (sym goal)
+          (subst (λ (l : List (Addr × Content)). ArePlaces (with_contents S (sheet l)) c.places_with_all-known.result) c.deref-2.ensures.value
+          (c.places_with_all-known.ensures S c.contents.ensures.ordered
+          (c.while_few-known.ensures S (subst (ArePlaces S) (sym c.take.ensures.value) c.self.invariant.1)))),
     )
 
 pub mark_all-requires : goal.mark_all-requires
