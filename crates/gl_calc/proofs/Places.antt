@@ -14,7 +14,7 @@ use Rattle.gl_calculus.proofs.Grants.{Before, before_of, of_before, before_trans
 use Rattle.gl_protocol.specs.Commands.{with_content, with_contents, without}
 use Rattle.gl_plane.proofs.Search.{other_side}
 use Rattle.gl_plane.specs.contracts.addr.AddrOrd.TheImpl.{ghosts as addr}
-use Rattle.gl_calc.specs.Places.{ArePlaces, is_formula, with_place}
+use Rattle.gl_calc.specs.Places.{ArePlaces, is_formula}
 use Rattle.gl_calc.proofs.Formulas.{order_tail, after_head, formula_member}
 
 -- ---- two addresses in order
@@ -28,11 +28,16 @@ apart a b h = grind (arith, common_steps)
 before_apart : (a b : Addr) → is_before a b ≡ true → same_addr a b ≡ false
 before_apart a b h = grind (arith, common_steps)
 
--- ---- an address before all of a list
+-- ---- addresses in order, with one of them exactly where it is a formula's
+
+abbrev pub with_place : List Addr → Addr → Bool → List Addr
+with_place [] a f = if f then a ∷ [] else []
+with_place (x ∷ xs) a f = if same_addr a x then (if f then x ∷ xs else xs) else if is_before a x then (if f then a ∷ x ∷ xs else x ∷ xs) else x ∷ with_place xs a f
 
 abbrev After : Addr → List Addr → Type 0
 After a xs = (b : Addr) → Member b xs → Before a b
 
+-- before all of a list
 in_front : (a : Addr) (xs : List Addr) (f : Bool) → After a xs → with_place xs a f ≡ (if f then a ∷ xs else xs)
 in_front a [] f h = refl
 in_front a (x ∷ xs) f h =
@@ -46,7 +51,7 @@ further a x xs f b = rw (apart x a b, not_back x a b) refl
 -- ---- a content is put
 
 -- the addresses of the formulas with the content at an address
-pub put_placed : (S : Cells) → IsSheet S → (a : Addr) (c : Content) → formula_addresses (with_content S a c) ≡ with_place (formula_addresses S) a (is_formula c)
+put_placed : (S : Cells) → IsSheet S → (a : Addr) (c : Content) → formula_addresses (with_content S a c) ≡ with_place (formula_addresses S) a (is_formula c)
 put_placed [] o a (Const x) = refl
 put_placed [] o a (Form f) = refl
 put_placed (x ∷ S) o a c = by x c (same_addr a x.0) (is_before a x.0) refl refl (λ b m. after_head x.0 (map (λ (y : Addr × Content). y.0) S) o b (formula_member S b m)) (put_placed S (order_tail x.0 (map (λ (y : Addr × Content). y.0) S) o) a c)
@@ -63,6 +68,9 @@ put_placed (x ∷ S) o a c = by x c (same_addr a x.0) (is_before a x.0) refl ref
     by (d, Form g) (Form f) false true p q h r = rw (p, q) refl
     by (d, Const y) c false false p q h r = r
     by (d, Form g) c false false p q h r = ap (λ t. d ∷ t) r ∙ sym (further a d (formula_addresses S) (is_formula c) (other_side a d p q))
+
+pub put_in : (S : Cells) → IsSheet S → (a : Addr) (c : Content) (f : Bool) → f ≡ is_formula c → (xs : List Addr) → xs ≡ formula_addresses S → with_place xs a f ≡ formula_addresses (with_content S a c)
+put_in S o a c f e xs k = ap (λ ys. with_place ys a f) k ∙ ap (λ g. with_place (formula_addresses S) a g) e ∙ sym (put_placed S o a c)
 
 -- ---- where an address is found, and where it is not
 

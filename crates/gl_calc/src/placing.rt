@@ -2,12 +2,12 @@
 ghost use Rattle.std.specs.Prelude.{◌≡◌, ◌<◌, ◌≤◌, not, length, filter, IfOk, IfSome};
 ghost use Rattle.std.specs.Prelude.{if◌then◌else◌};
 ghost use Rattle.std.specs.List.{insert, remove};
-ghost use Rattle.gl_calculus.specs.Grid.{AreInOrder, covers};
+ghost use Rattle.gl_calculus.specs.Grid.{covers};
 ghost use Rattle.gl_calculus.specs.Formula.{Cells as Sheet, Content as Plain};
 ghost use Rattle.gl_calculus.specs.Formula.{IsSheet, formula_addresses};
 ghost use Rattle.gl_protocol.specs.Commands.{with_content, with_contents, without};
 ghost use Rattle.gl_cells.specs.{Content.content_tree, Sheet.sheet};
-ghost use Rattle.gl_calc.specs.Places.{ArePlaces, is_formula, with_place};
+ghost use Rattle.gl_calc.specs.Places.{ArePlaces, is_formula};
 
 use gl_cells::{Cells, Content};
 use gl_plane::{Addr, NoMemory, Range};
@@ -66,11 +66,13 @@ fn new_place(places: Vec<Addr>, at: usize, a: Addr, formula: bool) -> Option<Vec
     Some(places)
 }
 
-/// The addresses in order, with one of them exactly where it is a formula's, if there is memory
-/// for it.
+/// The addresses, with one of them exactly where it is a formula's, if there is memory for it.
 fn put_place(places: Vec<Addr>, a: Addr, formula: bool) -> Option<Vec<Addr>>
-    ensures { AreInOrder places.items
-        → IfSome result (λ v. v.items ≡ with_place places.items a formula) }
+    ensures { (S : Sheet) (c : Plain)
+        → IsSheet S
+        → formula ≡ is_formula c
+        → places.items ≡ formula_addresses S
+        → ArePlaces (with_content S a c) result }
 {
     match places.binary_search(&a) {
         Ok(at) => Some(found_place(places, at, formula)),
@@ -78,6 +80,7 @@ fn put_place(places: Vec<Addr>, a: Addr, formula: bool) -> Option<Vec<Addr>>
     }
 }
 
+/// The content is a formula.
 pub fn is_formula(content: &Content) -> bool
     ensures { result ≡ is_formula (content_tree content.now) }
 {

@@ -1,5 +1,5 @@
 -- What keys that wait will need next: what each was reading, and a place in it.
-use Rattle.std.specs.Prelude.{ℕ, List, [], ◌∷◌, map}
+use Rattle.std.specs.Prelude.{List, [], ◌∷◌}
 use Rattle.gl_query.specs.Query.{Found, Ready, Need}
 use Rattle.gl_calculus.specs.Formula.{Version, Cells}
 use Rattle.gl_calculus.specs.Value.{Oracle}
@@ -9,10 +9,9 @@ use Rattle.gl_calculus.specs.Evaluation.{program}
 use Rattle.gl_explanation.specs.Walk.{Claim, noted}
 use Rattle.gl_ahead.specs.Ahead.{IsAhead}
 use Rattle.gl_ahead.specs.Demands.{is_value}
-use Rattle.gl_ahead.specs.Reading.{Ahead, keys_from}
-use Rattle.gl_demand.specs.Reading.{ahead_tree}
+use Rattle.gl_ahead.specs.Reading.{keys_from}
 use Rattle.gl_demand.specs.View.{key_tree, outcome_tree}
-use Rattle.gl_demand.specs.Marks.{PlainMark, mark_tree, mark_trees}
+use Rattle.gl_demand.specs.Marks.{PlainMark, mark_tree}
 use Rattle.gl_explain.specs.declared.reading.Reached.{Reached}
 
 -- the keys from there on are ahead of the key, over these notes

@@ -1,5 +1,5 @@
 -- The statuses of calls from C, and what a call leaves.
-use Rattle.std.specs.Prelude.{◌≡◌, ℕ, nat_lt, Bool, true, false, ◌||◌, ◌==◌, IsTrue}
+use Rattle.std.specs.Prelude.{◌≡◌, ℕ, nat_lt, Bool, false, ◌||◌, ◌==◌, IsTrue}
 use Rattle.std.specs.declared.option.Option.{Option}
 use Rattle.gl_language.specs.Text.{Bytes}
 use Rattle.gl_protocol.specs.Output.{is_within_limit, items_of}
