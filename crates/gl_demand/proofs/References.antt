@@ -1,5 +1,5 @@
 -- What the parts of a reference answer, put together.
-use Rattle.std.proofs.Common.{◌≡◌, ℕ, List, [], ◌∷◌, Option, Some, None, Result, Ok, Err, IfOk, IfErr, OnOk, option_map, refl, ap, sym, ◌∙◌}
+use Rattle.std.proofs.Common.{◌≡◌, ℕ, List, [], ◌∷◌, Option, Some, None, Result, Ok, Err, IfOk, IfErr, OnOk, option_map, refl, ap, sym, subst, ◌∙◌}
 use Rattle.std.proofs.lemmas.Result.{IfOk-weaker}
 use Rattle.gl_query.specs.Query.{Ready}
 use Rattle.gl_calculus.specs.Grid.{Addr, single}
@@ -8,7 +8,7 @@ use Rattle.gl_calculus.specs.Value.{Frame, Permit, One}
 use Rattle.gl_calculus.specs.Oracle.{Cover}
 use Rattle.gl_calculus.specs.Facts.{Fact, fact, find_fact}
 use Rattle.gl_calculus.specs.Key.{Eval, give, ◌>>=◌}
-use Rattle.gl_calculus.specs.Reference.{Reading, seen_or_looked, own, spilled, shown, shown_by, status_in, covered, deref, at_address}
+use Rattle.gl_calculus.specs.Reference.{Held, Given, Reading, seen_or_looked, value_of, own, spilled, shown, shown_by, status_in, covered, deref, at_address}
 use Rattle.gl_calculus.proofs.Proper.{fact_at_single}
 use Rattle.gl_plane.specs.Entries.{offsets}
 use Rattle.gl_value.specs.View.{scalar_tree, value_tree}
@@ -16,7 +16,7 @@ use Rattle.gl_value.specs.declared.Scalar.{Scalar}
 use Rattle.gl_value.specs.declared.Value.{Value}
 use Rattle.gl_demand.specs.Walk.{World, walk, looking}
 use Rattle.gl_demand.specs.Walks.{Walks, trail_tree}
-use Rattle.gl_demand.specs.Seen.{AreSeen, ReadsOne, ReadsAlone, deref_in}
+use Rattle.gl_demand.specs.Seen.{AreSeen, ReadsOne, ReadsAlone, deref_held}
 use Rattle.gl_demand.specs.declared.trail.Trail.{Trail}
 use Rattle.gl_demand.specs.declared.trail.Halt.{Halt}
 use Rattle.gl_demand.specs.declared.trail.Halt.TheVariants as halt
@@ -93,31 +93,36 @@ module _ (w : World) where
   cover_none (Some c) h = absurd (cc h)
 
   module _ (e : Frame) (s : List Fact) (x : Fact) (roots : List Addr) (old mid new : Trail) where
-    pub shown_some : (v : Value) (p : Option Permit) (r : Result Scalar Halt) → AreSeen w roots s → p ≡ status_in x e
-        → IfOk r (λ y. scalar_tree y ≡ shown p (value_tree v)) → IfErr r (λ h. h ≡ halt.NoMemory) → ReadsOne w (shown_by e s x (Some (value_tree v))) new r roots new
-    shown_some v p r m q c d = record {
+    -- what shows by a value that is given
+    pub held_given : (v : V.Value) (r : Result Scalar Halt) → AreSeen w roots s → IfOk r (λ y. scalar_tree y ≡ shown (status_in x e) v) → IfErr r (λ h. h ≡ halt.NoMemory) → ReadsOne w (deref_held e s x (Given v)) new r roots new
+    held_given v r m c d = record {
       seen = s;
       are_seen = on_ok r m;
-      walk = gives (shown (status_in x e) (value_tree v), s) (λ y. (scalar_tree y, s)) new r
-          (IfOk-weaker r (λ y. scalar_tree y ≡ shown p (value_tree v)) (λ y. (scalar_tree y, s) ≡ (shown (status_in x e) (value_tree v), s)) (λ y k. ap (λ z. (z, s)) (k ∙ ap (λ z. shown z (value_tree v)) q)) c) d;
+      walk = gives (shown (status_in x e) v, s) (λ y. (scalar_tree y, s)) new r
+          (IfOk-weaker r (λ y. scalar_tree y ≡ shown (status_in x e) v) (λ y. (scalar_tree y, s) ≡ (shown (status_in x e) v, s)) (λ y k. ap (λ z. (z, s)) k) c) d;
     }
       where
         on_ok : (r : Result Scalar Halt) → AreSeen w roots s → OnOk r (AreSeen w roots s)
         on_ok (Ok x) h = h
         on_ok (Err x) h = tt
 
-    pub deref_on : (v : Option Value) (r : Result Scalar Halt) → Walks w (own e x) (option_map value_tree) old (Ok v) mid → ReadsOne w (shown_by e s x (option_map value_tree v)) mid r roots new → ReadsOne w (deref_in e s x) old r roots new
-    deref_on v r a b = record {
+    pub shown_some : (v : Value) (p : Option Permit) (r : Result Scalar Halt) → AreSeen w roots s → p ≡ status_in x e
+        → IfOk r (λ y. scalar_tree y ≡ shown p (value_tree v)) → IfErr r (λ h. h ≡ halt.NoMemory) → ReadsOne w (shown_by e s x (Some (value_tree v))) new r roots new
+    shown_some v p r m q c d = held_given (value_tree v) r m (subst (λ o. IfOk r (λ y. scalar_tree y ≡ shown o (value_tree v))) q c) d
+
+    -- what shows by a value that is computed
+    pub held_on : (h : Held) (v : Option Value) (r : Result Scalar Halt) → Walks w (value_of e x.address (Some h)) (option_map value_tree) old (Ok v) mid → ReadsOne w (shown_by e s x (option_map value_tree v)) mid r roots new → ReadsOne w (deref_held e s x h) old r roots new
+    held_on h v r a b = record {
       seen = b.seen;
       are_seen = b.are_seen;
-      walk = goes_on w (shown_by e s x) (own e x) (option_map value_tree) (λ y. (scalar_tree y, b.seen)) old mid new v r a b.walk;
+      walk = goes_on w (shown_by e s x) (value_of e x.address (Some h)) (option_map value_tree) (λ y. (scalar_tree y, b.seen)) old mid new v r a b.walk;
     }
 
-    pub deref_halts : (h : Halt) → Walks w (own e x) (option_map value_tree) old (Err h) new → ReadsOne w (deref_in e s x) old (Err h) roots new
-    deref_halts h a = record {
+    pub held_halts : (d : Held) (h : Halt) → Walks w (value_of e x.address (Some d)) (option_map value_tree) old (Err h) new → ReadsOne w (deref_held e s x d) old (Err h) roots new
+    held_halts d h a = record {
       seen = s;
       are_seen = tt;
-      walk = halts w (shown_by e s x) (own e x) (option_map value_tree) (λ y. (scalar_tree y, s)) old new h a;
+      walk = halts w (shown_by e s x) (value_of e x.address (Some d)) (option_map value_tree) (λ y. (scalar_tree y, s)) old new h a;
     }
 
   -- ---- an address

@@ -5,7 +5,7 @@ use Rattle.gl_calculus.specs.Grid.{Addr, same_addr}
 use Rattle.gl_calculus.specs.Facts.{Fact, fact, find_fact}
 use Rattle.gl_calculus.specs.Value.{Frame}
 use Rattle.gl_calculus.specs.Key.{Eval, ◌>>=◌}
-use Rattle.gl_calculus.specs.Reference.{Reading, own, shown_by}
+use Rattle.gl_calculus.specs.Reference.{Held, Reading, value_of, own, shown_by}
 use Rattle.gl_value.specs.View.{scalar_tree}
 use Rattle.gl_value.specs.declared.Scalar.{Scalar}
 use Rattle.gl_demand.specs.Walk.{World}
@@ -27,6 +27,10 @@ pub record ReadsOne (w : World) (p : Eval Reading) (old : Trail) (r : Result Sca
 pub record ReadsAlone (w : World) (p : Eval Reading) (old : Trail) (r : Result Scalar Halt) (new : Trail) : Type 0 where
   pub seen : List Fact
   pub walk : Walks w p (λ x. (scalar_tree x, seen)) old r new
+
+-- the scalar at an address that holds this
+abbrev pub deref_held : Frame → List Fact → Fact → Held → Eval Reading
+deref_held e seen x h = value_of e x.address (Some h) >>= shown_by e seen x
 
 -- the scalar at an address, read in this frame
 abbrev pub deref_in : Frame → List Fact → Fact → Eval Reading

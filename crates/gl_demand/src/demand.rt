@@ -111,7 +111,7 @@ pub fn own<K: Known>(ctx: &Context<K>, env: &Env, a: Addr, trail: &mut Trail) ->
 
 /// The own value of an address that holds this.
 #[tactic(auto, using(gl_value::specs::Forms::trees))]
-fn value_of<K: Known>(
+pub fn value_of<K: Known>(
     ctx: &Context<K>,
     env: &Env,
     a: Addr,

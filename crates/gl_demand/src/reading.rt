@@ -7,17 +7,18 @@ ghost use Rattle.gl_calculus.specs.{Grid.single, Oracle.Cover};
 ghost use Rattle.gl_calculus.specs.Reference as R;
 ghost use Rattle.gl_cells.specs.Sheet.{sheet};
 ghost use Rattle.gl_value.specs.View.{scalar_tree, value_tree, frame_tree};
-ghost use Rattle.gl_demand.specs.Seen.{AreSeen, ReadsOne, ReadsAlone, deref_in};
+ghost use Rattle.gl_demand.specs.Seen.{AreSeen, ReadsOne, ReadsAlone, deref_in, deref_held};
+ghost use Rattle.gl_demand.specs.Held.{held_tree, IsSoundHeld};
 ghost use Rattle.gl_demand.specs.{Walk.World, Walk.looking, Worlds.world_of, Walks.Walks};
 ghost use Rattle.gl_demand.specs.{Walks.trail_tree, declared.trail.Halt.Halt};
 
 use crate::Known;
 use crate::context::Context;
-use crate::demand::own;
+use crate::demand::{own, value_of};
 use crate::elements::{shown, spilled};
-use crate::held::{cover_in, home, status_in};
+use crate::held::{Held, cover_in, held_at, home, status_in};
 use crate::trail::{Eval, Halt, Trail};
-use gl_plane::{Addr, NoMemory, Range};
+use gl_plane::{Addr, NoMemory, Range, Share};
 use gl_value::{Env, Scalar, Value};
 use indexmap::IndexSet;
 
@@ -102,6 +103,19 @@ fn covered<K: Known>(
     }
 }
 
+/// A constant, shared.
+fn constant(x: &Scalar) -> Eval<Scalar>
+    requires { IsTrue (is_sound_scalar (scalar_tree x.now)) }
+    ensures value { IfOk result (λ y. scalar_tree y ≡ scalar_tree x.now) }
+    ensures err { IfErr result (λ h. h ≡ Halt.NoMemory) }
+    ensures sound { IfOk result (λ y. IsTrue (is_sound_scalar (scalar_tree y))) }
+{
+    match x.share() {
+        Ok(x) => Ok(x),
+        Err(NoMemory) => Err(Halt::NoMemory),
+    }
+}
+
 /// What an address shows by its own value.
 fn shown_by<K: Known>(
     ctx: &Context<K>,
@@ -127,6 +141,35 @@ fn shown_by<K: Known>(
     }
 }
 
+/// What an address shows that holds this. What is given shows without a value of its own.
+fn shown_held<K: Known>(
+    ctx: &Context<K>,
+    env: &Env,
+    a: Addr,
+    held: &Held,
+    seen: &mut IndexSet<Addr>,
+    trail: &mut Trail,
+) -> Eval<Scalar>
+    requires frame { IsTrue (is_sound_frame (frame_tree env.now)) }
+    requires held { IsSoundHeld (held_tree held.now) }
+    ensures read { (s : List Fact)
+        → AreSeen (world_of ctx.now)
+        seen.old.keys s
+        → ReadsOne (world_of ctx.now)
+        (deref_held (frame_tree env.now) s (fact (sheet ctx.now.cells.now) ctx.now.w.now a)
+        (held_tree held.now)) trail.old result seen.new.keys trail.new }
+    ensures sound { IfOk result (λ x. IsTrue (is_sound_scalar (scalar_tree x))) }
+{
+    match held {
+        Held::Scalar(x) => constant(x),
+        Held::Value(v) => shown(status_in(ctx.w, env, a), v),
+        Held::Formula(_) => match value_of(ctx, env, a, held, trail) {
+            Ok(v) => shown_by(ctx, env, a, &v, seen, trail),
+            Err(halt) => Err(halt),
+        },
+    }
+}
+
 /// The scalar at an address of the frame's region.
 fn deref_home<K: Known>(
     ctx: &Context<K>,
@@ -144,9 +187,9 @@ fn deref_home<K: Known>(
         result seen.new.keys trail.new }
     ensures sound { IfOk result (λ x. IsTrue (is_sound_scalar (scalar_tree x))) }
 {
-    match own(ctx, env, a, trail) {
-        Ok(v) => shown_by(ctx, env, a, &v, seen, trail),
-        Err(halt) => Err(halt),
+    match held_at(ctx.cells, env, a) {
+        Some(held) => shown_held(ctx, env, a, &held, seen, trail),
+        None => covered(ctx, env, a, seen, trail),
     }
 }
 
