@@ -2,6 +2,7 @@
 use Rattle.std.proofs.Common.{IfSome, Bor, option_copied, Result, Ok, Err, suc, ◌≡◌, ◌∙◌, ℕ, ◌≤◌, ◌+◌, Bool, true, false, cond, not, [], ◌∷◌, length, filter, Option, None, Some, refl, sym, ap, subst, arith, option_map, unwrap_or, sum_by, if◌then◌else◌}
 use Rattle.std.proofs.lemmas.Grind.{common_steps}
 use Rattle.std.proofs.lemmas.Map.Entries.{sum_by-insert_entry, sum_by-remove_entry}
+use Rattle.std.proofs.lemmas.List.Elements.{All-nil}
 use Rattle.std.proofs.lemmas.List.Sums.{sum_by-cons}
 use Rattle.std.proofs.lemmas.Map.Lookups.{CmpEqualImpliesEq, exact_pairs, exact_unsigned}
 use Rattle.std.proofs.lemmas.Map.Keys.{sorted_head, sorted_tail}
@@ -171,6 +172,19 @@ within es n h g c = record {
   table = h;
   few_formulas = omega (arith, h.counted, formulas_sheet es, g);
   few_contents = omega (arith, length_sheet es, c);
+}
+
+pub within_nothing : IsWithin [] 0
+unfolding IsStrictlySortedBy
+within_nothing = record {
+  table = record {
+    ordered = tt;
+    counted = refl;
+    proper = tt;
+    placed = All-nil IsAddr;
+  };
+  few_formulas = omega arith;
+  few_contents = omega arith;
 }
 
 pub within_same : (es fs : Table) (n k : ℕ) → IsWithin es n → IsTable fs k → sheet fs ≡ sheet es → IsWithin fs k

@@ -6,28 +6,28 @@ ghost use Rattle.gl_cells.specs.Sheet.{sheet, put_each, undo_all, CanUndo, ArePr
 ghost use Rattle.gl_cells.specs.Sheet.{Answers};
 ghost use Rattle.gl_cells.specs.Content.{content_tree};
 
+use crate::contents::Contents;
 use crate::table::{put_in, restore};
 use crate::{Content, MAX_CONTENTS, MAX_FORMULAS, PutFault};
 use gl_plane::{Addr, NoMemory};
 use std::alloc::Global;
-use std::collections::BTreeMap;
 
 /// Puts each content, and notes the step back of each.
 fn put_each_in(
-    map: &mut BTreeMap<Addr, Content>,
+    map: &mut Contents,
     forms: &mut usize,
     list: Vec<(Addr, Content)>,
     undo: &mut Vec<(Addr, Option<Content>)>,
 ) -> Result<(), NoMemory>
-    requires table { IsTable map.old.entries forms.old }
+    requires table { IsTable map.old forms.old }
     requires proper { AreProper list.items }
     requires room { vec_len undo.old + vec_len list ≤ vec_capacity undo.old }
-    requires can { CanUndo undo.old.items map.old.entries }
-    ensures ok { OnOk result (map.new.entries ≡ put_each list.items map.old.entries) }
-    ensures back { undo_all undo.new.items map.new.entries
-        ≡ undo_all undo.old.items map.old.entries }
-    ensures can { CanUndo undo.new.items map.new.entries }
-    ensures table { IsTable map.new.entries forms.new }
+    requires can { CanUndo undo.old.items map.old }
+    ensures ok { OnOk result (map.new ≡ put_each list.items map.old) }
+    ensures back { undo_all undo.new.items map.new
+        ≡ undo_all undo.old.items map.old }
+    ensures can { CanUndo undo.new.items map.new }
+    ensures table { IsTable map.new forms.new }
 {
     for (a, c) in list {
         let was = put_in(map, forms, a, c)?;
@@ -37,15 +37,11 @@ fn put_each_in(
 }
 
 /// Takes all steps back, the last one first. It takes no memory.
-fn roll_back(
-    map: &mut BTreeMap<Addr, Content>,
-    forms: &mut usize,
-    mut undo: Vec<(Addr, Option<Content>)>,
-)
-    requires table { IsTable map.old.entries forms.old }
-    requires can { CanUndo undo.items map.old.entries }
-    ensures back { map.new.entries ≡ undo_all undo.items map.old.entries }
-    ensures table { IsTable map.new.entries forms.new }
+fn roll_back(map: &mut Contents, forms: &mut usize, mut undo: Vec<(Addr, Option<Content>)>)
+    requires table { IsTable map.old forms.old }
+    requires can { CanUndo undo.items map.old }
+    ensures back { map.new ≡ undo_all undo.items map.old }
+    ensures table { IsTable map.new forms.new }
 {
     while let Some((a, was)) = undo.pop() {
         restore(map, forms, a, was);
@@ -55,15 +51,15 @@ fn roll_back(
 /// Puts all contents, or leaves all as it was. The room for the steps back comes first.
 pub fn put_list(
     alloc: Global,
-    map: &mut BTreeMap<Addr, Content>,
+    map: &mut Contents,
     forms: &mut usize,
     list: Vec<(Addr, Content)>,
 ) -> Result<(), PutFault>
-    requires table { IsTable map.old.entries forms.old }
+    requires table { IsTable map.old forms.old }
     requires proper { AreProper list.items }
-    ensures answers { Answers result (sheet map.old.entries)
-        (with_contents (sheet map.old.entries) (sheet list.items)) (sheet map.new.entries) }
-    ensures table { IsTable map.new.entries forms.new }
+    ensures answers { Answers result (sheet map.old)
+        (with_contents (sheet map.old) (sheet list.items)) (sheet map.new) }
+    ensures table { IsTable map.new forms.new }
 {
     let Ok(mut undo) = Vec::with_capacity(alloc, list.len()) else {
         return Err(PutFault::NoMemory);
@@ -85,17 +81,12 @@ pub fn put_list(
 }
 
 /// Puts a content, or leaves all as it was.
-pub fn put_one(
-    map: &mut BTreeMap<Addr, Content>,
-    forms: &mut usize,
-    a: Addr,
-    c: Content,
-) -> Result<(), PutFault>
-    requires table { IsTable map.old.entries forms.old }
+pub fn put_one(map: &mut Contents, forms: &mut usize, a: Addr, c: Content) -> Result<(), PutFault>
+    requires table { IsTable map.old forms.old }
     requires proper { IsProperContent (content_tree c) }
-    ensures answers { Answers result (sheet map.old.entries)
-        (with_content (sheet map.old.entries) a (content_tree c)) (sheet map.new.entries) }
-    ensures table { IsTable map.new.entries forms.new }
+    ensures answers { Answers result (sheet map.old)
+        (with_content (sheet map.old) a (content_tree c)) (sheet map.new) }
+    ensures table { IsTable map.new forms.new }
 {
     let Ok(was) = put_in(map, forms, a, c) else {
         return Err(PutFault::NoMemory);

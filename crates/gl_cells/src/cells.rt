@@ -10,17 +10,16 @@ ghost use Rattle.gl_cells.specs.{Content.content_tree, Search.is_in_play};
 
 use crate::batch::{put_list, put_one};
 use crate::clear::clear_in;
-use crate::formulas::formulas_in;
+use crate::contents::Contents;
 use crate::search::next_in;
 use crate::{Content, PutFault};
 use gl_plane::{Addr, NoMemory, Range};
 use std::alloc::Global;
-use std::collections::BTreeMap;
 use std::marker::Model;
 
 /// The contents by address, all proper, on the grid and within the limits of a sheet.
 pub struct Cells {
-    map: BTreeMap<Addr, Content>,
+    map: Contents,
     forms: usize,
 }
 
@@ -41,9 +40,9 @@ impl Model for Cells {
 
     ghost coded = { Prim.hlevel (codes, scalar.the_row.coded, formula.the_row.coded) };
 
-    ghost view = { λ a. a.map.entries };
+    ghost view = { λ a. a.map };
 
-    ghost invariant = { λ a. IsWithin a.map.entries a.forms };
+    ghost invariant = { λ a. IsWithin a.map a.forms };
 }
 
 impl Cells {
@@ -52,7 +51,7 @@ impl Cells {
         ensures { sheet result ≡ [] }
     {
         Cells {
-            map: BTreeMap::new(alloc),
+            map: Contents::new(alloc),
             forms: 0,
         }
     }
@@ -63,7 +62,7 @@ impl Cells {
             ≡ content (sheet self.now) a }
         ensures proper { IfSome result (λ c. IsProperContent (content_tree c.now)) }
     {
-        self.map.get(&a)
+        self.map.get(a)
     }
 
     /// How many formulas there are.
@@ -81,7 +80,7 @@ impl Cells {
         ensures few { length (formula_addresses (sheet self.now)) ≤ max_formulas }
         ensures ordered { IsSheet (sheet self.now) }
     {
-        formulas_in(alloc, &self.map)
+        self.map.formula_addresses(alloc)
     }
 
     /// How many contents there are. All are proper and on the grid.

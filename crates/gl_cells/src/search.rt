@@ -1,29 +1,13 @@
 //! The first content of a range.
 ghost use Rattle.std.specs.Prelude.{◌≡◌, ◌≤◌, None, IfSome, IfNone, IsSome, Some};
-ghost use Rattle.std.specs.BTreeMap as tree;
+ghost use Rattle.std.specs.BTreeMap.{is_at};
+ghost use Rattle.std.specs.Map.{lookup};
 ghost use Rattle.gl_calculus.specs.Grid.{Addr as Plain};
 ghost use Rattle.gl_plane.specs.Parts.{IsAddr};
 ghost use Rattle.gl_cells.specs.{Sheet.addr_cmp, Search.AtOrAfter, Search.InPlay};
 
-use crate::Content;
+use crate::contents::Contents;
 use gl_plane::{Addr, Range};
-use std::collections::BTreeMap;
-
-/// The first address with content from `from` on.
-#[tactic(auto, using(crate::proofs::Order::orders))]
-fn first_from(map: &BTreeMap<Addr, Content>, from: Addr) -> Option<Addr>
-    ensures found { IfSome result (λ a. AtOrAfter from a × IsSome (tree.get addr_cmp map.now a)) }
-    ensures least { IfSome result (λ a.
-        (q : Plain) → AtOrAfter from q → IsSome (tree.get addr_cmp map.now q) → AtOrAfter a q) }
-    ensures none { IfNone result
-        ((q : Plain) → AtOrAfter from q → tree.get addr_cmp map.now q ≡ None) }
-{
-    let mut rest = map.range(from..);
-    match rest.next() {
-        Some((a, _)) => Some(*a),
-        None => None,
-    }
-}
 
 /// The first address of the range after the one that is given.
 fn step(r: &Range, after: Option<Addr>) -> Option<Addr>
@@ -64,20 +48,20 @@ fn step(r: &Range, after: Option<Addr>) -> Option<Addr>
 
 /// The first address of the range with content, after the one that is given. Each step passes at
 /// least one content, and then all of its row that is outside the range.
-pub fn next_in(map: &BTreeMap<Addr, Content>, r: &Range, after: Option<Addr>) -> Option<Addr>
+pub fn next_in(map: &Contents, r: &Range, after: Option<Addr>) -> Option<Addr>
     ensures found { IfSome result (λ a.
-        InPlay r.now.first r.now.last after a × IsSome (tree.get addr_cmp map.now a)) }
+        InPlay r.now.first r.now.last after a × IsSome (lookup (is_at (addr_cmp a)) map.now)) }
     ensures least { IfSome result (λ a.
         (q : Plain)
         → InPlay r.now.first r.now.last after q
-        → IsSome (tree.get addr_cmp map.now q)
+        → IsSome (lookup (is_at (addr_cmp q)) map.now)
         → AtOrAfter a q) }
     ensures none { IfNone result
-        ((q : Plain) → InPlay r.now.first r.now.last after q → tree.get addr_cmp map.now q ≡ None) }
+        ((q : Plain) → InPlay r.now.first r.now.last after q → lookup (is_at (addr_cmp q)) map.now ≡ None) }
 {
     let mut at = step(r, after);
     while let Some(from) = at {
-        let a = first_from(map, from)?;
+        let a = map.first_from(from)?;
         if r.covers(a) {
             return Some(a);
         }

@@ -1,17 +1,16 @@
 //! Edits of the table that stands for a sheet.
 ghost use Rattle.std.specs.Prelude.{◌≡◌, ◌≤◌, ◌<◌, None, IfSome, IfOk, IsSome, OnOk, OnErr};
-ghost use Rattle.std.specs.Prelude.{option_map, unwrap_or, is_some, ◌+◌, if◌then◌else◌};
-ghost use Rattle.std.specs.BTreeMap.{btree_map_len, insert_entry, is_at};
+ghost use Rattle.std.specs.Prelude.{option_map, unwrap_or, is_some, length, ◌+◌, if◌then◌else◌};
+ghost use Rattle.std.specs.BTreeMap.{insert_entry, is_at};
 ghost use Rattle.std.specs.Map.{lookup, remove_entry};
-ghost use Rattle.std.specs.BTreeMap as tree;
 ghost use Rattle.gl_calculus.specs.Grid.{Addr as Plain};
 ghost use Rattle.gl_language.specs.Content.{IsProperContent};
 ghost use Rattle.gl_cells.specs.Sheet.{addr_cmp, IsTable, HasPlace, restored};
 ghost use Rattle.gl_cells.specs.Content.{content_tree, form_weight};
 
 use crate::Content;
+use crate::contents::Contents;
 use gl_plane::{Addr, NoMemory};
-use std::collections::BTreeMap;
 
 fn weight_of(c: &Option<Content>) -> usize
     ensures { result ≡ unwrap_or (option_map (λ x. form_weight (content_tree x)) c.now) 0 }
@@ -24,20 +23,20 @@ fn weight_of(c: &Option<Content>) -> usize
 
 /// Puts a content, and answers the one before.
 pub fn put_in(
-    map: &mut BTreeMap<Addr, Content>,
+    map: &mut Contents,
     forms: &mut usize,
     a: Addr,
     c: Content,
 ) -> Result<Option<Content>, NoMemory>
-    requires table { IsTable map.old.entries forms.old }
+    requires table { IsTable map.old forms.old }
     requires proper { IsProperContent (content_tree c) }
-    ensures ok { OnOk result (map.new.entries ≡ insert_entry addr_cmp map.old.entries a c) }
+    ensures ok { OnOk result (map.new ≡ insert_entry addr_cmp map.old a c) }
     ensures was { IfOk result (λ was.
-        (was ≡ lookup (is_at (addr_cmp a)) map.old.entries)
+        (was ≡ lookup (is_at (addr_cmp a)) map.old)
         × IfSome was (λ x. IsProperContent (content_tree x))) }
-    ensures absent { OnErr result (lookup (is_at (addr_cmp a)) map.old.entries ≡ None) }
-    ensures err { OnErr result (map.new.entries ≡ map.old.entries) }
-    ensures table { IsTable map.new.entries forms.new }
+    ensures absent { OnErr result (lookup (is_at (addr_cmp a)) map.old ≡ None) }
+    ensures err { OnErr result (map.new ≡ map.old) }
+    ensures table { IsTable map.new forms.new }
 {
     // that the entries are few, and that the address is on the grid
     let _len = map.len();
@@ -53,30 +52,30 @@ pub fn put_in(
 }
 
 /// Removes a content, and answers it. It takes no memory.
-pub fn remove_in(map: &mut BTreeMap<Addr, Content>, forms: &mut usize, a: Addr) -> Option<Content>
-    requires table { IsTable map.old.entries forms.old }
-    ensures removed { map.new.entries ≡ remove_entry (is_at (addr_cmp a)) map.old.entries }
-    ensures was { result ≡ lookup (is_at (addr_cmp a)) map.old.entries }
+pub fn remove_in(map: &mut Contents, forms: &mut usize, a: Addr) -> Option<Content>
+    requires table { IsTable map.old forms.old }
+    ensures removed { map.new ≡ remove_entry (is_at (addr_cmp a)) map.old }
+    ensures was { result ≡ lookup (is_at (addr_cmp a)) map.old }
     ensures fewer { forms.new ≤ forms.old }
-    ensures present { is_some result ≡ is_some (tree.get addr_cmp map.old a) }
+    ensures present { is_some result ≡ is_some (lookup (is_at (addr_cmp a)) map.old) }
     ensures others { (q : Plain)
-        → tree.get addr_cmp map.new q
-        ≡ (if is_at (addr_cmp a) q then None else tree.get addr_cmp map.old q) }
-    ensures len { btree_map_len map.new + (if is_some result then 1 else 0)
-        ≡ btree_map_len map.old }
-    ensures table { IsTable map.new.entries forms.new }
+        → lookup (is_at (addr_cmp q)) map.new
+        ≡ (if is_at (addr_cmp a) q then None else lookup (is_at (addr_cmp q)) map.old) }
+    ensures len { length map.new + (if is_some result then 1 else 0)
+        ≡ length map.old }
+    ensures table { IsTable map.new forms.new }
 {
-    let was = map.remove(&a);
+    let was = map.remove(a);
     *forms -= weight_of(&was);
     was
 }
 
 /// Takes a step back. It takes no memory, since a content comes back only where there is one.
-pub fn restore(map: &mut BTreeMap<Addr, Content>, forms: &mut usize, a: Addr, was: Option<Content>)
-    requires table { IsTable map.old.entries forms.old }
-    requires place { HasPlace (a, was) map.old.entries }
-    ensures restored { map.new.entries ≡ restored (a, was) map.old.entries }
-    ensures table { IsTable map.new.entries forms.new }
+pub fn restore(map: &mut Contents, forms: &mut usize, a: Addr, was: Option<Content>)
+    requires table { IsTable map.old forms.old }
+    requires place { HasPlace (a, was) map.old }
+    ensures restored { map.new ≡ restored (a, was) map.old }
+    ensures table { IsTable map.new forms.new }
 {
     match was {
         None => {

@@ -7,12 +7,12 @@ use Rattle.gl_cells.proofs.batch.roll_back.Goals as goal
 
 pub restore-requires-clause-place : goal.restore-requires-clause-place
 restore-requires-clause-place c =
-    let s = c.loop-a.map.entries in
+    let s = c.loop-a.map in
     (CanUndo-pop c.pop.new.self.items _ s (subst (λ (us : List (Addr × Option Content)). CanUndo us s) c.in-Some.ensures.items c.loop-a.invariant.can)).1
 
 pub loop-a-preserved : goal.loop-a-preserved
 loop-a-preserved c =
-    let s = c.loop-a.map.entries in
+    let s = c.loop-a.map in
     let r = CanUndo-pop c.pop.new.self.items _ s (subst (λ (us : List (Addr × Option Content)). CanUndo us s) c.in-Some.ensures.items c.loop-a.invariant.can) in
     record {
       table = c.restore.ensures.table;

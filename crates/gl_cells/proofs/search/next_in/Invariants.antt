@@ -1,5 +1,6 @@
 use Rattle.std.proofs.Common.{IfSome, MatchOption, IsSome}
-use Rattle.std.specs.BTreeMap as tree
+use Rattle.std.specs.BTreeMap.{is_at}
+use Rattle.std.specs.Map.{lookup}
 use Rattle.gl_calculus.specs.Grid.{Addr}
 use Rattle.gl_plane.specs.Parts.{IsAddr}
 use Rattle.gl_cells.specs.Search.{AtOrAfter, InPlay}
@@ -12,7 +13,7 @@ abbrev pub invariant-loop-at : goal.invariant-loop-at
 invariant-loop-at l = record {
   inside : IfSome l.at (InPlay l.r.first l.r.last l.fn.after);
   on_grid : IfSome l.at IsAddr;
-  rest : (q : Addr) → InPlay l.r.first l.r.last l.fn.after q → IsSome (tree.get addr_cmp l.map q) → MatchOption l.at ⊥ (λ f. AtOrAfter f q);
+  rest : (q : Addr) → InPlay l.r.first l.r.last l.fn.after q → IsSome (lookup (is_at (addr_cmp q)) l.map) → MatchOption l.at ⊥ (λ f. AtOrAfter f q);
 }
 
 abbrev pub decreases-loop-at : goal.decreases-loop-at

@@ -12,9 +12,9 @@ invariant_of-self c = record {
 }
 
 pub returns-clause-cleared : goal.returns-clause-cleared
-returns-clause-cleared c = ap sheet c.clear_in.ensures.cleared ∙ without_sheet c.self.inside.map.entries c.args.r.now ∙ ap (λ (es : Table). without (sheet es) c.args.r.now) c.self.view_is
+returns-clause-cleared c = ap sheet c.clear_in.ensures.cleared ∙ without_sheet c.self.inside.map c.args.r.now ∙ ap (λ (es : Table). without (sheet es) c.args.r.now) c.self.view_is
 
 pub returns-clause-count : goal.returns-clause-count
 returns-clause-count c =
     let old = ap (λ (es : Table). length (sheet es)) c.self.view_is in
-    omega (arith, c.clear_in.ensures.count, old, length_sheet c.self.inside.map.entries, length_sheet c.clear_in.new.map.entries)
+    omega (arith, c.clear_in.ensures.count, old, length_sheet c.self.inside.map, length_sheet c.clear_in.new.map)

@@ -5,7 +5,7 @@ use Rattle.gl_cells.proofs.TableLemmas.{length_sheet, ordered_sheet}
 use Rattle.gl_cells.proofs.cells.Cells.contents.Goals as goal
 
 pub returns-clause-count : goal.returns-clause-count
-returns-clause-count c = c.len.ensures.len ∙ sym (length_sheet c.self.inside.map.entries) ∙ ap (λ (es : Table). length (sheet es)) c.self.view_is
+returns-clause-count c = c.len.ensures.len ∙ sym (length_sheet c.self.inside.map) ∙ ap (λ (es : Table). length (sheet es)) c.self.view_is
 
 pub returns-clause-ordered : goal.returns-clause-ordered
-returns-clause-ordered c = subst (λ (es : Table). IsSheet (sheet es)) c.self.view_is (ordered_sheet c.self.inside.map.entries c.self.invariant.table.ordered)
+returns-clause-ordered c = subst (λ (es : Table). IsSheet (sheet es)) c.self.view_is (ordered_sheet c.self.inside.map c.self.invariant.table.ordered)

@@ -6,7 +6,7 @@ use Rattle.gl_cells.proofs.TableLemmas.{formulas_sheet, ordered_sheet}
 use Rattle.gl_cells.proofs.cells.Cells.formula_addresses.Goals as goal
 
 pub returns-clause-few : goal.returns-clause-few
-returns-clause-few c = subst (λ n. n ≤ max_formulas) (c.self.invariant.table.counted ∙ sym (formulas_sheet c.self.inside.map.entries) ∙ ap (λ (es : Table). length (formula_addresses (sheet es))) c.self.view_is) c.self.invariant.few_formulas
+returns-clause-few c = subst (λ n. n ≤ max_formulas) (c.self.invariant.table.counted ∙ sym (formulas_sheet c.self.inside.map) ∙ ap (λ (es : Table). length (formula_addresses (sheet es))) c.self.view_is) c.self.invariant.few_formulas
 
 pub returns-clause-ordered : goal.returns-clause-ordered
-returns-clause-ordered c = subst (λ (es : Table). IsSheet (sheet es)) c.self.view_is (ordered_sheet c.self.inside.map.entries c.self.invariant.table.ordered)
+returns-clause-ordered c = subst (λ (es : Table). IsSheet (sheet es)) c.self.view_is (ordered_sheet c.self.inside.map c.self.invariant.table.ordered)
