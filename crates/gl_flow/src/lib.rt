@@ -2,6 +2,7 @@
 #![tactic(auto)]
 
 mod areas;
+mod bindings;
 mod boxes;
 mod columns;
 mod contents;

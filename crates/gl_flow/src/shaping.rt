@@ -1,7 +1,6 @@
 //! The shape of a formula.
-ghost use Rattle.std.specs.Prelude.{◌≡◌, ◌≢◌, ◌++◌, ◌∷◌, [], ℕ, IsTrue, IfOk, OnOk, Option};
-ghost use Rattle.std.specs.Prelude.{option_map, bytes_eq, length, slice_get};
-ghost use Rattle.std.specs.Rc.{rc_str_bytes};
+ghost use Rattle.std.specs.Prelude.{◌≡◌, ◌≢◌, IsTrue, IfOk, Option};
+ghost use Rattle.std.specs.Prelude.{option_map, length, slice_get};
 ghost use Rattle.gl_flow.specs.Shapes.{bindings_of, spilled_at, shape_of, turned, stacked};
 ghost use Rattle.gl_flow.specs.Shapes.{first_shape};
 ghost use Rattle.gl_flow.specs.Places.{are_in_order};
@@ -9,6 +8,7 @@ ghost use Rattle.gl_calculus.specs.Formula as F;
 ghost use Rattle.gl_ast.specs.View.{formula_tree, fun_tree, argument_trees, operand_trees};
 ghost use Rattle.gl_forecast.specs.Forecast as Fo;
 
+use crate::bindings::{bind, bound};
 use crate::extents::{Extents, MOST, any, below, extents_of, flipped, full, joined};
 use crate::places::number_of;
 use gl_ast::{Formula, Fun, Op};
@@ -41,13 +41,6 @@ impl Spilled<'_> {
     }
 }
 
-/// Two names are the same.
-fn same_name(x: &RcStr, y: &RcStr) -> bool
-    ensures { result ≡ bytes_eq (rc_str_bytes x.now) (rc_str_bytes y.now) }
-{
-    x == y
-}
-
 /// The shape of this number; none past the last.
 fn shape_number(shapes: &[Option<Extents>], k: usize) -> Option<Extents>
     ensures { result ≡ shape_of (slice_get shapes.now k) }
@@ -56,56 +49,6 @@ fn shape_number(shapes: &[Option<Extents>], k: usize) -> Option<Extents>
         Some(s) => *s,
         None => None,
     }
-}
-
-/// The shape of a variable.
-fn bound(bindings: &[(RcStr, Option<Extents>)], name: &RcStr) -> Option<Extents>
-    ensures { result ≡ Fo.bound_shape (bindings_of bindings.now) (rc_str_bytes name.now) }
-{
-    for (x, s) in bindings {
-        if same_name(x, name) {
-            return *s;
-        }
-    }
-    None
-}
-
-/// A binding once more.
-fn share_binding(x: &RcStr, s: Option<Extents>) -> Result<(RcStr, Option<Extents>), NoMemory>
-    ensures name { IfOk result (λ b. rc_str_bytes b.0 ≡ rc_str_bytes x.now) }
-    ensures shape { IfOk result (λ b. b.1 ≡ s) }
-{
-    let name = x.clone()?;
-    Ok((name, s))
-}
-
-/// Shares the bindings and appends them.
-fn share_onto(
-    list: &mut Vec<(RcStr, Option<Extents>)>,
-    more: &[(RcStr, Option<Extents>)],
-) -> Result<(), NoMemory>
-    ensures { OnOk result (
-        bindings_of list.new.items ≡ bindings_of list.old.items ++ bindings_of more.now) }
-{
-    for (x, s) in more {
-        list.push(share_binding(x, *s)?)?;
-    }
-    Ok(())
-}
-
-/// The variables with one more, which is the innermost.
-fn bind(
-    alloc: Global,
-    bindings: &[(RcStr, Option<Extents>)],
-    name: &RcStr,
-    s: Option<Extents>,
-) -> Result<Vec<(RcStr, Option<Extents>)>, NoMemory>
-    ensures { IfOk result (λ v.
-        bindings_of v.items ≡ (rc_str_bytes name.now, s) ∷ bindings_of bindings.now) }
-{
-    let mut list = vec![in alloc; share_binding(name, s)?]?;
-    share_onto(&mut list, bindings)?;
-    Ok(list)
 }
 
 /// The extent that a formula is, where it is an integer as written.

@@ -1,6 +1,6 @@
 use Rattle.std.proofs.Common.{◌∙◌, arith, sym}
 use Rattle.gl_flow.proofs.Binding.{push_step, done_step}
-use Rattle.gl_flow.proofs.shaping.share_onto.Goals as goal
+use Rattle.gl_flow.proofs.bindings.share_onto.Goals as goal
 
 pub loop-x-preserved : goal.loop-x-preserved
 loop-x-preserved c =

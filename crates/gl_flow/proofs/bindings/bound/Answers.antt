@@ -1,7 +1,7 @@
 use Rattle.std.proofs.Common.{◌<◌, length, false, sym, ◌∙◌, arith}
 use Rattle.std.specs.Rc.{rc_str_bytes}
 use Rattle.gl_flow.proofs.Binding.{first_is}
-use Rattle.gl_flow.proofs.shaping.bound.Goals as goal
+use Rattle.gl_flow.proofs.bindings.bound.Goals as goal
 
 pub loop-x-preserved : goal.loop-x-preserved
 loop-x-preserved c =
