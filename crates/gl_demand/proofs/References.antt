@@ -1,5 +1,5 @@
 -- What the parts of a reference answer, put together.
-use Rattle.std.proofs.Common.{◌≡◌, ℕ, List, [], ◌∷◌, Option, Some, None, Result, Ok, Err, IfOk, IfErr, OnOk, option_map, refl, ap, sym, subst, ◌∙◌}
+use Rattle.std.proofs.Common.{◌≡◌, ℕ, List, [], ◌∷◌, Option, Some, None, Result, Ok, Err, IfOk, IfErr, IfSome, IsTrue, OnOk, option_map, refl, ap, sym, subst, ◌∙◌}
 use Rattle.std.proofs.lemmas.Result.{IfOk-weaker}
 use Rattle.gl_query.specs.Query.{Ready}
 use Rattle.gl_calculus.specs.Grid.{Addr, single}
@@ -8,12 +8,15 @@ use Rattle.gl_calculus.specs.Value.{Frame, Permit, One}
 use Rattle.gl_calculus.specs.Oracle.{Cover}
 use Rattle.gl_calculus.specs.Facts.{Fact, fact, find_fact}
 use Rattle.gl_calculus.specs.Key.{Eval, give, ◌>>=◌}
-use Rattle.gl_calculus.specs.Reference.{Held, Given, Reading, seen_or_looked, value_of, own, spilled, shown, shown_by, status_in, covered, deref, at_address}
+use Rattle.gl_calculus.specs.Reference.{Held, Given, Reading, seen_or_looked, home, own_content, value_of, own, spilled, shown, shown_by, status_in, covered, deref, at_address}
 use Rattle.gl_calculus.proofs.Proper.{fact_at_single}
 use Rattle.gl_plane.specs.Entries.{offsets}
 use Rattle.gl_value.specs.View.{scalar_tree, value_tree}
 use Rattle.gl_value.specs.declared.Scalar.{Scalar}
 use Rattle.gl_value.specs.declared.Value.{Value}
+use Rattle.gl_calculus.specs.Sound.{is_sound_scalar}
+use Rattle.gl_demand.specs.declared.held.Held as Code
+use Rattle.gl_demand.specs.Held.{held_tree, IsSoundHeld}
 use Rattle.gl_demand.specs.Walk.{World, walk, looking}
 use Rattle.gl_demand.specs.Walks.{Walks, trail_tree}
 use Rattle.gl_demand.specs.Seen.{AreSeen, ReadsOne, ReadsAlone, deref_held}
@@ -21,6 +24,11 @@ use Rattle.gl_demand.specs.declared.trail.Trail.{Trail}
 use Rattle.gl_demand.specs.declared.trail.Halt.{Halt}
 use Rattle.gl_demand.specs.declared.trail.Halt.TheVariants as halt
 use Rattle.gl_demand.proofs.Walking.{over, Same, goes_on, halts, later}
+
+-- a constant that is held is sound
+pub held_sound : (o : Option Code.Held) (c : V.Scalar) → option_map held_tree o ≡ Some (Given (One c)) → IfSome o (λ h. IsSoundHeld (held_tree h)) → IsTrue (is_sound_scalar c)
+held_sound None c e h = absurd (cc e)
+held_sound (Some d) c e h = let is : held_tree d ≡ Given (One c) = cc in subst IsSoundHeld is h
 
 module _ (w : World) where
   -- a value that is given
@@ -92,6 +100,13 @@ module _ (w : World) where
   cover_none None h = refl
   cover_none (Some c) h = absurd (cc h)
 
+  given_at : (e : Frame) (s : List Fact) (x : Fact) (roots : List Addr) (old : Trail) (v : V.Value) (y : Scalar) → AreSeen w roots s → scalar_tree y ≡ shown (status_in x e) v → ReadsOne w (deref_held e s x (Given v)) old (Ok y) roots old
+  given_at e s x roots old v y m k = record {
+    seen = s;
+    are_seen = m;
+    walk = gives (shown (status_in x e) v, s) (λ y. (scalar_tree y, s)) old (Ok y) (ap (λ z. (z, s)) k) tt;
+  }
+
   module _ (e : Frame) (s : List Fact) (x : Fact) (roots : List Addr) (old mid new : Trail) where
     -- what shows by a value that is given
     pub held_given : (v : V.Value) (r : Result Scalar Halt) → AreSeen w roots s → IfOk r (λ y. scalar_tree y ≡ shown (status_in x e) v) → IfErr r (λ h. h ≡ halt.NoMemory) → ReadsOne w (deref_held e s x (Given v)) new r roots new
@@ -105,6 +120,12 @@ module _ (w : World) where
         on_ok : (r : Result Scalar Halt) → AreSeen w roots s → OnOk r (AreSeen w roots s)
         on_ok (Ok x) h = h
         on_ok (Err x) h = tt
+
+    -- a constant, read where it is held
+    pub constant_read : (h : Frame) (y : Scalar) (c : V.Scalar) → AreSeen w roots s → h ≡ home e x.address → Some (Given (One c)) ≡ own_content x.content h x.address → scalar_tree y ≡ c → ReadsOne w (deref e s x) old (Ok y) roots old
+    constant_read h y c m at held is =
+        subst (λ f. ReadsOne w (own f x >>= shown_by f s x) old (Ok y) roots old) at
+        (subst (λ d. ReadsOne w (value_of h x.address d >>= shown_by h s x) old (Ok y) roots old) held (given_at h s x roots old (One c) y m is))
 
     pub shown_some : (v : Value) (p : Option Permit) (r : Result Scalar Halt) → AreSeen w roots s → p ≡ status_in x e
         → IfOk r (λ y. scalar_tree y ≡ shown p (value_tree v)) → IfErr r (λ h. h ≡ halt.NoMemory) → ReadsOne w (shown_by e s x (Some (value_tree v))) new r roots new

@@ -1,5 +1,5 @@
 -- The roots that a reference has looked at: the code keeps their addresses, the calculus their facts.
-use Rattle.std.specs.Prelude.{◌≡◌, List, Some, None, Result, OnOk, if◌then◌else◌}
+use Rattle.std.specs.Prelude.{◌≡◌, ◌++◌, ◌∷◌, [], List, Some, None, Result, Ok, Err, OnOk, IfErr, if◌then◌else◌}
 use Rattle.std.specs.List.{list_any}
 use Rattle.gl_calculus.specs.Grid.{Addr, same_addr}
 use Rattle.gl_calculus.specs.Facts.{Fact, fact, find_fact}
@@ -23,7 +23,12 @@ pub record ReadsOne (w : World) (p : Eval Reading) (old : Trail) (r : Result Sca
   pub are_seen : OnOk r (AreSeen w roots seen)
   pub walk : Walks w p (λ x. (scalar_tree x, seen)) old r new
 
--- the same in a reference of its own
+-- One scalar is read and put behind others.
+pub record ReadsOnto (w : World) (p : Eval Reading) (old : Trail) (items : List Scalar) (r : Result (Unit {0}) Halt) (more : List Scalar) (roots : List Addr) (new : Trail) : Type 0 where
+  pub ok : OnOk r ((x : Scalar) × (more ≡ items ++ x ∷ []) × ReadsOne w p old (Ok x) roots new)
+  pub err : IfErr r (λ h. ReadsOne w p old (Err h) roots new)
+
+-- one scalar is read in a reference of its own
 pub record ReadsAlone (w : World) (p : Eval Reading) (old : Trail) (r : Result Scalar Halt) (new : Trail) : Type 0 where
   pub seen : List Fact
   pub walk : Walks w p (λ x. (scalar_tree x, seen)) old r new

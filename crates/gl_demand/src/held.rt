@@ -8,7 +8,9 @@ ghost use Rattle.gl_calculus.specs.{Formula.content, Formula.Cells as Sheet, Fac
 ghost use Rattle.gl_calculus.specs.{Sound.is_sound_frame, Sound.is_sound_value};
 ghost use Rattle.gl_cells.specs.{Sheet.sheet, Content.content_tree};
 ghost use Rattle.gl_plane.specs.{Entries.offsets, Permit.permit_tree};
-ghost use Rattle.gl_value.specs.View.{value_tree, frame_tree};
+ghost use Rattle.gl_calculus.specs.Reference as R;
+ghost use Rattle.gl_calculus.specs.Value as V;
+ghost use Rattle.gl_value.specs.View.{scalar_tree, value_tree, frame_tree};
 ghost use Rattle.gl_demand.specs.Held.{held_tree, IsSoundHeld, override_in};
 
 use gl_ast::Formula;
@@ -96,6 +98,21 @@ pub fn content_in<'a>(cells: &'a Cells, env: &'a Env, a: Addr) -> Option<Held<'a
             Some(content) => Some(held_top(content)),
             None => None,
         },
+    }
+}
+
+/// The constant that is held, if it is one.
+pub fn constant_in(held: Option<Held<'_>>) -> Option<&Scalar>
+    ensures { IfSome result (λ x.
+        option_map held_tree held.entry ≡ Some (R.Held.Given (V.Value.One (scalar_tree x.now)))) }
+{
+    match held {
+        Some(held) => match held {
+            Held::Scalar(x) => Some(x),
+            Held::Value(_) => None,
+            Held::Formula(_) => None,
+        },
+        None => None,
     }
 }
 

@@ -1,25 +1,73 @@
 //! How ranges are read: their addresses in row-major order, in one reference.
-ghost use Rattle.std.specs.Prelude.{◌≡◌, ◌*◌, [], IsTrue, IfOk, IfErr, SomeIff, length, map};
+ghost use Rattle.std.specs.Prelude.{◌≡◌, ◌+◌, ◌*◌, ◌++◌, ◌∷◌, [], List, OnOk, IsTrue, IfOk, IfErr, SomeIff, length, map};
 ghost use Rattle.std.specs.Prelude.{vec_len};
 ghost use Rattle.gl_calculus.specs.Sound.{is_sound_frame, are_sound, is_size, is_sound_value};
-ghost use Rattle.gl_calculus.specs.{Grid.addresses, Grid.extents, Facts.facts};
+ghost use Rattle.gl_calculus.specs.{Grid.addresses, Grid.extents};
+ghost use Rattle.gl_calculus.specs.Facts.{Fact, fact, facts};
 ghost use Rattle.gl_calculus.specs.Reference as R;
 ghost use Rattle.gl_calculus.specs.Value as V;
 ghost use Rattle.gl_cells.specs.Sheet.{sheet};
 ghost use Rattle.gl_value.specs.View.{scalar_tree, value_tree, frame_tree, item_trees};
+ghost use Rattle.gl_demand.specs.Seen.{AreSeen, ReadsOnto};
 ghost use Rattle.gl_demand.specs.{Worlds.world_of, Walks.EndsWalk, Walks.Walks, Stopped.IsHaltIn};
 ghost use Rattle.gl_demand.specs.{declared.trail.Halt.Halt};
 ghost use Rattle.gl_ahead.specs.Reading.{Area};
 
 use crate::context::Context;
-use crate::reading::deref;
+use crate::held::{constant_in, held_at};
+use crate::reading::{shown_at, sound_home};
 use crate::trail::{Eval, Halt, Trail};
 use crate::{Ahead, Known, Reference};
-use gl_plane::{NoMemory, Range, Share, Size};
+use gl_plane::{Addr, NoMemory, Range, Share, Size};
 use gl_value::{Array, Env, Scalar, Value};
 use indexmap::IndexSet;
 use std::alloc::Global;
 use std::rc::Rc;
+
+/// Appends a scalar.
+fn push(items: &mut Vec<Scalar>, x: Scalar) -> Result<(), NoMemory>
+    ensures items { OnOk result (items.new.items ≡ items.old.items ++ x ∷ []) }
+    ensures len { OnOk result (vec_len items.new ≡ vec_len items.old + 1) }
+{
+    items.push(x)?;
+    Ok(())
+}
+
+/// Appends the scalar at an address. A constant takes the short way, since most of a range are.
+fn read_onto<K: Known>(
+    ctx: &Context<K>,
+    env: &Env,
+    a: Addr,
+    seen: &mut IndexSet<Addr>,
+    items: &mut Vec<Scalar>,
+    trail: &mut Trail,
+) -> Eval<()>
+    requires frame { IsTrue (is_sound_frame (frame_tree env.now)) }
+    ensures read { (s : List Fact)
+        → AreSeen (world_of ctx.now)
+        seen.old.keys s
+        → ReadsOnto (world_of ctx.now)
+        (R.deref (frame_tree env.now) s (fact (sheet ctx.now.cells.now) ctx.now.w.now a)) trail.old
+        items.old.items result items.new.items seen.new.keys trail.new }
+    ensures sound { OnOk result (
+        IsTrue (are_sound (item_trees items.old.items))
+        → IsTrue (are_sound (item_trees items.new.items))) }
+    ensures len { OnOk result (vec_len items.new ≡ vec_len items.old + 1) }
+{
+    let home = sound_home(env, a);
+    let held = held_at(ctx.cells, home, a);
+    if let Some(x) = constant_in(held) {
+        push(items, x.share()?)?;
+        return Ok(());
+    }
+    match shown_at(ctx, home, a, held, seen, trail) {
+        Ok(x) => {
+            push(items, x)?;
+            Ok(())
+        }
+        Err(halt) => Err(halt),
+    }
+}
 
 /// The scalars at the addresses of a range.
 fn read_range<K: Known>(
@@ -38,11 +86,8 @@ fn read_range<K: Known>(
     let mut seen = IndexSet::new(ctx.alloc);
     let mut items = Vec::new(ctx.alloc);
     for i in 0..r.cells() {
-        match deref(ctx, env, r.place(i), &mut seen, trail) {
-            Ok(x) => match items.push(x) {
-                Ok(()) => {}
-                Err(_) => return Err(Halt::NoMemory),
-            },
+        match read_onto(ctx, env, r.place(i), &mut seen, &mut items, trail) {
+            Ok(()) => {}
             Err(halt) => return Err(halt),
         }
     }

@@ -3,8 +3,9 @@ ghost use Rattle.std.specs.Prelude.{◌≡◌, Some, List, [], ◌∷◌, IsTrue
 ghost use Rattle.std.specs.Prelude.{option_map};
 ghost use Rattle.gl_calculus.specs.Facts.{Fact, fact, find_fact};
 ghost use Rattle.gl_calculus.specs.Sound.{is_sound_frame, is_sound_scalar, is_sound_value};
-ghost use Rattle.gl_calculus.specs.{Grid.single, Oracle.Cover};
+ghost use Rattle.gl_calculus.specs.{Grid.single, Oracle.Cover, Formula.content};
 ghost use Rattle.gl_calculus.specs.Reference as R;
+ghost use Rattle.gl_calculus.specs.Reference.{own_content};
 ghost use Rattle.gl_cells.specs.Sheet.{sheet};
 ghost use Rattle.gl_value.specs.View.{scalar_tree, value_tree, frame_tree};
 ghost use Rattle.gl_demand.specs.Seen.{AreSeen, ReadsOne, ReadsAlone, deref_in, deref_held};
@@ -170,6 +171,33 @@ fn shown_held<K: Known>(
     }
 }
 
+/// What an address shows in its home frame, by what it holds there.
+pub fn shown_at<K: Known>(
+    ctx: &Context<K>,
+    env: &Env,
+    a: Addr,
+    held: Option<Held>,
+    seen: &mut IndexSet<Addr>,
+    trail: &mut Trail,
+) -> Eval<Scalar>
+    requires frame { IsTrue (is_sound_frame (frame_tree env.now)) }
+    requires held { option_map held_tree held
+        ≡ own_content (content (sheet ctx.now.cells.now) a) (frame_tree env.now) a }
+    requires sound { IfSome held (λ h. IsSoundHeld (held_tree h)) }
+    ensures read { (s : List Fact)
+        → AreSeen (world_of ctx.now)
+        seen.old.keys s
+        → ReadsOne (world_of ctx.now)
+        (deref_in (frame_tree env.now) s (fact (sheet ctx.now.cells.now) ctx.now.w.now a)) trail.old
+        result seen.new.keys trail.new }
+    ensures sound { IfOk result (λ x. IsTrue (is_sound_scalar (scalar_tree x))) }
+{
+    match held {
+        Some(held) => shown_held(ctx, env, a, &held, seen, trail),
+        None => covered(ctx, env, a, seen, trail),
+    }
+}
+
 /// The scalar at an address of the frame's region.
 fn deref_home<K: Known>(
     ctx: &Context<K>,
@@ -187,10 +215,7 @@ fn deref_home<K: Known>(
         result seen.new.keys trail.new }
     ensures sound { IfOk result (λ x. IsTrue (is_sound_scalar (scalar_tree x))) }
 {
-    match held_at(ctx.cells, env, a) {
-        Some(held) => shown_held(ctx, env, a, &held, seen, trail),
-        None => covered(ctx, env, a, seen, trail),
-    }
+    shown_at(ctx, env, a, held_at(ctx.cells, env, a), seen, trail)
 }
 
 /// The scalar at an address, which is read in its home frame.

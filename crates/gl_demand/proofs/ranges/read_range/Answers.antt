@@ -7,7 +7,7 @@ use Rattle.gl_cells.specs.Sheet.{sheet}
 use Rattle.gl_value.specs.View.{frame_tree, item_trees}
 use Rattle.gl_demand.specs.Walk.{world}
 use Rattle.gl_demand.proofs.Counting.{drop_at}
-use Rattle.gl_demand.proofs.ReadingOn.{still_sound, read_none, read_more, read_halts, read_all}
+use Rattle.gl_demand.proofs.ReadingOn.{read_none, read_more, read_halts, read_all}
 use Rattle.gl_demand.proofs.ranges.read_range.Goals as goal
 
 pub loop-i-init : goal.loop-i-init
@@ -27,11 +27,12 @@ loop-i-preserved g c =
     let all = addresses c.args.r.now in
     let rest = drop (c.loop-i.i + 1) all in
     let far = c.loop-i.invariant.far in
+    let one = (c.in-Ok.ensures.read far.seen far.are_seen).ok in
     record {
-      far = read_more w e (map f all) c.args.trail.now (f c.place.result) (map f rest) (map f (drop c.loop-i.i all)) c.loop-i.seen.keys c.deref.new.seen.keys c.loop-i.items.items c.push.new.self.items c.loop-i.trail c.deref.new.trail far
-          (ap (map f) (drop_at all c.loop-i.i c.place.result c.place.ensures)) c.in-Ok.x (c.in-Ok.ensures.read far.seen far.are_seen) c.in-Ok-push.ensures.items;
-      sound = still_sound c.loop-i.items.items c.push.new.self.items c.in-Ok.x c.in-Ok-push.ensures.items c.loop-i.invariant.sound c.in-Ok.ensures.sound;
-      count = omega (arith, c.in-Ok-push.ensures.len, c.loop-i.invariant.count);
+      far = read_more w e (map f all) c.args.trail.now (f c.place.result) (map f rest) (map f (drop c.loop-i.i all)) c.loop-i.seen.keys c.read_onto.new.seen.keys c.loop-i.items.items c.read_onto.new.items.items c.loop-i.trail c.read_onto.new.trail far
+          (ap (map f) (drop_at all c.loop-i.i c.place.result c.place.ensures)) one.0 one.2 one.1;
+      sound = c.in-Ok.ensures.sound c.loop-i.invariant.sound;
+      count = omega (arith, c.in-Ok.ensures.len, c.loop-i.invariant.count);
     }
 
 pub returns-in-Err-clause-walk : goal.returns-in-Err-clause-walk
@@ -42,8 +43,8 @@ returns-in-Err-clause-walk g c =
     let all = addresses c.args.r.now in
     let rest = drop (c.loop-i.i + 1) all in
     let far = c.loop-i.invariant.far in
-    read_halts w e (map f all) c.args.trail.now (f c.place.result) (map f rest) (map f (drop c.loop-i.i all)) c.loop-i.seen.keys c.deref.new.seen.keys c.loop-i.items.items c.loop-i.items.items c.loop-i.trail c.deref.new.trail far
-    (ap (map f) (drop_at all c.loop-i.i c.place.result c.place.ensures)) c.in-Err.halt (c.in-Err.ensures.read far.seen far.are_seen)
+    read_halts w e (map f all) c.args.trail.now (f c.place.result) (map f rest) (map f (drop c.loop-i.i all)) c.loop-i.seen.keys c.read_onto.new.seen.keys c.loop-i.items.items c.loop-i.items.items c.loop-i.trail c.read_onto.new.trail far
+    (ap (map f) (drop_at all c.loop-i.i c.place.result c.place.ensures)) c.in-Err.halt (c.in-Err.ensures.read far.seen far.are_seen).err
 
 pub returns-clause-walk : goal.returns-clause-walk
 returns-clause-walk g c =
