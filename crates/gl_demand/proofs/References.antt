@@ -8,7 +8,7 @@ use Rattle.gl_calculus.specs.Value.{Frame, Permit, One}
 use Rattle.gl_calculus.specs.Oracle.{Cover}
 use Rattle.gl_calculus.specs.Facts.{Fact, fact, find_fact}
 use Rattle.gl_calculus.specs.Key.{Eval, give, ◌>>=◌}
-use Rattle.gl_calculus.specs.Reference.{Held, Given, Reading, seen_or_looked, home, own_content, value_of, own, spilled, shown, shown_by, status_in, covered, deref, at_address}
+use Rattle.gl_calculus.specs.Reference.{Held, Given, Reading, seen_or_looked, home, own_content, value_of, own, spilled, shown, shown_by, status_in, cover_in, covered, deref, at_address}
 use Rattle.gl_calculus.proofs.Proper.{fact_at_single}
 use Rattle.gl_plane.specs.Entries.{offsets}
 use Rattle.gl_value.specs.View.{scalar_tree, value_tree}
@@ -126,6 +126,17 @@ module _ (w : World) where
     constant_read h y c m at held is =
         subst (λ f. ReadsOne w (own f x >>= shown_by f s x) old (Ok y) roots old) at
         (subst (λ d. ReadsOne w (value_of h x.address d >>= shown_by h s x) old (Ok y) roots old) held (given_at h s x roots old (One c) y m is))
+
+    -- a blank, read where nothing is held
+    pub blank_read : (h : Frame) (y : Scalar) → AreSeen w roots s → h ≡ home e x.address → None ≡ own_content x.content h x.address → None ≡ cover_in x h → scalar_tree y ≡ V.Blank → ReadsOne w (deref e s x) old (Ok y) roots old
+    blank_read h y m at held cover is =
+        subst (λ f. ReadsOne w (own f x >>= shown_by f s x) old (Ok y) roots old) at
+        (subst (λ d. ReadsOne w (value_of h x.address d >>= shown_by h s x) old (Ok y) roots old) held
+        (subst (λ c. ReadsOne w (covered h s c) old (Ok y) roots old) cover (record {
+          seen = s;
+          are_seen = m;
+          walk = gives (V.Blank, s) (λ z. (scalar_tree z, s)) old (Ok y) (ap (λ z. (z, s)) is) tt;
+        })))
 
     pub shown_some : (v : Value) (p : Option Permit) (r : Result Scalar Halt) → AreSeen w roots s → p ≡ status_in x e
         → IfOk r (λ y. scalar_tree y ≡ shown p (value_tree v)) → IfErr r (λ h. h ≡ halt.NoMemory) → ReadsOne w (shown_by e s x (Some (value_tree v))) new r roots new

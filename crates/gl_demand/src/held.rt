@@ -1,5 +1,5 @@
 //! What an address holds in a frame.
-ghost use Rattle.std.specs.Prelude.{◌≡◌, IsTrue, Some, IfSome, option_map};
+ghost use Rattle.std.specs.Prelude.{◌≡◌, IsTrue, None, Some, IfSome, option_map};
 ghost use Rattle.std.specs.Option.{option_copied};
 ghost use Rattle.gl_language.specs.Content.{IsProperContent};
 ghost use Rattle.gl_calculus.specs.Reference.{own_content, content_in, held_top, home, in_region};
@@ -162,5 +162,20 @@ pub fn cover_in(w: &Oracle, env: &Env, a: Addr) -> Option<(Addr, u16, u16)>
     match env {
         Env::Top => w.cover(a),
         Env::In(_, o) => o.cover(a),
+    }
+}
+
+/// An address that holds this shows a blank: it holds nothing, and no root spills over it.
+pub fn is_blank(w: &Oracle, env: &Env, a: Addr, held: Option<Held>) -> bool
+    ensures held { IsTrue result → option_map held_tree held.entry ≡ None }
+    ensures cover { IsTrue result
+        → (S : Sheet) → cover_in (fact S w.now a) (frame_tree env.now) ≡ None }
+{
+    match held {
+        Some(_) => false,
+        None => match cover_in(w, env, a) {
+            Some(_) => false,
+            None => true,
+        },
     }
 }

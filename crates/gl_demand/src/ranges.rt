@@ -14,7 +14,7 @@ ghost use Rattle.gl_demand.specs.{declared.trail.Halt.Halt};
 ghost use Rattle.gl_ahead.specs.Reading.{Area};
 
 use crate::context::Context;
-use crate::held::{constant_in, held_at};
+use crate::held::{constant_in, held_at, is_blank};
 use crate::reading::{shown_at, sound_home};
 use crate::trail::{Eval, Halt, Trail};
 use crate::{Ahead, Known, Reference};
@@ -33,7 +33,8 @@ fn push(items: &mut Vec<Scalar>, x: Scalar) -> Result<(), NoMemory>
     Ok(())
 }
 
-/// Appends the scalar at an address. A constant takes the short way, since most of a range are.
+/// Appends the scalar at an address. Constants and blanks, of which most ranges are, take the short
+/// way.
 fn read_onto<K: Known>(
     ctx: &Context<K>,
     env: &Env,
@@ -58,6 +59,10 @@ fn read_onto<K: Known>(
     let held = held_at(ctx.cells, home, a);
     if let Some(x) = constant_in(held) {
         push(items, x.share()?)?;
+        return Ok(());
+    }
+    if is_blank(ctx.w, home, a, held) {
+        push(items, Scalar::Blank)?;
         return Ok(());
     }
     match shown_at(ctx, home, a, held, seen, trail) {

@@ -1,12 +1,14 @@
-use Rattle.std.proofs.Common.{◌∙◌, Ok, Err, sym, subst, IsTrue}
+use Rattle.std.proofs.Common.{refl, ◌∙◌, Ok, Err, sym, subst, IsTrue}
 use Rattle.gl_calculus.specs.Facts.{fact}
 use Rattle.gl_calculus.specs.Sound.{is_sound_scalar}
 use Rattle.gl_cells.specs.Sheet.{sheet}
+use Rattle.gl_value.specs.Forms.{scalar_tree-Blank}
 use Rattle.gl_value.specs.View.{frame_tree, scalar_tree}
+use Rattle.gl_value.specs.declared.Scalar.TheVariants as S
 use Rattle.gl_demand.specs.Seen.{ReadsOne, deref_in}
 use Rattle.gl_demand.specs.Walk.{world}
 use Rattle.gl_demand.proofs.ReadingOn.{still_sound}
-use Rattle.gl_demand.proofs.References.{constant_read, held_sound}
+use Rattle.gl_demand.proofs.References.{blank_read, constant_read, held_sound}
 use Rattle.gl_demand.proofs.ranges.read_onto.Goals as goal
 
 pub returns-in-Some-clause-read : goal.returns-in-Some-clause-read
@@ -45,3 +47,21 @@ returns-in-Err-clause-read g c =
       ok = tt;
       err = subst (λ e. ReadsOne w (deref_in e s x) c.args.trail.now (Err c.in-Err.halt) c.shown_at.new.seen.keys c.shown_at.new.trail) c.sound_home-home.ensures.value (c.in-Err.ensures.read s h);
     }
+
+pub returns-then-is_blank-clause-read : goal.returns-then-is_blank-clause-read
+returns-then-is_blank-clause-read g c =
+    let w = world (sheet c.args.ctx.now.cells.now) c.args.ctx.now.w.now (g.K.Known.outcomes c.args.ctx.now.known.now) in
+    let x = fact (sheet c.args.ctx.now.cells.now) c.args.ctx.now.w.now c.args.a in
+    let t = c.args.trail.now in
+    λ s h. record {
+      ok = (
+        S.Blank,
+        c.in_ok-push-2.ensures.items,
+        blank_read w (frame_tree c.args.env.now) s x c.args.seen.now.keys t t t (frame_tree c.sound_home-home.result.now) S.Blank h c.sound_home-home.ensures.value
+            (sym (c.is_blank.ensures.held c.if-is_blank.true) ∙ c.held_at-held.ensures.value) (sym (c.is_blank.ensures.cover c.if-is_blank.true (sheet c.args.ctx.now.cells.now))) scalar_tree-Blank,
+      );
+      err = tt;
+    }
+
+pub returns-then-is_blank-clause-sound : goal.returns-then-is_blank-clause-sound
+returns-then-is_blank-clause-sound g c = λ k. still_sound c.args.items.now.items c.push-then-is_blank.new.items.items S.Blank c.in_ok-push-2.ensures.items k (subst (λ z. IsTrue (is_sound_scalar z)) (sym scalar_tree-Blank) refl)
