@@ -14,6 +14,7 @@ use crate::index::{forget, give_place, place_in, put};
 use gl_demand::{Key, Outcome};
 use gl_plane::{Changes, NoMemory, Range, Share};
 use gl_support::{Row, keep_unmarked, mark};
+use gl_value::Env;
 use std::alloc::Global;
 
 /// The most notes of a ledger.
@@ -45,6 +46,15 @@ fn number_rows(places: &mut Vec<u32>, rows: &[Row<Outcome, Range>])
     forget(places);
     for r in 0..rows.len() {
         put(places, rows[r].by, r);
+    }
+}
+
+/// The key is that of a cell of the sheet.
+fn is_top(key: &Key) -> bool {
+    match key {
+        Key::Cell(Env::Top, _) => true,
+        Key::Cell(Env::In(_, _), _) => false,
+        Key::Settle(_) => false,
     }
 }
 
@@ -83,7 +93,25 @@ impl Ledger {
         self.book.number(key)
     }
 
-    /// The numbers of keys, which get some where they have none.
+    /// The number of a key, which at a cell of the sheet is likely to be this one, and which gets one
+    /// where it has none. In copies a comparison is a walk, and guesses go by words.
+    fn number_near(&mut self, guess: u32, key: &Key) -> Result<u32, NoMemory>
+        requires kept { IsLedger self.old }
+        requires sound { IsTrue (is_sound_key (key_tree key.now)) }
+        ensures number { IfOk result (λ n. slice_get self.new.book n ≡ Some (key_tree key.now)) }
+        ensures grows { Grows self.old.book self.new.book }
+        ensures rows { self.new.rows.items ≡ self.old.rows.items }
+        ensures kept { IsLedger self.new }
+    {
+        if is_top(key) && self.book.is_at(guess as usize, key) {
+            return Ok(guess);
+        }
+        let key = key.share()?;
+        self.number(key)
+    }
+
+    /// The numbers of keys, which get some where they have none. They mostly stand side by side,
+    /// since those of a range do.
     pub fn numbers(&mut self, alloc: Global, keys: &[Key]) -> Result<Vec<u32>, NoMemory>
         requires kept { IsLedger self.old }
         requires sound { AreSoundKeys (map key_tree keys.now) }
@@ -94,10 +122,11 @@ impl Ledger {
         ensures kept { IsLedger self.new }
     {
         let mut numbers = Vec::new(alloc);
+        let mut next = 0u32;
         for key in keys {
-            let key = key.share()?;
-            let n = self.number(key)?;
+            let n = self.number_near(next, key)?;
             numbers.push(n)?;
+            next = n.wrapping_add(1);
         }
         Ok(numbers)
     }
