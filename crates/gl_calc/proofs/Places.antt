@@ -14,7 +14,8 @@ use Rattle.gl_calculus.proofs.Grants.{Before, before_of, of_before, before_trans
 use Rattle.gl_protocol.specs.Commands.{with_content, with_contents, without}
 use Rattle.gl_plane.proofs.Search.{other_side}
 use Rattle.gl_plane.specs.contracts.addr.AddrOrd.TheImpl.{ghosts as addr}
-use Rattle.gl_calc.specs.Places.{ArePlaces, is_formula}
+use Rattle.gl_cells.specs.Content.{is_formula}
+use Rattle.gl_calc.specs.Places.{ArePlaces}
 use Rattle.gl_calc.proofs.Formulas.{order_tail, after_head, formula_member}
 
 -- ---- two addresses in order

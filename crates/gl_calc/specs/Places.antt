@@ -1,13 +1,9 @@
 -- The addresses of the formulas, from one calculation to the next.
-use Rattle.std.specs.Prelude.{◌≡◌, Bool, true, false, Option, Vec, IfSome}
+use Rattle.std.specs.Prelude.{◌≡◌, Option, Vec, IfSome}
 use Rattle.std.specs.declared.alloc.Global.{Global}
 use Rattle.gl_calculus.specs.Grid.{Addr}
-use Rattle.gl_calculus.specs.Formula.{Content, Const, Form, Cells, formula_addresses}
+use Rattle.gl_calculus.specs.Formula.{Cells, formula_addresses}
 
 -- the addresses of the formulas, where they are known
 abbrev pub ArePlaces : Cells → Option (Vec Addr Global) → Type 0
 ArePlaces S places = IfSome places (λ v. v.items ≡ formula_addresses S)
-
-abbrev pub is_formula : Content → Bool
-is_formula (Const x) = false
-is_formula (Form f) = true

@@ -20,9 +20,7 @@ use crate::calculating::calculate;
 use crate::ending::Answered;
 use crate::holding::{earlier_tables, held_after, parted, same_version, standing, table_of};
 use crate::marking::{mark_all, mark_in, places_of};
-use crate::placing::{
-    is_formula, known_places, places_with, places_with_all, places_without, while_few,
-};
+use crate::placing::{known_places, places_with, places_with_all, places_without, while_few};
 use crate::reasons::why_at;
 use crate::showing::shown_at;
 use crate::table::Table;
@@ -131,7 +129,7 @@ impl Calc {
         let Ok(()) = self.touched.reserve(room) else {
             return Err(PutFault::NoMemory);
         };
-        let formula = is_formula(&c);
+        let formula = c.is_formula();
         match self.cells.put(a, c) {
             Ok(()) => {
                 self.touched.push_reserved(a);

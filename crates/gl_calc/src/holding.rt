@@ -1,16 +1,14 @@
 //! What a calculator holds and remembers from one calculation to the next.
-ghost use Rattle.std.specs.Prelude.{◌≡◌, [], None, IsSome, Bool, true, if◌then◌else◌, option_map};
+ghost use Rattle.std.specs.Prelude.{◌≡◌, [], None, IsSome, true, if◌then◌else◌};
 ghost use Rattle.std.specs.Prelude.{option_copied};
-ghost use Rattle.gl_calculus.specs.Formula.{Cells as Sheet};
 ghost use Rattle.gl_calculus.specs.Memory as M;
 ghost use Rattle.gl_ast.specs.View.{version_tree};
-ghost use Rattle.gl_calc.specs.Held.{table_of, answer_of, IsKept, Parts, held_by};
+ghost use Rattle.gl_calc.specs.Held.{table_of, Parts, held_by};
 
 use crate::Answer;
 use crate::ending::{Answered, Ended};
 use crate::table::Table;
 use gl_ast::Version;
-use gl_plane::{Addr, NoMemory};
 use std::alloc::Global;
 
 /// Whether the versions are the same.

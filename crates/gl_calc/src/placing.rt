@@ -6,8 +6,8 @@ ghost use Rattle.gl_calculus.specs.Grid.{covers};
 ghost use Rattle.gl_calculus.specs.Formula.{Cells as Sheet, Content as Plain};
 ghost use Rattle.gl_calculus.specs.Formula.{IsSheet, formula_addresses};
 ghost use Rattle.gl_protocol.specs.Commands.{with_content, with_contents, without};
-ghost use Rattle.gl_cells.specs.{Content.content_tree, Sheet.sheet};
-ghost use Rattle.gl_calc.specs.Places.{ArePlaces, is_formula};
+ghost use Rattle.gl_cells.specs.{Content.is_formula, Sheet.sheet};
+ghost use Rattle.gl_calc.specs.Places.{ArePlaces};
 
 use gl_cells::{Cells, Content};
 use gl_plane::{Addr, NoMemory, Range};
@@ -80,13 +80,6 @@ fn put_place(places: Vec<Addr>, a: Addr, formula: bool) -> Option<Vec<Addr>>
     }
 }
 
-/// The content is a formula.
-pub fn is_formula(content: &Content) -> bool
-    ensures { result ≡ is_formula (content_tree content.now) }
-{
-    matches!(content, Content::Form(_))
-}
-
 /// The addresses after a content was put at one, a formula or not, where they were known before.
 pub fn places_with(places: Option<Vec<Addr>>, a: Addr, formula: bool) -> Option<Vec<Addr>>
     ensures { (S : Sheet) (c : Plain)
@@ -110,7 +103,7 @@ pub fn places_with_all(places: Option<Vec<Addr>>, list: &[(Addr, Content)]) -> O
 {
     let mut places = places;
     for (a, content) in list {
-        places = places_with(places, *a, is_formula(content));
+        places = places_with(places, *a, content.is_formula());
     }
     places
 }

@@ -30,7 +30,7 @@ pub struct Base {
 }
 
 impl Model for Tables {
-    ghost use Rattle.std.specs.Prelude.{◌≤◌, length, vec_capacity};
+    ghost use Rattle.std.specs.Prelude.{◌≤◌, vec_capacity};
     ghost use Rattle.std.specs.{Coded.codes, Vec.Iter.into_iter_items};
     ghost use Rattle.gl_calculus.specs.{Codes.coded_table, Limits.kept_rounds};
     ghost use Rattle.gl_calc.specs.Progress.{Progress};

@@ -1,6 +1,7 @@
 -- How the list of contents changes with the addresses and with what they hold.
-use Rattle.std.proofs.Common.{suc, ◌≡◌, ◌∙◌, Bool, true, false, cond, List, [], ◌∷◌, length, Option, None, Some, refl, sym, ap, subst, is_some}
+use Rattle.std.proofs.Common.{suc, ◌≡◌, ◌∙◌, Bool, true, false, cond, List, [], ◌∷◌, filter, length, Option, None, Some, refl, sym, ap, subst, is_some}
 use Rattle.std.specs.Prelude.{◌||◌}
+use Rattle.std.proofs.lemmas.Map.Entries.{length-keys_of}
 use Rattle.std.proofs.lemmas.Map.Keys.{sorted_head, sorted_tail}
 use Rattle.std.specs.BTreeMap.{insert_entry, is_at}
 use Rattle.std.specs.BTreeSet.{insert_key}
@@ -12,10 +13,14 @@ use Rattle.std.specs.Ordering.{match_ordering, is_eq}
 use Rattle.std.specs.Set.{remove_key}
 use Rattle.std.specs.declared.cmp.Ordering.{Ordering}
 use Rattle.std.specs.declared.cmp.Ordering.TheVariants.{Less, Equal, Greater}
+use Rattle.gl_calculus.specs.Formula.{formula_addresses}
 use Rattle.gl_calculus.specs.Grid.{Addr, same_addr}
 use Rattle.gl_cells.specs.declared.content.Content.{Content}
-use Rattle.gl_cells.specs.Sheet.{Table, addr_cmp}
-use Rattle.gl_cells.specs.Listed.{entry_before, listed, IsListed}
+use Rattle.gl_cells.specs.declared.content.Content.TheVariants.{Const, Form}
+use Rattle.gl_cells.specs.Content.{content_tree, is_formula}
+use Rattle.gl_cells.specs.Sheet.{Table, addr_cmp, sheet}
+use Rattle.gl_cells.specs.Listed.{entry_before, kind, listed, IsListed}
+use Rattle.gl_cells.proofs.Steps.{absent_below}
 use Rattle.gl_cells.proofs.TableLemmas.{addr_exact, addr_total, at_same}
 
 -- what passes the test of an address is that address
@@ -33,6 +38,49 @@ itself a = ap is_eq (tied_itself addr_total a)
 pub none_from : (o : Option Content) → is_some o ≡ false → o ≡ None
 none_from None h = refl
 none_from (Some c) h = let no : true ≡ false = h in cc
+
+-- where no kind is told, there is no content
+pub none_told : (o : Option Content) → kind o ≡ None → o ≡ None
+none_told None h = refl
+none_told (Some c) h = let no : Some (is_formula (content_tree c)) ≡ None = h in cc
+
+-- a kind is told where there is a content
+pub some_kind : (o : Option Content) → is_some (kind o) ≡ is_some o
+some_kind None = refl
+some_kind (Some c) = refl
+
+-- an address is in the order where its kind is told
+told_listed : (test : Addr → Bool) (ks : List (Addr × Bool)) → is_some (lookup test ks) ≡ list_any test (keys_of ks)
+told_listed test [] = refl
+told_listed test (k ∷ ks) = by (test k.0) (told_listed test ks)
+  where
+    by : (b : Bool) → is_some (lookup test ks) ≡ list_any test (keys_of ks) → is_some (cond b (Some k.1) (lookup test ks)) ≡ b || list_any test (keys_of ks)
+    by true h = refl
+    by false h = h
+
+-- the addresses that hold a content are those of the order
+pub present : (f : Addr → Option Content) (ks : List (Addr × Bool)) → IsListed f ks → (q : Addr) → is_some (f q) ≡ list_any (is_at (addr_cmp q)) (keys_of ks)
+present f ks h q = sym (some_kind (f q)) ∙ ap is_some (h.same q) ∙ told_listed (is_at (addr_cmp q)) ks
+
+-- the order with one more address, or with another kind at one
+pub keys_insert : (ks : List (Addr × Bool)) (a : Addr) (b : Bool) → keys_of (insert_entry addr_cmp ks a b) ≡ insert_key addr_cmp (keys_of ks) a
+keys_insert [] a b = refl
+keys_insert (k ∷ ks) a b = by (addr_cmp a k.0) (keys_insert ks a b)
+  where
+    by : (r : Ordering) → keys_of (insert_entry addr_cmp ks a b) ≡ insert_key addr_cmp (keys_of ks) a
+        → keys_of (match_ordering r ((a, b) ∷ k ∷ ks) ((k.0, b) ∷ ks) (k ∷ insert_entry addr_cmp ks a b)) ≡ match_ordering r (a ∷ k.0 ∷ keys_of ks) (k.0 ∷ keys_of ks) (k.0 ∷ insert_key addr_cmp (keys_of ks) a)
+    by Less h = refl
+    by Equal h = refl
+    by Greater h = ap (λ qs. k.0 ∷ qs) h
+
+-- the order without an address
+pub keys_remove : (test : Addr → Bool) (ks : List (Addr × Bool)) → keys_of (remove_entry test ks) ≡ remove_key test (keys_of ks)
+keys_remove test [] = refl
+keys_remove test (k ∷ ks) = by (test k.0) (keys_remove test ks)
+  where
+    by : (b : Bool) → keys_of (remove_entry test ks) ≡ remove_key test (keys_of ks) → keys_of (cond b ks (k ∷ remove_entry test ks)) ≡ cond b (keys_of ks) (k.0 ∷ remove_key test (keys_of ks))
+    by true h = refl
+    by false h = ap (λ qs. k.0 ∷ qs) h
 
 module _ (f : Addr → Option Content) where
   -- the list finds what an address holds
@@ -67,8 +115,8 @@ module _ (f : Addr → Option Content) where
       later true c k = refl
       later false c k = k
 
-  pub held : (qs : List Addr) → IsListed f qs → AllByRecursion (λ q. is_some (f q) ≡ true) qs
-  held qs h = all_held qs (λ q k. h.same q ∙ k)
+  pub held : (ks : List (Addr × Bool)) → IsListed f ks → AllByRecursion (λ q. is_some (f q) ≡ true) (keys_of ks)
+  held ks h = all_held (keys_of ks) (λ q k. present f ks h q ∙ k)
 
   some_entry : (q : Addr) (es : Table) → is_some (f q) ≡ true → (P : Table → Type 0) → ((c : Content) → f q ≡ Some c → P ((q, c) ∷ es)) → P (entry_before q (f q) es)
   some_entry q es h P g = by (f q) refl
@@ -82,23 +130,54 @@ module _ (f : Addr → Option Content) where
   keys_listed [] h = refl
   keys_listed (q ∷ qs) h = some_entry q (listed f qs) h.0 (λ es. keys_of es ≡ q ∷ qs) (λ c k. ap (λ ps. q ∷ ps) (keys_listed qs h.1))
 
-  pub length_listed : (qs : List Addr) → IsListed f qs → length (listed f qs) ≡ length qs
-  length_listed qs h = by qs (held qs h)
+  pub length_listed : (ks : List (Addr × Bool)) → IsListed f ks → length (listed f (keys_of ks)) ≡ length ks
+  length_listed ks h = by (keys_of ks) (held ks h) ∙ length-keys_of ks
     where
       by : (qs : List Addr) → AllByRecursion (λ q. is_some (f q) ≡ true) qs → length (listed f qs) ≡ length qs
       by [] all = refl
       by (q ∷ qs) all = some_entry q (listed f qs) all.0 (λ es. length es ≡ length (q ∷ qs)) (λ c k. ap suc (by qs all.1))
 
-  pub sorted_listed : (qs : List Addr) → IsListed f qs → IsStrictlySortedBy addr_cmp (keys_of (listed f qs))
-  sorted_listed qs h = subst (IsStrictlySortedBy addr_cmp) (sym (keys_listed qs (held qs h))) h.ordered
+  pub sorted_listed : (ks : List (Addr × Bool)) → IsListed f ks → IsStrictlySortedBy addr_cmp (keys_of (listed f (keys_of ks)))
+  sorted_listed ks h = subst (IsStrictlySortedBy addr_cmp) (sym (keys_listed (keys_of ks) (held ks h))) h.ordered
 
   -- the same, by a list that is shown equal
-  pub seen_listed : (qs : List Addr) (a : Addr) {es : Table} → IsListed f qs → listed f qs ≡ es → lookup (is_at (addr_cmp a)) es ≡ f a
-  seen_listed qs a h e = ap (λ (xs : Table). lookup (is_at (addr_cmp a)) xs) (sym e) ∙ lookup_listed qs a (h.same a)
+  pub seen_listed : (ks : List (Addr × Bool)) (a : Addr) {es : Table} → IsListed f ks → listed f (keys_of ks) ≡ es → lookup (is_at (addr_cmp a)) es ≡ f a
+  seen_listed ks a h e = ap (λ (xs : Table). lookup (is_at (addr_cmp a)) xs) (sym e) ∙ lookup_listed (keys_of ks) a (present f ks h a)
 
   -- the list finds exactly the addresses of the order
-  pub is_listed : (qs : List Addr) (q : Addr) {es : Table} → IsListed f qs → listed f qs ≡ es → is_some (lookup (is_at (addr_cmp q)) es) ≡ list_any (is_at (addr_cmp q)) qs
-  is_listed qs q h e = ap is_some (seen_listed qs q h e) ∙ h.same q
+  pub is_listed : (ks : List (Addr × Bool)) (q : Addr) {es : Table} → IsListed f ks → listed f (keys_of ks) ≡ es → kind (lookup (is_at (addr_cmp q)) es) ≡ lookup (is_at (addr_cmp q)) ks
+  is_listed ks q h e = ap kind (seen_listed ks q h e) ∙ h.same q
+
+  -- each address of the order tells the kind of its content
+  abbrev Told : List (Addr × Bool) → Type 0
+  Told ks = AllByRecursion (λ k. kind (f k.0) ≡ Some k.1) ks
+
+  told : (ks : List (Addr × Bool)) → IsStrictlySortedBy addr_cmp (keys_of ks) → ((q : Addr) (b : Bool) → lookup (is_at (addr_cmp q)) ks ≡ Some b → kind (f q) ≡ Some b) → Told ks
+  told [] sorted h = tt
+  told (k ∷ ks) sorted h = (h k.0 k.1 (ap (λ b. cond b (Some k.1) (lookup (is_at (addr_cmp k.0)) ks)) (itself k.0)), told ks (sorted_tail addr_cmp k.0 (keys_of ks) sorted) (λ q b found. h q b (by q b found (is_at (addr_cmp q) k.0) refl)))
+    where
+      by : (q : Addr) (b : Bool) → lookup (is_at (addr_cmp q)) ks ≡ Some b → (s : Bool) → is_at (addr_cmp q) k.0 ≡ s → cond (is_at (addr_cmp q) k.0) (Some k.1) (lookup (is_at (addr_cmp q)) ks) ≡ Some b
+      by q b found false i = ap (λ s. cond s (Some k.1) (lookup (is_at (addr_cmp q)) ks)) i ∙ found
+      by q b found true i =
+          let none = ap (λ (a : Addr). lookup (is_at (addr_cmp a)) ks) (exact q k.0 i) ∙ absent_below k.0 ks (sorted_head addr_cmp k.0 (keys_of ks) sorted) in
+          let no : None ≡ Some b = sym none ∙ found in
+          cc
+
+  -- the addresses that are told to hold a formula are those of the list
+  pub formulas_told : (ks : List (Addr × Bool)) {es : Table} → IsListed f ks → listed f (keys_of ks) ≡ es → keys_of (filter (λ k. k.1) ks) ≡ formula_addresses (sheet es)
+  formulas_told ks h e = by ks (told ks h.ordered (λ q b found. h.same q ∙ found)) ∙ ap (λ (xs : Table). formula_addresses (sheet xs)) e
+    where
+      one : (q : Addr) (b : Bool) (ks : List (Addr × Bool)) (es : Table) (o : Option Content) → kind o ≡ Some b → keys_of (filter (λ k. k.1) ks) ≡ formula_addresses (sheet es)
+          → keys_of (filter (λ k. k.1) ((q, b) ∷ ks)) ≡ formula_addresses (sheet (entry_before q o es))
+      one q b ks es None k h = let no : None ≡ Some b = k in cc
+      one q true ks es (Some (Form x)) k h = ap (λ qs. q ∷ qs) h
+      one q false ks es (Some (Form x)) k h = let no : Some true ≡ Some false = k in cc
+      one q true ks es (Some (Const x)) k h = let no : Some false ≡ Some true = k in cc
+      one q false ks es (Some (Const x)) k h = h
+
+      by : (ks : List (Addr × Bool)) → Told ks → keys_of (filter (λ k. k.1) ks) ≡ formula_addresses (sheet (listed f (keys_of ks)))
+      by [] all = refl
+      by (k ∷ ks) all = one k.0 k.1 ks (listed f (keys_of ks)) (f k.0) all.0 (by ks all.1)
 
 module _ (f g : Addr → Option Content) where
   -- what is held tells the list
@@ -175,16 +254,16 @@ module _ (f g : Addr → Option Content) (a : Addr) (w : Option Content) (writes
   kept q h = writes q ∙ ap (λ b. cond b w (f q)) (sym (at_same a q) ∙ h)
 
   -- the order has the address where it is written, and no longer where it is taken
-  pub listed_then : (qs ps : List Addr) → IsListed f qs → IsStrictlySortedBy addr_cmp ps
-      → ((q : Addr) → list_any (is_at (addr_cmp q)) ps ≡ cond (is_at (addr_cmp a) q) (is_some w) (list_any (is_at (addr_cmp q)) qs)) → IsListed g ps
-  listed_then qs ps h sorted has = record {
+  pub listed_then : (ks ps : List (Addr × Bool)) → IsListed f ks → IsStrictlySortedBy addr_cmp (keys_of ps)
+      → ((q : Addr) → lookup (is_at (addr_cmp q)) ps ≡ cond (is_at (addr_cmp a) q) (kind w) (lookup (is_at (addr_cmp q)) ks)) → IsListed g ps
+  listed_then ks ps h sorted has = record {
     ordered = sorted;
     same = λ q. by q (is_at (addr_cmp a) q) refl;
   }
     where
-      by : (q : Addr) (b : Bool) → is_at (addr_cmp a) q ≡ b → is_some (g q) ≡ list_any (is_at (addr_cmp q)) ps
-      by q true k = ap (λ x. is_some (g x)) (sym (exact a q k)) ∙ ap is_some written ∙ ap (λ b. cond b (is_some w) (list_any (is_at (addr_cmp q)) qs)) (sym k) ∙ sym (has q)
-      by q false k = ap is_some (kept q k) ∙ h.same q ∙ ap (λ b. cond b (is_some w) (list_any (is_at (addr_cmp q)) qs)) (sym k) ∙ sym (has q)
+      by : (q : Addr) (b : Bool) → is_at (addr_cmp a) q ≡ b → kind (g q) ≡ lookup (is_at (addr_cmp q)) ps
+      by q true k = ap (λ x. kind (g x)) (sym (exact a q k)) ∙ ap kind written ∙ ap (λ b. cond b (kind w) (lookup (is_at (addr_cmp q)) ks)) (sym k) ∙ sym (has q)
+      by q false k = ap kind (kept q k) ∙ h.same q ∙ ap (λ b. cond b (kind w) (lookup (is_at (addr_cmp q)) ks)) (sym k) ∙ sym (has q)
 
 -- what is written at an address that held nothing, and taken again, leaves what was
 pub taken_back : (f g h : Addr → Option Content) (a : Addr) (c : Content) → f a ≡ None → Writes f g a (Some c) → Writes g h a None → (q : Addr) → h q ≡ f q
@@ -195,8 +274,8 @@ taken_back f g h a c none writes takes q = by (is_at (addr_cmp a) q) refl
     by false k = kept g h a None takes q k ∙ kept f g a (Some c) writes q k
 
 -- a list that is held as before
-pub listed_still : (f g : Addr → Option Content) (qs ps : List Addr) → ((q : Addr) → g q ≡ f q) → ps ≡ qs → IsListed f qs → IsListed g ps
-listed_still f g qs ps h e l = record {
-  ordered = subst (IsStrictlySortedBy addr_cmp) (sym e) l.ordered;
-  same = λ q. ap is_some (h q) ∙ l.same q ∙ ap (list_any (is_at (addr_cmp q))) (sym e);
+pub listed_still : (f g : Addr → Option Content) (ks ps : List (Addr × Bool)) → ((q : Addr) → g q ≡ f q) → ps ≡ ks → IsListed f ks → IsListed g ps
+listed_still f g ks ps h e l = record {
+  ordered = subst (λ es. IsStrictlySortedBy addr_cmp (keys_of es)) (sym e) l.ordered;
+  same = λ q. ap kind (h q) ∙ l.same q ∙ ap (lookup (is_at (addr_cmp q))) (sym e);
 }

@@ -33,7 +33,7 @@ itself : (a : Addr) → addr_cmp a a ≡ Equal
 itself a = tied_itself addr_total a
 
 -- what comes after an address is not found where all comes later
-absent_below : (a : Addr) (es : Table) → AllByRecursion (λ y. addr_cmp a y ≡ Less) (keys_of es) → lookup (is_at (addr_cmp a)) es ≡ None
+pub absent_below : {X : Type 0} (a : Addr) (es : List (Addr × X)) → AllByRecursion (λ y. addr_cmp a y ≡ Less) (keys_of es) → lookup (is_at (addr_cmp a)) es ≡ None
 absent_below a [] h = refl
 absent_below a (e ∷ es) h = ap (λ r. cond (is_eq r) (Some e.1) (lookup (is_at (addr_cmp a)) es)) h.0 ∙ absent_below a es h.1
 

@@ -1,5 +1,5 @@
 //! Many contents at once, all or none of them.
-ghost use Rattle.std.specs.Prelude.{◌≡◌, ◌≤◌, ◌+◌, OnOk, OnErr, vec_len, vec_capacity};
+ghost use Rattle.std.specs.Prelude.{◌≡◌, ◌≤◌, ◌+◌, OnOk, vec_len, vec_capacity};
 ghost use Rattle.gl_language.specs.Content.{IsProperContent};
 ghost use Rattle.gl_protocol.specs.Commands.{with_content, with_contents};
 ghost use Rattle.gl_cells.specs.Sheet.{sheet, put_each, undo_all, CanUndo, AreProper, IsTable};
@@ -24,8 +24,7 @@ fn put_each_in(
     requires room { vec_len undo.old + vec_len list ≤ vec_capacity undo.old }
     requires can { CanUndo undo.old.items map.old }
     ensures ok { OnOk result (map.new ≡ put_each list.items map.old) }
-    ensures back { undo_all undo.new.items map.new
-        ≡ undo_all undo.old.items map.old }
+    ensures back { undo_all undo.new.items map.new ≡ undo_all undo.old.items map.old }
     ensures can { CanUndo undo.new.items map.new }
     ensures table { IsTable map.new forms.new }
 {

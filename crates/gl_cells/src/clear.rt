@@ -6,7 +6,7 @@ ghost use Rattle.gl_cells.specs.Sheet.{IsTable};
 use crate::contents::Contents;
 use crate::search::next_in;
 use crate::table::remove_in;
-use gl_plane::{Addr, Range};
+use gl_plane::Range;
 
 /// Removes the contents of the range one by one, each found from the one before, and counts them.
 pub fn clear_in(map: &mut Contents, forms: &mut usize, r: &Range) -> usize

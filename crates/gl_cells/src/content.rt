@@ -1,6 +1,6 @@
 //! Contents of an address.
 ghost use Rattle.std.specs.Prelude.{◌≡◌};
-ghost use Rattle.gl_cells.specs.Content.{content_tree, form_weight};
+ghost use Rattle.gl_cells.specs.Content.{content_tree, form_weight, is_formula};
 
 use gl_ast::Formula;
 use gl_plane::{NoMemory, Share};
@@ -25,6 +25,13 @@ impl Drop for Content {
 }
 
 impl Content {
+    /// Whether it is a formula, not a constant.
+    pub fn is_formula(&self) -> bool
+        ensures { result ≡ is_formula (content_tree self.now) }
+    {
+        matches!(self, Content::Form(_))
+    }
+
     /// 1 for a formula, 0 for a constant.
     pub(crate) fn weight(&self) -> usize
         ensures { result ≡ form_weight (content_tree self.now) }

@@ -1,15 +1,15 @@
 //! Contents by address: found by hash, listed in row-major order.
-ghost use Rattle.std.specs.Prelude.{◌≡◌, ◌<◌, ◌+◌, ◌^◌, ◌++◌, ◌∷◌, [], length, is_some};
+ghost use Rattle.std.specs.Prelude.{◌≡◌, ◌<◌, ◌+◌, ◌^◌, ◌++◌, ◌∷◌, [], length, filter, is_some};
 ghost use Rattle.std.specs.Prelude.{None, IfSome, IfNone, IsSome, IfOk, OnOk, OnErr};
 ghost use Rattle.std.specs.Prelude.{if◌then◌else◌};
-ghost use Rattle.std.specs.BTreeMap.{insert_entry, is_at};
+ghost use Rattle.std.specs.BTreeMap.{insert_entry, is_at, keys};
 ghost use Rattle.std.specs.List.Sorted.{IsStrictlySortedBy};
 ghost use Rattle.std.specs.Map.{keys_of, lookup, remove_entry};
 ghost use Rattle.std.specs.Option.{option_copied};
 ghost use Rattle.gl_calculus.specs.Formula.{formula_addresses};
 ghost use Rattle.indexmap.specs.IndexMap.{get};
 ghost use Rattle.gl_calculus.specs.Grid.{Addr as Plain, same_addr};
-ghost use Rattle.gl_cells.specs.{Content.content_tree, Search.AtOrAfter};
+ghost use Rattle.gl_cells.specs.{Search.AtOrAfter};
 ghost use Rattle.gl_cells.specs.Listed.{listed, IsListed};
 ghost use Rattle.gl_cells.specs.Sheet.{addr_cmp, sheet};
 
@@ -17,14 +17,15 @@ use crate::Content;
 use gl_plane::{Addr, NoMemory};
 use indexmap::IndexMap;
 use std::alloc::Global;
-use std::collections::BTreeSet;
+use std::collections::BTreeMap;
 use std::marker::Model;
 
 /// Contents by address, seen as the list of them in row-major order. A content is found by the hash
-/// of its address, since whole ranges are read; the order serves searches.
+/// of its address, since whole ranges are read; the order serves searches, and tells at which
+/// addresses the formulas are.
 pub struct Contents {
     found: IndexMap<Addr, Content>,
-    order: BTreeSet<Addr>,
+    order: BTreeMap<Addr, bool>,
 }
 
 // One call wherever it is dropped, in place of one for each part.
@@ -35,7 +36,7 @@ impl Drop for Contents {
 }
 
 impl Model for Contents {
-    ghost use Rattle.std.specs.Coded.{codes};
+    ghost use Rattle.std.specs.{Coded.codes, BTreeMap.keys};
     ghost use Rattle.indexmap.specs.IndexMap.{get};
     ghost use Rattle.gl_ast.specs.contracts.Formula as formula;
     ghost use Rattle.gl_value.specs.contracts.Scalar as scalar;
@@ -46,39 +47,32 @@ impl Model for Contents {
 
     ghost coded = { Prim.hlevel (codes, scalar.the_row.coded, formula.the_row.coded) };
 
-    ghost view = { λ a. listed (get same_addr a.found) a.order.keys };
+    ghost view = { λ a. listed (get same_addr a.found) (keys a.order) };
 
-    ghost invariant = { λ a. IsListed (get same_addr a.found) a.order.keys };
+    ghost invariant = { λ a. IsListed (get same_addr a.found) a.order.entries };
 }
 
-/// Appends the address, if it holds a formula.
-fn push_formula(places: &mut Vec<Addr>, a: Addr, c: &Content) -> Result<(), NoMemory>
+/// Appends an address, if it holds a formula.
+fn push_formula(places: &mut Vec<Addr>, a: Addr, formula: bool) -> Result<(), NoMemory>
     ensures { OnOk result (
-        places.new.items ≡ places.old.items ++ formula_addresses ((a, content_tree c.now) ∷ [])) }
+        places.new.items ≡ places.old.items ++ keys_of (filter (λ k. k.1) ((a, formula) ∷ []))) }
 {
-    match c {
-        Content::Const(_) => Ok(()),
-        Content::Form(_) => match places.push(a) {
-            Ok(()) => Ok(()),
-            Err(_) => Err(NoMemory),
-        },
+    if !formula {
+        return Ok(());
+    }
+    match places.push(a) {
+        Ok(()) => Ok(()),
+        Err(_) => Err(NoMemory),
     }
 }
 
 /// The addresses of the order that hold a formula.
-fn formulas_in(
-    alloc: Global,
-    found: &IndexMap<Addr, Content>,
-    order: &BTreeSet<Addr>,
-) -> Result<Vec<Addr>, NoMemory>
-    ensures { IfOk result (λ v.
-        v.items ≡ formula_addresses (sheet (listed (get same_addr found.now) order.now.keys))) }
+fn formulas_in(alloc: Global, order: &BTreeMap<Addr, bool>) -> Result<Vec<Addr>, NoMemory>
+    ensures { IfOk result (λ v. v.items ≡ keys_of (filter (λ k. k.1) order.now.entries)) }
 {
     let mut places = Vec::new(alloc);
-    for a in order {
-        if let Some(c) = found.get(a) {
-            push_formula(&mut places, *a, c)?;
-        }
+    for (a, formula) in order {
+        push_formula(&mut places, *a, *formula)?;
     }
     Ok(places)
 }
@@ -86,23 +80,24 @@ fn formulas_in(
 /// Puts a content, and answers the one before. Only a new address takes memory.
 fn insert_in(
     found: &mut IndexMap<Addr, Content>,
-    order: &mut BTreeSet<Addr>,
+    order: &mut BTreeMap<Addr, bool>,
     a: Addr,
     c: Content,
 ) -> Result<Option<Content>, NoMemory>
-    requires listed { IsListed (get same_addr found.old) order.old.keys }
-    ensures listed { IsListed (get same_addr found.new) order.new.keys }
+    requires listed { IsListed (get same_addr found.old) order.old.entries }
+    ensures listed { IsListed (get same_addr found.new) order.new.entries }
     ensures old { IfOk result (λ was. was ≡ get same_addr found.old a) }
-    ensures entries { OnOk result (listed (get same_addr found.new) order.new.keys
-        ≡ insert_entry addr_cmp (listed (get same_addr found.old) order.old.keys) a c) }
+    ensures entries { OnOk result (listed (get same_addr found.new) (keys order.new)
+        ≡ insert_entry addr_cmp (listed (get same_addr found.old) (keys order.old)) a c) }
     ensures absent { OnErr result (get same_addr found.old a ≡ None) }
-    ensures err { OnErr result (listed (get same_addr found.new) order.new.keys
-        ≡ listed (get same_addr found.old) order.old.keys) }
+    ensures err { OnErr result (listed (get same_addr found.new) (keys order.new)
+        ≡ listed (get same_addr found.old) (keys order.old)) }
 {
+    let formula = c.is_formula();
     let Ok(was) = found.insert(a, c) else {
         return Err(NoMemory);
     };
-    match order.insert(a) {
+    match order.insert(a, formula) {
         Ok(_) => Ok(was),
         Err(_) => {
             let _ = found.swap_remove(&a);
@@ -118,7 +113,7 @@ impl Contents {
     {
         Contents {
             found: IndexMap::new(alloc),
-            order: BTreeSet::new(alloc),
+            order: BTreeMap::new(alloc),
         }
     }
 
@@ -152,7 +147,7 @@ impl Contents {
     {
         let mut rest = self.order.range(from..);
         match rest.next() {
-            Some(a) => Some(*a),
+            Some((a, _)) => Some(*a),
             None => None,
         }
     }
@@ -161,7 +156,7 @@ impl Contents {
     pub fn formula_addresses(&self, alloc: Global) -> Result<Vec<Addr>, NoMemory>
         ensures { IfOk result (λ v. v.items ≡ formula_addresses (sheet self.now)) }
     {
-        formulas_in(alloc, &self.found, &self.order)
+        formulas_in(alloc, &self.order)
     }
 
     /// Puts a content, and answers the one before. Only a new address takes memory.

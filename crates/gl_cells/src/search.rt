@@ -1,5 +1,5 @@
 //! The first content of a range.
-ghost use Rattle.std.specs.Prelude.{◌≡◌, ◌≤◌, None, IfSome, IfNone, IsSome, Some};
+ghost use Rattle.std.specs.Prelude.{◌≡◌, None, IfSome, IfNone, IsSome, Some};
 ghost use Rattle.std.specs.BTreeMap.{is_at};
 ghost use Rattle.std.specs.Map.{lookup};
 ghost use Rattle.gl_calculus.specs.Grid.{Addr as Plain};

@@ -1,5 +1,5 @@
 //! Edits of the table that stands for a sheet.
-ghost use Rattle.std.specs.Prelude.{◌≡◌, ◌≤◌, ◌<◌, None, IfSome, IfOk, IsSome, OnOk, OnErr};
+ghost use Rattle.std.specs.Prelude.{◌≡◌, ◌≤◌, ◌<◌, None, IfSome, IfOk, OnOk, OnErr};
 ghost use Rattle.std.specs.Prelude.{option_map, unwrap_or, is_some, length, ◌+◌, if◌then◌else◌};
 ghost use Rattle.std.specs.BTreeMap.{insert_entry, is_at};
 ghost use Rattle.std.specs.Map.{lookup, remove_entry};
@@ -61,8 +61,7 @@ pub fn remove_in(map: &mut Contents, forms: &mut usize, a: Addr) -> Option<Conte
     ensures others { (q : Plain)
         → lookup (is_at (addr_cmp q)) map.new
         ≡ (if is_at (addr_cmp a) q then None else lookup (is_at (addr_cmp q)) map.old) }
-    ensures len { length map.new + (if is_some result then 1 else 0)
-        ≡ length map.old }
+    ensures len { length map.new + (if is_some result then 1 else 0) ≡ length map.old }
     ensures table { IsTable map.new forms.new }
 {
     let was = map.remove(a);

@@ -4,4 +4,4 @@ use Rattle.gl_cells.proofs.Listing.{length_listed}
 use Rattle.gl_cells.proofs.contents.Contents.len.Goals as goal
 
 pub returns-clause-len : goal.returns-clause-len
-returns-clause-len c = c.len.ensures.len ∙ sym (length_listed _ c.self.inside.order.keys c.self.invariant) ∙ ap (λ (es : Table). length es) c.self.view_is
+returns-clause-len c = c.len.ensures.len ∙ sym (length_listed _ c.self.inside.order.entries c.self.invariant) ∙ ap (λ (es : Table). length es) c.self.view_is
