@@ -222,6 +222,14 @@ def lookups():
     return [], '\n'.join(lines + ['show D3000']) + '\n'
 
 
+def formula_lookups():
+    """1,000 look-ups in 5,000 rows of formulas."""
+    lines = ['set A%d =%d' % (r, r) for r in range(1, 5001)]
+    lines += ['set B%d =%d' % (r, 7 * r) for r in range(1, 5001)]
+    lines += ['set D%d =LOOKUP(%d,A1:A5000,B1:B5000)' % (r, r) for r in range(1, 1001)]
+    return [], '\n'.join(lines + ['show D1000']) + '\n'
+
+
 def explained_chain():
     """A chain of 16,000 formulas, explained at its end."""
     lines = ['set A1 =1'] + ['set A%d =A%d+1' % (i, i - 1) for i in range(2, 8001)]
@@ -258,8 +266,8 @@ def flow_column():
 WORKLOADS = [generator, chain, sums, spills, copies, table, commands, asked_again, leaf_edits,
              many_places, many_copies, few_formulas, passing_formulas, few_undos, siblings,
              gridlets, what_ifs, recursion22, recursion26, recursion64, totals, growing_sums,
-             running_totals, lookups, explained_chain, explained_total, flow_ranges, flow_arrays,
-             flow_column]
+             running_totals, lookups, formula_lookups, explained_chain, explained_total,
+             flow_ranges, flow_arrays, flow_column]
 
 
 def main():

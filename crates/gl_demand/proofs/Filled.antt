@@ -3,7 +3,7 @@ use Rattle.std.proofs.Common.{◌≡◌, ◌⊎◌, inl, inr, ℕ, suc, ◌≤�
 use Rattle.std.specs.List.{find}
 use Rattle.gl_query.specs.Lists.{Member}
 use Rattle.gl_calculus.specs.Grid.{Addr, Range, same_addr, is_before, AreInOrder, addresses, covers}
-use Rattle.gl_calculus.specs.Value.{Overrides, SheetValue, sheet_value, region, overrides, Frame, Top, In}
+use Rattle.gl_calculus.specs.Value.{Overrides, SheetValue, sheet_value, region, Frame, Top, In}
 use Rattle.gl_calculus.specs.Value as V
 use Rattle.gl_calculus.specs.Sheet.{override_at}
 use Rattle.gl_calculus.specs.Formula.{Content, Const, Form, Cells, IsSheet, content}

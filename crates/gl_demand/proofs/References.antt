@@ -1,14 +1,15 @@
 -- What the parts of a reference answer, put together.
-use Rattle.std.proofs.Common.{◌≡◌, ℕ, List, [], ◌∷◌, Option, Some, None, Result, Ok, Err, IfOk, IfErr, IfSome, IsTrue, OnOk, option_map, refl, ap, sym, subst, ◌∙◌}
+use Rattle.std.proofs.Common.{◌≡◌, ℕ, List, [], ◌∷◌, Option, Some, None, Result, Ok, Err, IfOk, IfErr, IfSome, IfNone, IsTrue, OnOk, option_map, refl, ap, sym, subst, ◌∙◌}
 use Rattle.std.proofs.lemmas.Result.{IfOk-weaker}
-use Rattle.gl_query.specs.Query.{Ready}
+use Rattle.gl_query.specs.Query.{Ready, Need, next}
 use Rattle.gl_calculus.specs.Grid.{Addr, single}
 use Rattle.gl_calculus.specs.Value as V
 use Rattle.gl_calculus.specs.Value.{Frame, Permit, One}
 use Rattle.gl_calculus.specs.Oracle.{Cover}
 use Rattle.gl_calculus.specs.Facts.{Fact, fact, find_fact}
-use Rattle.gl_calculus.specs.Key.{Eval, give, ◌>>=◌}
-use Rattle.gl_calculus.specs.Reference.{Held, Given, Reading, seen_or_looked, home, own_content, value_of, own, spilled, shown, shown_by, status_in, cover_in, covered, deref, at_address}
+use Rattle.gl_calculus.specs.Formula.{Formula}
+use Rattle.gl_calculus.specs.Key.{Cell, Eval, give, own_value, ◌>>=◌}
+use Rattle.gl_calculus.specs.Reference.{Held, Given, Computed, Reading, seen_or_looked, home, own_content, value_of, own, spilled, shown, shown_by, status_in, cover_in, covered, deref, at_address}
 use Rattle.gl_calculus.proofs.Proper.{fact_at_single}
 use Rattle.gl_plane.specs.Entries.{offsets}
 use Rattle.gl_value.specs.View.{scalar_tree, value_tree}
@@ -17,9 +18,9 @@ use Rattle.gl_value.specs.declared.Value.{Value}
 use Rattle.gl_calculus.specs.Sound.{is_sound_scalar}
 use Rattle.gl_demand.specs.declared.held.Held as Code
 use Rattle.gl_demand.specs.Held.{held_tree, IsSoundHeld}
-use Rattle.gl_demand.specs.Walk.{World, walk, looking}
+use Rattle.gl_demand.specs.Walk.{World, walk, looking, reading}
 use Rattle.gl_demand.specs.Walks.{Walks, trail_tree}
-use Rattle.gl_demand.specs.Seen.{AreSeen, ReadsOne, ReadsAlone, deref_held}
+use Rattle.gl_demand.specs.Seen.{AreSeen, ReadsKnown, ReadsOne, ReadsAlone, deref_held}
 use Rattle.gl_demand.specs.declared.trail.Trail.{Trail}
 use Rattle.gl_demand.specs.declared.trail.Halt.{Halt}
 use Rattle.gl_demand.specs.declared.trail.Halt.TheVariants as halt
@@ -29,6 +30,17 @@ use Rattle.gl_demand.proofs.Walking.{over, Same, goes_on, halts, later}
 pub held_sound : (o : Option Code.Held) (c : V.Scalar) → option_map held_tree o ≡ Some (Given (One c)) → IfSome o (λ h. IsSoundHeld (held_tree h)) → IsTrue (is_sound_scalar c)
 held_sound None c e h = absurd (cc e)
 held_sound (Some d) c e h = let is : held_tree d ≡ Given (One c) = cc in subst IsSoundHeld is h
+
+-- what holds where nothing is found
+pub none_gives : {X P : Type 0} (o : Option X) → o ≡ None → IfNone o P → P
+none_gives None e p = p
+none_gives (Some x) e p = absurd (cc e)
+
+-- what holds anyhow holds where something is read
+pub if_read : {X E : Type 0} {P : Type 0} (r : Result (Option X) E) → P → IfOk r (λ o. IfSome o (λ _. P))
+if_read (Ok (Some x)) p = p
+if_read (Ok None) p = tt
+if_read (Err e) p = tt
 
 module _ (w : World) where
   -- a value that is given
@@ -137,6 +149,17 @@ module _ (w : World) where
           are_seen = m;
           walk = gives (V.Blank, s) (λ z. (scalar_tree z, s)) old (Ok y) (ap (λ z. (z, s)) is) tt;
         })))
+
+    -- a scalar that a formula is known to come to
+    pub known_read : (h : Frame) (f : Formula) (y : Scalar) → AreSeen w roots s → h ≡ home e x.address → Some (Computed f) ≡ own_content x.content h x.address → ReadsKnown w (Cell h x.address) old y new → ReadsOne w (deref e s x) old (Ok y) roots new
+    known_read h f y m at held k =
+        subst (λ g. ReadsOne w (own g x >>= shown_by g s x) old (Ok y) roots new) at
+        (subst (λ d. ReadsOne w (value_of h x.address d >>= shown_by h s x) old (Ok y) roots new) held (record {
+          seen = s;
+          are_seen = m;
+          walk = ap (λ o. next (Need (Cell h x.address), reading (Cell h x.address) (trail_tree old)) o (λ q. walk w (own_value q >>= shown_by h s x) (reading (Cell h x.address) (trail_tree old)))) k.known
+              ∙ ap (λ t. (Ready (Ok (scalar_tree y, s)), t)) (sym k.read);
+        }))
 
     pub shown_some : (v : Value) (p : Option Permit) (r : Result Scalar Halt) → AreSeen w roots s → p ≡ status_in x e
         → IfOk r (λ y. scalar_tree y ≡ shown p (value_tree v)) → IfErr r (λ h. h ≡ halt.NoMemory) → ReadsOne w (shown_by e s x (Some (value_tree v))) new r roots new

@@ -3,13 +3,14 @@ use Rattle.std.specs.Prelude.{◌≡◌, ◌++◌, ◌∷◌, [], List, Some, No
 use Rattle.std.specs.List.{list_any}
 use Rattle.gl_calculus.specs.Grid.{Addr, same_addr}
 use Rattle.gl_calculus.specs.Facts.{Fact, fact, find_fact}
-use Rattle.gl_calculus.specs.Value.{Frame}
-use Rattle.gl_calculus.specs.Key.{Eval, ◌>>=◌}
+use Rattle.gl_calculus.specs.Value.{Frame, One}
+use Rattle.gl_calculus.specs.Key as K
+use Rattle.gl_calculus.specs.Key.{Key, Eval, ◌>>=◌}
 use Rattle.gl_calculus.specs.Reference.{Held, Reading, value_of, own, shown_by}
 use Rattle.gl_value.specs.View.{scalar_tree}
 use Rattle.gl_value.specs.declared.Scalar.{Scalar}
-use Rattle.gl_demand.specs.Walk.{World}
-use Rattle.gl_demand.specs.Walks.{Walks}
+use Rattle.gl_demand.specs.Walk.{World, reading}
+use Rattle.gl_demand.specs.Walks.{Walks, trail_tree}
 use Rattle.gl_demand.specs.declared.trail.Trail.{Trail}
 use Rattle.gl_demand.specs.declared.trail.Halt.{Halt}
 
@@ -27,6 +28,11 @@ pub record ReadsOne (w : World) (p : Eval Reading) (old : Trail) (r : Result Sca
 pub record ReadsOnto (w : World) (p : Eval Reading) (old : Trail) (items : List Scalar) (r : Result (Unit {0}) Halt) (more : List Scalar) (roots : List Addr) (new : Trail) : Type 0 where
   pub ok : OnOk r ((x : Scalar) × (more ≡ items ++ x ∷ []) × ReadsOne w p old (Ok x) roots new)
   pub err : IfErr r (λ h. ReadsOne w p old (Err h) roots new)
+
+-- A key is known to come to this scalar, and is read.
+pub record ReadsKnown (w : World) (k : Key) (old : Trail) (x : Scalar) (new : Trail) : Type 0 where
+  pub known : w.known k ≡ Some (K.Outcome.Value (One (scalar_tree x)))
+  pub read : trail_tree new ≡ reading k (trail_tree old)
 
 -- one scalar is read in a reference of its own
 pub record ReadsAlone (w : World) (p : Eval Reading) (old : Trail) (r : Result Scalar Halt) (new : Trail) : Type 0 where

@@ -1,5 +1,5 @@
 //! The calls of functions.
-ghost use Rattle.std.specs.Prelude.{◌≡◌, IsTrue, IfOk};
+ghost use Rattle.std.specs.Prelude.{IsTrue, IfOk};
 ghost use Rattle.gl_ast.specs.View.{version_tree, fun_tree, argument_trees};
 ghost use Rattle.gl_calculus.specs.Sound.{is_sound_value};
 ghost use Rattle.gl_calculus.specs.Evaluation as E;

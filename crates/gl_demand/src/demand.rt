@@ -1,21 +1,24 @@
 //! Keys that an evaluation demands.
-ghost use Rattle.std.specs.Prelude.{◌≡◌, Some, IsTrue, IfOk, IfErr, IfSome, option_map};
+ghost use Rattle.std.specs.Prelude.{◌≡◌, Some, IsTrue, IfOk, IfErr, IfSome, IfNone, option_map};
 ghost use Rattle.gl_query.specs.Evaluation.{Demand};
 ghost use Rattle.gl_calculus.specs.Key.{Cell, give, own_value};
 ghost use Rattle.gl_calculus.specs.Sound.{is_sound_frame, is_sound_key, is_sound_outcome};
-ghost use Rattle.gl_calculus.specs.Sound.{is_sound_value};
+ghost use Rattle.gl_calculus.specs.Sound.{is_sound_value, is_sound_scalar};
+ghost use Rattle.gl_calculus.specs.Key as Plain;
+ghost use Rattle.gl_calculus.specs.Value.{One};
 ghost use Rattle.gl_calculus.specs.{Facts.fact, Reference.own, Reference.value_of};
 ghost use Rattle.gl_cells.specs.Sheet.{sheet};
-ghost use Rattle.gl_value.specs.View.{value_tree, frame_tree};
+ghost use Rattle.gl_value.specs.View.{scalar_tree, value_tree, frame_tree};
 ghost use Rattle.gl_demand.specs.{View.key_tree, View.outcome_tree, Walk.World, Worlds.world_of};
 ghost use Rattle.gl_demand.specs.{Held.held_tree, Held.IsSoundHeld, Walks.Walks};
+ghost use Rattle.gl_demand.specs.Seen.{ReadsKnown};
 
 use crate::context::Context;
 use crate::held::{Held, held_at};
 use crate::trail::{Eval, Halt, Trail};
 use crate::{Ahead, Key, Known, Outcome};
 use gl_plane::{Addr, NoMemory, Share};
-use gl_value::{Env, Value};
+use gl_value::{Env, Scalar, Value};
 
 /// The known outcome of a key, which is noted as read.
 #[tactic(auto, using(gl_value::specs::Forms::trees))]
@@ -78,6 +81,60 @@ fn demanded<K: Known>(
         },
         Err(halt) => Err(halt),
     }
+}
+
+/// The scalar that an outcome is, if it is one.
+#[tactic(auto, using(gl_value::specs::Forms::trees))]
+fn scalar_in(outcome: &Outcome) -> Option<&Scalar>
+    ensures { IfSome result (λ x.
+        outcome_tree outcome.now ≡ Plain.Outcome.Value (One (scalar_tree x.now))) }
+{
+    match outcome {
+        Outcome::Value(v) => match v {
+            Value::One(x) => Some(x),
+            Value::Array(_) => None,
+        },
+        Outcome::Settled(_) => None,
+        Outcome::Abort(_) => None,
+    }
+}
+
+/// The scalar that a key is known to come to.
+fn known_scalar<'a, K: Known>(ctx: &Context<'a, K>, key: &Key) -> Option<&'a Scalar>
+    ensures known { IfSome result (λ x.
+        (world_of ctx.now).known (key_tree key.now)
+        ≡ Some (Plain.Outcome.Value (One (scalar_tree x.now)))) }
+    ensures sound { IfSome result (λ x. IsTrue (is_sound_scalar (scalar_tree x.now))) }
+{
+    match ctx.known.get(key) {
+        Some(outcome) => scalar_in(outcome),
+        None => None,
+    }
+}
+
+/// The scalar that a formula cell is known to come to; then the cell is noted as read.
+#[tactic(auto, using(gl_value::specs::Forms::trees))]
+pub fn known_cell<K: Known>(
+    ctx: &Context<K>,
+    env: &Env,
+    a: Addr,
+    trail: &mut Trail,
+) -> Result<Option<Scalar>, NoMemory>
+    requires { IsTrue (is_sound_frame (frame_tree env.now)) }
+    ensures read { IfOk result (λ o.
+        IfSome o (λ x. ReadsKnown (world_of ctx.now) (Cell (frame_tree env.now) a) trail.old x
+        trail.new)) }
+    ensures none { IfOk result (λ o. IfNone o (trail.new ≡ trail.old)) }
+    ensures sound { IfOk result
+        (λ o. IfSome o (λ x. IsTrue (is_sound_scalar (scalar_tree x)))) }
+{
+    let key = Key::Cell(env.share()?, a);
+    let Some(x) = known_scalar(ctx, &key) else {
+        return Ok(None);
+    };
+    let x = x.share()?;
+    trail.read(key)?;
+    Ok(Some(x))
 }
 
 /// The key of a cell.

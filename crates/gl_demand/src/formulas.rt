@@ -1,5 +1,5 @@
 //! The values of formulas.
-ghost use Rattle.std.specs.Prelude.{◌≡◌, IsTrue, IfOk, IfErr};
+ghost use Rattle.std.specs.Prelude.{IsTrue, IfOk};
 ghost use Rattle.gl_ast.specs.View.{version_tree, formula_tree};
 ghost use Rattle.gl_calculus.specs.Sound.{is_sound_value};
 ghost use Rattle.gl_calculus.specs.Evaluation as E;

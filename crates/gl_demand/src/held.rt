@@ -8,6 +8,7 @@ ghost use Rattle.gl_calculus.specs.{Formula.content, Formula.Cells as Sheet, Fac
 ghost use Rattle.gl_calculus.specs.{Sound.is_sound_frame, Sound.is_sound_value};
 ghost use Rattle.gl_cells.specs.{Sheet.sheet, Content.content_tree};
 ghost use Rattle.gl_plane.specs.{Entries.offsets, Permit.permit_tree};
+ghost use Rattle.gl_ast.specs.View.{formula_tree};
 ghost use Rattle.gl_calculus.specs.Reference as R;
 ghost use Rattle.gl_calculus.specs.Value as V;
 ghost use Rattle.gl_value.specs.View.{scalar_tree, value_tree, frame_tree};
@@ -111,6 +112,21 @@ pub fn constant_in(held: Option<Held<'_>>) -> Option<&Scalar>
             Held::Scalar(x) => Some(x),
             Held::Value(_) => None,
             Held::Formula(_) => None,
+        },
+        None => None,
+    }
+}
+
+/// The formula that is held, if it is one.
+pub fn formula_in(held: Option<Held<'_>>) -> Option<&Formula>
+    ensures { IfSome result (λ f.
+        option_map held_tree held.entry ≡ Some (R.Held.Computed (formula_tree f.now))) }
+{
+    match held {
+        Some(held) => match held {
+            Held::Formula(f) => Some(f),
+            Held::Scalar(_) => None,
+            Held::Value(_) => None,
         },
         None => None,
     }

@@ -1,20 +1,23 @@
 //! How ranges are read: their addresses in row-major order, in one reference.
 ghost use Rattle.std.specs.Prelude.{◌≡◌, ◌+◌, ◌*◌, ◌++◌, ◌∷◌, [], List, OnOk, IsTrue, IfOk, IfErr, SomeIff, length, map};
-ghost use Rattle.std.specs.Prelude.{vec_len};
+ghost use Rattle.std.specs.Prelude.{vec_len, Some, IfSome, IfNone, option_map};
 ghost use Rattle.gl_calculus.specs.Sound.{is_sound_frame, are_sound, is_size, is_sound_value};
+ghost use Rattle.gl_calculus.specs.Sound.{is_sound_scalar};
+ghost use Rattle.gl_calculus.specs.{Key.Cell, Formula.Formula};
 ghost use Rattle.gl_calculus.specs.{Grid.addresses, Grid.extents};
 ghost use Rattle.gl_calculus.specs.Facts.{Fact, fact, facts};
 ghost use Rattle.gl_calculus.specs.Reference as R;
 ghost use Rattle.gl_calculus.specs.Value as V;
 ghost use Rattle.gl_cells.specs.Sheet.{sheet};
 ghost use Rattle.gl_value.specs.View.{scalar_tree, value_tree, frame_tree, item_trees};
-ghost use Rattle.gl_demand.specs.Seen.{AreSeen, ReadsOnto};
+ghost use Rattle.gl_demand.specs.Seen.{AreSeen, ReadsKnown, ReadsOnto};
 ghost use Rattle.gl_demand.specs.{Worlds.world_of, Walks.EndsWalk, Walks.Walks, Stopped.IsHaltIn};
-ghost use Rattle.gl_demand.specs.{declared.trail.Halt.Halt};
+ghost use Rattle.gl_demand.specs.{declared.trail.Halt.Halt, Held.held_tree};
 ghost use Rattle.gl_ahead.specs.Reading.{Area};
 
 use crate::context::Context;
-use crate::held::{constant_in, held_at, is_blank};
+use crate::demand::known_cell;
+use crate::held::{Held, constant_in, formula_in, held_at, is_blank};
 use crate::reading::{shown_at, sound_home};
 use crate::trail::{Eval, Halt, Trail};
 use crate::{Ahead, Known, Reference};
@@ -33,8 +36,33 @@ fn push(items: &mut Vec<Scalar>, x: Scalar) -> Result<(), NoMemory>
     Ok(())
 }
 
-/// Appends the scalar at an address. Constants and blanks, of which most ranges are, take the short
-/// way.
+/// The scalar that the formula of a cell is known to come to; then the cell is noted as read. `None`
+/// where no formula is held, or none that is known to come to a scalar.
+fn known_at<K: Known>(
+    ctx: &Context<K>,
+    env: &Env,
+    a: Addr,
+    held: Option<Held>,
+    trail: &mut Trail,
+) -> Result<Option<Scalar>, NoMemory>
+    requires { IsTrue (is_sound_frame (frame_tree env.now)) }
+    ensures formula { IfOk result (λ o.
+        IfSome o (λ _. (f : Formula) × (option_map held_tree held.entry ≡ Some (R.Held.Computed f)))) }
+    ensures read { IfOk result (λ o.
+        IfSome o (λ x. ReadsKnown (world_of ctx.now) (Cell (frame_tree env.now) a) trail.old x
+        trail.new)) }
+    ensures none { IfOk result (λ o. IfNone o (trail.new ≡ trail.old)) }
+    ensures sound { IfOk result
+        (λ o. IfSome o (λ x. IsTrue (is_sound_scalar (scalar_tree x)))) }
+{
+    match formula_in(held) {
+        Some(_) => known_cell(ctx, env, a, trail),
+        None => Ok(None),
+    }
+}
+
+/// Appends the scalar at an address. Constants, blanks and formulas that are known to come to
+/// scalars, of which most ranges are, take the short way.
 fn read_onto<K: Known>(
     ctx: &Context<K>,
     env: &Env,
@@ -65,12 +93,18 @@ fn read_onto<K: Known>(
         push(items, Scalar::Blank)?;
         return Ok(());
     }
-    match shown_at(ctx, home, a, held, seen, trail) {
-        Ok(x) => {
+    match known_at(ctx, home, a, held, trail)? {
+        Some(x) => {
             push(items, x)?;
             Ok(())
         }
-        Err(halt) => Err(halt),
+        None => match shown_at(ctx, home, a, held, seen, trail) {
+            Ok(x) => {
+                push(items, x)?;
+                Ok(())
+            }
+            Err(halt) => Err(halt),
+        },
     }
 }
 

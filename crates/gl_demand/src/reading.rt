@@ -3,7 +3,7 @@ ghost use Rattle.std.specs.Prelude.{◌≡◌, Some, List, [], ◌∷◌, IsTrue
 ghost use Rattle.std.specs.Prelude.{option_map};
 ghost use Rattle.gl_calculus.specs.Facts.{Fact, fact, find_fact};
 ghost use Rattle.gl_calculus.specs.Sound.{is_sound_frame, is_sound_scalar, is_sound_value};
-ghost use Rattle.gl_calculus.specs.{Grid.single, Oracle.Cover, Formula.content};
+ghost use Rattle.gl_calculus.specs.{Grid.single, Formula.content};
 ghost use Rattle.gl_calculus.specs.Reference as R;
 ghost use Rattle.gl_calculus.specs.Reference.{own_content};
 ghost use Rattle.gl_cells.specs.Sheet.{sheet};
@@ -198,26 +198,6 @@ pub fn shown_at<K: Known>(
     }
 }
 
-/// The scalar at an address of the frame's region.
-fn deref_home<K: Known>(
-    ctx: &Context<K>,
-    env: &Env,
-    a: Addr,
-    seen: &mut IndexSet<Addr>,
-    trail: &mut Trail,
-) -> Eval<Scalar>
-    requires frame { IsTrue (is_sound_frame (frame_tree env.now)) }
-    ensures read { (s : List Fact)
-        → AreSeen (world_of ctx.now)
-        seen.old.keys s
-        → ReadsOne (world_of ctx.now)
-        (deref_in (frame_tree env.now) s (fact (sheet ctx.now.cells.now) ctx.now.w.now a)) trail.old
-        result seen.new.keys trail.new }
-    ensures sound { IfOk result (λ x. IsTrue (is_sound_scalar (scalar_tree x))) }
-{
-    shown_at(ctx, env, a, held_at(ctx.cells, env, a), seen, trail)
-}
-
 /// The scalar at an address, which is read in its home frame.
 pub fn deref<K: Known>(
     ctx: &Context<K>,
@@ -235,7 +215,8 @@ pub fn deref<K: Known>(
         result seen.new.keys trail.new }
     ensures sound { IfOk result (λ x. IsTrue (is_sound_scalar (scalar_tree x))) }
 {
-    deref_home(ctx, sound_home(env, a), a, seen, trail)
+    let home = sound_home(env, a);
+    shown_at(ctx, home, a, held_at(ctx.cells, home, a), seen, trail)
 }
 
 /// The frame in which an address is read, which is sound.

@@ -146,7 +146,6 @@ struct CopyRound<'a, 'b, K: Known> {
 
 impl<K: Known> Round for CopyRound<'_, '_, K> {
     ghost use Rattle.std.specs.Prelude.{◌≡◌};
-    ghost use Rattle.gl_cells.specs.Sheet.{sheet};
     ghost use Rattle.gl_value.specs.View.{sheet_tree};
     ghost use Rattle.gl_demand.specs.Settling.{Gives, Fails, round_arrays};
     ghost use Rattle.gl_demand.specs.{Worlds.world_of, Walks.Walks};

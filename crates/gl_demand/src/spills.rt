@@ -1,5 +1,5 @@
 //! How a spilled array is read.
-ghost use Rattle.std.specs.Prelude.{◌≡◌, Some, IsTrue, IfOk, option_map};
+ghost use Rattle.std.specs.Prelude.{Some, IsTrue, IfOk, option_map};
 ghost use Rattle.gl_calculus.specs.{Facts.fact, Formula.content, Sound.is_sound_frame};
 ghost use Rattle.gl_calculus.specs.{Sound.is_sound_value, Value.Permitted};
 ghost use Rattle.gl_calculus.specs.Reference as R;

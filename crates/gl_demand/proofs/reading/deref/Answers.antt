@@ -8,4 +8,4 @@ use Rattle.gl_demand.proofs.reading.deref.Goals as goal
 pub returns-clause-read : goal.returns-clause-read
 returns-clause-read g c =
     let w = world (sheet c.args.ctx.now.cells.now) c.args.ctx.now.w.now (g.K.Known.outcomes c.args.ctx.now.known.now) in
-    λ s h. subst (λ e. ReadsOne w (deref_in e s (fact (sheet c.args.ctx.now.cells.now) c.args.ctx.now.w.now c.args.a)) c.args.trail.now c.deref_home.result c.deref_home.new.seen.keys c.deref_home.new.trail) c.sound_home.ensures.value (c.deref_home.ensures.read s h)
+    λ s h. subst (λ e. ReadsOne w (deref_in e s (fact (sheet c.args.ctx.now.cells.now) c.args.ctx.now.w.now c.args.a)) c.args.trail.now c.shown_at.result c.shown_at.new.seen.keys c.shown_at.new.trail) c.sound_home-home.ensures.value (c.shown_at.ensures.read s h)
