@@ -1,7 +1,7 @@
 //! The key that decides what an address shows.
-ghost use Rattle.std.specs.Prelude.{◌≡◌, option_map, IsTrue, IfSome};
-ghost use Rattle.gl_calculus.specs.{Formula.content, Oracle.cover, Sound.is_sound_key};
-ghost use Rattle.gl_explanation.specs.Certificate.{formula_key, covering_key, key_at, is_proper};
+ghost use Rattle.std.specs.Prelude.{◌≡◌, option_map};
+ghost use Rattle.gl_calculus.specs.{Formula.content, Oracle.cover};
+ghost use Rattle.gl_explanation.specs.Certificate.{formula_key, covering_key, key_at};
 ghost use Rattle.gl_cells.specs.Sheet.{sheet};
 ghost use Rattle.gl_demand.specs.View.{key_tree};
 

@@ -1,13 +1,10 @@
 //! What notes and loops say that an address shows.
 ghost use Rattle.std.specs.Prelude.{◌≡◌, Some, None, map, option_map, IsTrue, IfOk};
-ghost use Rattle.gl_calculus.specs.{Formula.content, Key.same_key, Oracle.cover};
+ghost use Rattle.gl_calculus.specs.{Formula.content, Oracle.cover};
 ghost use Rattle.gl_calculus.specs.{Sound.is_sound_value, Sound.is_sound_outcome};
-ghost use Rattle.gl_calculus.specs.Calculation as C;
 ghost use Rattle.gl_calculus.specs.Value as V;
-ghost use Rattle.gl_query.specs.Lists.{has_member};
 ghost use Rattle.gl_explanation.specs.Certificate.{says, constant_shown, loop_shown, element_shown};
 ghost use Rattle.gl_explanation.specs.Certificate.{value_shown, shown_by_note, shown_by_key};
-ghost use Rattle.gl_explanation.specs.Walk.{noted};
 ghost use Rattle.gl_cells.specs.Sheet.{sheet};
 ghost use Rattle.gl_value.specs.{Made.shown_tree, View.scalar_tree, View.value_tree};
 ghost use Rattle.gl_demand.specs.View.{key_tree, outcome_tree};

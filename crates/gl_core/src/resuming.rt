@@ -1,5 +1,5 @@
 //! What a round knows at its start.
-ghost use Rattle.std.specs.Prelude.{◌≡◌, ◌<◌, ◌≤◌, ◌++◌, ◌&&◌, ◌∷◌, [], ℕ, List, All, Some, not};
+ghost use Rattle.std.specs.Prelude.{◌≡◌, ◌<◌, ◌++◌, ◌&&◌, ◌∷◌, [], ℕ, List, All, Some, not};
 ghost use Rattle.std.specs.Prelude.{if◌then◌else◌, length, map, filter, slice_get, IfOk, OnOk};
 ghost use Rattle.std.specs.Prelude.{IfErr, IfSome, vec_len};
 ghost use Rattle.gl_query.specs.{Lists.AreDistinct, InOrder.AreOrdered};

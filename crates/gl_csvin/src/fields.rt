@@ -1,5 +1,5 @@
 //! The fields of records at their addresses.
-ghost use Rattle.std.specs.Prelude.{◌≡◌, ◌+◌, ◌<◌, ◌≤◌, ◌^◌, ◌∷◌, [], map, length, IsTrue, IfOk};
+ghost use Rattle.std.specs.Prelude.{◌+◌, ◌<◌, ◌^◌, ◌∷◌, [], map, length, IsTrue, IfOk};
 ghost use Rattle.std.specs.Prelude.{OnOk, SomeIff};
 ghost use Rattle.std.specs.{List.list_all, Str.is_utf8};
 ghost use Rattle.csv.specs.Records.{fields_of};

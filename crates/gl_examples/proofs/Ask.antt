@@ -10,7 +10,7 @@ use Rattle.gl_query.specs.Evaluation.{given}
 use Rattle.gl_calculus.specs.Limits.{max_demanded}
 use Rattle.gl_calculus.specs.Grid.{Addr, addr, Range, extents, grid}
 use Rattle.gl_calculus.specs.Value as V
-use Rattle.gl_calculus.specs.Value.{Value, Oracle, SheetValue, Frame, Top, In, region, rank, parent}
+use Rattle.gl_calculus.specs.Value.{Value, Oracle, Top, In, region, rank}
 use Rattle.gl_calculus.specs.Sheet.{weight, frame_weight}
 use Rattle.gl_calculus.specs.Same.{same_oracle}
 use Rattle.gl_calculus.specs.Formula.{Version, Cells, formula_addresses}

@@ -13,7 +13,7 @@ use Rattle.gl_calculus.specs.Oracle.{Cover, cover}
 use Rattle.gl_calculus.specs.Key.{Key, Cell, Settle, same_key, Outcome, Settled, Abort}
 use Rattle.gl_calculus.specs.Evaluation.{program}
 use Rattle.gl_calculus.specs.Calculation as C
-use Rattle.gl_calculus.specs.Calculation.{Shown, Cycle, TopHas, TopLoops, IsShown, cycle, blank, IsAnswer, IsUnspent, Ends, settled, is_abort, TopFails, DemandedIn}
+use Rattle.gl_calculus.specs.Calculation.{Shown, Cycle, TopHas, IsShown, cycle, blank, IsUnspent, Ends, settled, is_abort, TopFails}
 use Rattle.gl_calculus.specs.Sound.{IsProperKey}
 use Rattle.gl_calculus.proofs.Tests.{key_equality, scalar_equality}
 use Rattle.gl_calculus.proofs.Proper.{asks_proper}
@@ -23,7 +23,7 @@ use Rattle.gl_calculus.proofs.OutcomeTests.{outcome_equality}
 use Rattle.gl_explanation.specs.Walk as W
 use Rattle.gl_explanation.specs.Walk.{Claim, noted, first_stray, first_free, Walked, Explained, Exhausted}
 use Rattle.gl_explanation.specs.Certificate as Ce
-use Rattle.gl_explanation.specs.Certificate.{same_shown, is_proper, key_at, key_by, formula_key, covering_key, says, says_so, shown_by_key, shown_by_note, value_shown, element_shown, loop_shown, constant_shown, Certificate, Verdict, Accepted, judged, verdict, Answer, Cert, Work, Aborts, Explains, work, aborts, cert, start}
+use Rattle.gl_explanation.specs.Certificate.{same_shown, is_proper, key_at, key_by, formula_key, covering_key, says, says_so, shown_by_key, shown_by_note, value_shown, element_shown, loop_shown, constant_shown, Accepted, judged, verdict, Answer, work, aborts, cert, start}
 use Rattle.gl_explanation.specs.Laws.{AcceptedShows, WalkAccepted, SettledCertifies}
 use Rattle.gl_explanation.proofs.Claims.{true_notes, all_loop}
 use Rattle.gl_calculus.proofs.Shows.{constant_shows, formula_shows, blank_shows, element_shows, by_root}

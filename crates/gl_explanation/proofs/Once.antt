@@ -10,7 +10,7 @@ use Rattle.gl_calculus.specs.Key.{Key, same_key, Budget, Outcome, Abort}
 use Rattle.gl_calculus.specs.Evaluation.{program}
 use Rattle.gl_calculus.specs.Calculation.{Shown}
 use Rattle.gl_explanation.specs.Walk.{Claim, noted, Walked, Explained, Exhausted, turn, walk}
-use Rattle.gl_explanation.specs.Certificate.{Certificate, says, shown_by_key, shown_by_note, key_at, start, Answer, Cert, Work, Aborts, Explains, work, aborts, cert}
+use Rattle.gl_explanation.specs.Certificate.{says, key_at, start, Answer, Cert, Aborts, Explains, work, aborts, cert}
 use Rattle.gl_explanation.specs.Certificate as Ce
 
 -- ---- the walk

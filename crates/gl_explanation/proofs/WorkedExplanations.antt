@@ -6,7 +6,7 @@ use Rattle.gl_calculus.specs.Limits.{max_demanded}
 use Rattle.gl_calculus.specs.Grid.{addr, size}
 use Rattle.gl_calculus.specs.Value as V
 use Rattle.gl_calculus.specs.Value.{Blank, Oracle, Top, Array, scalars}
-use Rattle.gl_calculus.specs.Formula.{Version, Formula, Cells, Form}
+use Rattle.gl_calculus.specs.Formula.{Version, Cells, Form}
 use Rattle.gl_calculus.specs.Formula as F
 use Rattle.gl_calculus.specs.Key.{Key, Cell, Outcome, same_key}
 use Rattle.gl_calculus.specs.Calculation.{Shown, Cycle, Value}

@@ -9,7 +9,7 @@ use Rattle.gl_query.specs.Lists.{Member}
 use Rattle.gl_calculus.specs.Grid.{Addr, addr, Range}
 use Rattle.gl_calculus.specs.Formula.{Cells, formula_addresses}
 use Rattle.gl_forecast.specs.Forecast as Fo
-use Rattle.gl_forecast.specs.Forecast.{Node, box, cell_nodes, Leads, IsInCircle, First, here, behind, IsForecast, circle, yes}
+use Rattle.gl_forecast.specs.Forecast.{Node, box, Leads, IsInCircle, First, here, behind, IsForecast, circle, yes}
 use Rattle.gl_graph.specs.Graph as G
 use Rattle.gl_graph.specs.Graph.{IsPlain}
 use Rattle.gl_graph.specs.Search.{is_shut, AreTrue}

@@ -4,7 +4,7 @@ use Rattle.std.specs.Prelude.{◌≡◌, ℕ, zero, suc, ◌+◌, ◌-◌, ◌*�
 use Rattle.std.specs.List.{range_with_len}
 use Rattle.gl_calculus.specs.Grid.{Addr, addr, same_addr, Range, addresses}
 use Rattle.gl_forecast.specs.Forecast as Fo
-use Rattle.gl_forecast.specs.Forecast.{Node, entries_in}
+use Rattle.gl_forecast.specs.Forecast.{Node}
 use Rattle.gl_graph.specs.declared.graph.Place.{Place}
 use Rattle.gl_flow.specs.Grid.{source}
 use Rattle.gl_flow.specs.Rivals.{meets_box}

@@ -1,5 +1,5 @@
 //! The shapes of all formula cells, through levels of `#`.
-ghost use Rattle.std.specs.Prelude.{◌≡◌, ◌++◌, ◌∷◌, [], true, false, map, IfOk, OnOk, IsTrue};
+ghost use Rattle.std.specs.Prelude.{◌≡◌, [], true, false, map, IfOk, IsTrue};
 ghost use Rattle.gl_calculus.specs.Formula.{content, formula_addresses};
 ghost use Rattle.gl_cells.specs.Sheet.{sheet};
 ghost use Rattle.gl_forecast.specs.Forecast.{cell_shape};

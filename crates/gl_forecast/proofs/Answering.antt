@@ -17,13 +17,13 @@ use Rattle.gl_calculus.specs.Oracle.{IsInOrder, entry_at}
 use Rattle.gl_calculus.specs.Key.{Key, Cell, Outcome, Settled, Abort}
 use Rattle.gl_calculus.specs.Evaluation.{program}
 use Rattle.gl_calculus.specs.Calculation as C
-use Rattle.gl_calculus.specs.Calculation.{is_abort, TopHas, TopLoops, TopFails, DemandedIn, SpendsWork, IsUnspent, IsNext, GoesOn, Reaches, first, later, Ends, settled, Answer, IsAnswer, round_budget, IsShown, cycle, value, Cycle}
+use Rattle.gl_calculus.specs.Calculation.{is_abort, TopHas, TopFails, DemandedIn, SpendsWork, IsUnspent, IsNext, Reaches, first, later, settled, IsAnswer, IsShown, cycle, Cycle}
 use Rattle.gl_calculus.proofs.Grants.{Before, before_trans, not_same, split, clash}
 use Rattle.gl_calculus.proofs.Tests.{addr_exact, oracle_equality}
 use Rattle.gl_calculus.proofs.Settles.{formula_content, formula_listed}
 use Rattle.gl_forecast.specs.Laws.{YesSettles}
 use Rattle.gl_forecast.specs.Forecast as Fo
-use Rattle.gl_forecast.specs.Forecast.{Node, nodes, cell_nodes, dependences, cell_shape, Leads, once, further, Path, ends, goes, entries_in, IsHeight, uses_sheets, Forecast, Yes, IsForecast, yes}
+use Rattle.gl_forecast.specs.Forecast.{Node, nodes, dependences, cell_shape, Leads, once, further, Path, ends, goes, IsHeight, uses_sheets, yes}
 use Rattle.gl_forecast.proofs.Nodes.{within, of_formula, value_cell, entry_cell}
 use Rattle.gl_sound.specs.Fit.{AreFit}
 use Rattle.gl_forecast.proofs.Reading.{Comes}

@@ -23,14 +23,14 @@ use Rattle.gl_sound.proofs.Lift.{lift1_sound, lift2_sound, lift3_sound}
 use Rattle.gl_sound.proofs.Functions.{Enough, apply_sound}
 use Rattle.gl_sound.proofs.Evaluation.{chosen_sound, replaced_sound, takes_enough}
 use Rattle.gl_forecast.specs.Forecast as Fo
-use Rattle.gl_forecast.specs.Forecast.{Shape, Shapes, shape, shapes, operand_shapes, joined, all_joined, Node, Entry, Piece, Reads, Spills, Calls, pieces, all_pieces, operand_pieces, piece_nodes, piece_makes, makes_sheets, spilled_shape}
+use Rattle.gl_forecast.specs.Forecast.{Shape, Shapes, shape, shapes, operand_shapes, joined, all_joined, Node, Entry, Piece, Reads, pieces, all_pieces, operand_pieces, piece_nodes, piece_makes, makes_sheets, spilled_shape}
 use Rattle.gl_forecast.proofs.Alike.{both_return, alike_weaken}
 use Rattle.gl_forecast.proofs.Oracles.{IsFit}
 use Rattle.gl_forecast.proofs.Shapes.{Fits, AllFit, IsPositive, AllPositive, join_left, join_right, join_on, lift1_fits, lift2_fits, lift3_fits}
 use Rattle.gl_forecast.proofs.Calls.{IsWritten, AllWritten, call_fits, cut_fits}
 use Rattle.gl_forecast.proofs.Positive.{PositiveBindings, shape_positive, shapes_positive, spilled_positive}
 use Rattle.gl_forecast.proofs.Reading as R
-use Rattle.gl_forecast.proofs.Reading.{Comes, Gets, Needed}
+use Rattle.gl_forecast.proofs.Reading.{Gets, Needed}
 
 -- values and shapes of the same variables
 abbrev pub Bound : Bindings → Shapes → Type 0

@@ -10,7 +10,7 @@ use Rattle.gl_sound.specs.Fit.{takes, is_fit, are_fit, are_fit_operands, AreFit}
 use Rattle.gl_sound.proofs.Values.{extents_of}
 use Rattle.gl_sound.proofs.References.{FitContent, content_fit}
 use Rattle.gl_forecast.specs.Forecast as Fo
-use Rattle.gl_forecast.specs.Forecast.{Shape, Shapes, full, any_size, joined, all_joined, under, beside, shape, shapes, operand_shapes, content_shape, spilled_shape}
+use Rattle.gl_forecast.specs.Forecast.{Shape, Shapes, full, all_joined, under, beside, shape, shapes, operand_shapes, content_shape, spilled_shape}
 use Rattle.gl_forecast.proofs.Shapes.{IsPositive, AllPositive, full_positive, joined_positive, all_joined_positive, cut_positive}
 
 abbrev pub PositiveBindings : Shapes → Type 0

@@ -6,7 +6,7 @@ use Rattle.gl_query.specs.Evaluation.{given}
 use Rattle.gl_calculus.specs.Grid.{Addr, same_addr, Range, single, extents, addresses}
 use Rattle.gl_calculus.specs.ErrKind.{ErrKind}
 use Rattle.gl_calculus.specs.Value as V
-use Rattle.gl_calculus.specs.Value.{Permit, Scalar, Blank, Value, One, Array, scalars, Oracle, Frame, Top, In}
+use Rattle.gl_calculus.specs.Value.{Permit, Scalar, Value, One, Array, scalars, Oracle, Top}
 use Rattle.gl_calculus.specs.Formula.{Formula, Content, Const, Form, Cells, content}
 use Rattle.gl_calculus.specs.Oracle.{entry_at, permit_of, Cover, cover}
 use Rattle.gl_calculus.specs.Facts.{Fact, fact, facts, find_fact, fact_at}

@@ -14,7 +14,7 @@ use Rattle.gl_calculus.proofs.Grants.{grant_permits}
 use Rattle.gl_calculus.proofs.Settles.{formula_order, formula_content, size_of_entry, entry_of_size, roots_of, array_order, array_has, has_array}
 use Rattle.gl_sound.specs.Fit.{AreFit}
 use Rattle.gl_forecast.specs.Forecast as Fo
-use Rattle.gl_forecast.specs.Forecast.{Node, cell_shape, box, cell_nodes, nodes, dependences, rivals, Leads, Path, ends, goes, entries_in, IsHeight, uses_sheets}
+use Rattle.gl_forecast.specs.Forecast.{Node, cell_shape, nodes, dependences, rivals, Leads, Path, ends, goes, uses_sheets}
 use Rattle.gl_forecast.proofs.Finite as Fin
 use Rattle.gl_forecast.proofs.Oracles.{IsFit, entry_member, member_entry}
 use Rattle.gl_forecast.proofs.Permits.{same_entries}

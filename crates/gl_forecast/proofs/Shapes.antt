@@ -5,7 +5,7 @@ use Rattle.gl_calculus.specs.Grid.{Size, size}
 use Rattle.gl_calculus.specs.Value.{Scalar, Value, One, Array}
 use Rattle.gl_calculus.specs.Lift.{shape, is_small, table_if, table, hull, lift1, lift2, lift3}
 use Rattle.gl_forecast.specs.Forecast as Fo
-use Rattle.gl_forecast.specs.Forecast.{Shape, full, any_size, joined, all_joined, under, beside}
+use Rattle.gl_forecast.specs.Forecast.{Shape, full, joined, all_joined}
 use Rattle.gl_sound.proofs.Values.{IsSoundValue}
 use Rattle.gl_sound.proofs.Lift.{shape_positive}
 

@@ -18,13 +18,13 @@ use Rattle.gl_calculus.proofs.Settles.{formula_listed}
 use Rattle.gl_sound.specs.Fit.{is_fit, AreFit}
 use Rattle.gl_sound.proofs.References.{content_fit}
 use Rattle.gl_forecast.specs.Forecast as Fo
-use Rattle.gl_forecast.specs.Forecast.{Node, Entry, Piece, pieces, content_pieces, piece_nodes, piece_makes, dependences, uses_sheets, spilled_shape}
+use Rattle.gl_forecast.specs.Forecast.{Node, Entry, pieces, content_pieces, piece_nodes, piece_makes, dependences, uses_sheets, spilled_shape}
 use Rattle.gl_forecast.proofs.Alike.{Alike, both_return, both_look, alike_bind, alike_weaken, alike_asked, gives_both}
 use Rattle.gl_forecast.proofs.Oracles.{IsFit}
 use Rattle.gl_forecast.proofs.Shapes.{Fits}
 use Rattle.gl_forecast.proofs.Calls.{any_fits}
 use Rattle.gl_forecast.proofs.Reading as R
-use Rattle.gl_forecast.proofs.Reading.{Comes, Gets, IsValueOf}
+use Rattle.gl_forecast.proofs.Reading.{Comes, Gets}
 use Rattle.gl_forecast.proofs.Evaluating as G
 use Rattle.gl_sound.proofs.Values.{IsSoundValue}
 use Rattle.gl_calculus.proofs.Grants.{neither}

@@ -3,13 +3,13 @@ use Rattle.std.proofs.Common.{◌≡◌, ℕ, ◌+◌, ◌≤◌, Bool, true, fa
 use Rattle.std.specs.Prelude.{nat_lt, nat_le}
 use Rattle.std.proofs.lemmas.Bool.{or_parts, ltb-false}
 use Rattle.gl_calculus.specs.Limits.{max_minus}
-use Rattle.gl_calculus.specs.Formula.{Op, Level, Formula}
+use Rattle.gl_calculus.specs.Formula.{Level, Formula}
 use Rattle.gl_calculus.specs.Formula as F
 use Rattle.gl_language.specs.Text.{level_place, place_of, is_neg, needs_parens, one_more, minus_of}
 use Rattle.gl_language.specs.Token.{Signed}
 use Rattle.gl_language.specs.Token as T
 use Rattle.gl_language.specs.Canonical.{op_sign, tokens_in_place, tokens_behind, operands_tokens, arguments_tokens, more_tokens}
-use Rattle.gl_language.specs.Grammar.{Raw, Raws, no_raw, raw_and, RawOperands, Tokens, comparison, operator, chained, IsExpr, alone, compare, IsChain, chain, IsLinks, no_link, link, IsOperand, sum, prod, unary, IsUnary, neg, atom, IsAtom, number, text, truth, address, spill, corners, variable, apply, parens, IsArguments, no_argument, argument, IsMore, close, comma, tree, operand_trees, trees}
+use Rattle.gl_language.specs.Grammar.{Raw, Raws, no_raw, raw_and, RawOperands, Tokens, chained, IsExpr, alone, compare, IsChain, chain, IsLinks, no_link, link, IsOperand, sum, prod, unary, IsUnary, neg, atom, IsAtom, number, text, truth, address, spill, corners, variable, apply, parens, IsArguments, no_argument, argument, IsMore, close, comma, tree, operand_trees, trees}
 use Rattle.gl_language.specs.Grammar as G
 use Rattle.gl_grammar.proofs.Named.{IsNamed, AreNamed, AllNamed}
 use Rattle.gl_grammar.proofs.Made.{HasOperand, IsMade, AreMade, AllMade}

@@ -12,7 +12,7 @@ use Rattle.gl_language.specs.Text.{level_place, place_of, is_neg, needs_parens, 
 use Rattle.gl_language.specs.Token.{Token, Sign, Signed}
 use Rattle.gl_language.specs.Token as T
 use Rattle.gl_language.specs.Canonical.{op_sign, tokens_in_place, tokens_behind, operands_tokens, arguments_tokens, more_tokens}
-use Rattle.gl_language.specs.Grammar.{Raw, Raws, no_raw, raw_and, RawOperands, Tokens, comparison, operator, chained, IsExpr, alone, compare, IsChain, chain, IsLinks, no_link, link, IsOperand, sum, prod, unary, IsUnary, neg, atom, IsAtom, number, text, truth, address, spill, corners, variable, apply, parens, IsArguments, no_argument, argument, IsMore, close, comma, is_deep_from, tree, operand_trees, trees}
+use Rattle.gl_language.specs.Grammar.{Raw, Raws, RawOperands, Tokens, comparison, chained, IsExpr, alone, compare, IsChain, chain, IsLinks, no_link, link, IsOperand, sum, prod, unary, IsUnary, neg, atom, IsAtom, number, text, truth, address, spill, corners, variable, apply, parens, IsArguments, no_argument, argument, IsMore, close, comma, is_deep_from, tree, operand_trees, trees}
 use Rattle.gl_language.specs.Grammar as G
 use Rattle.gl_grammar.proofs.Named.{IsNamed, AreNamed, AllNamed}
 use Rattle.gl_grammar.proofs.Made.{same_some, comparison_sign, operator_sign}

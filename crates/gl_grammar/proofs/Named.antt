@@ -7,7 +7,7 @@ use Rattle.std.proofs.lemmas.Slice.Eq.{bytes_eq-Decides}
 use Rattle.gl_calculus.specs.Formula.{Fun, Formula, Formulas}
 use Rattle.gl_calculus.specs.Formula as F
 use Rattle.gl_language.specs.Text.{Bytes, fun_text, place_of, is_neg}
-use Rattle.gl_language.specs.Token.{Signed, IsRow, is_lower}
+use Rattle.gl_language.specs.Token.{Signed}
 use Rattle.gl_language.specs.Token as T
 use Rattle.gl_language.specs.Canonical.{tokens_behind, arguments_tokens, HasTokens, AllHaveTokens}
 use Rattle.gl_language.specs.Grammar.{Raw, Raws, no_raw, raw_and, RawOperands, function_of, all_functions, is_let, call_of, let_or_call, tree, trees, some_form, some_operand, some_argument, is_bad_range, is_bad_call, has_bad_name, bad_name_in_operands, bad_name_in, raws, allows_let, allows_word, ParseFault, form_fault}

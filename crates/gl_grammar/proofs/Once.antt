@@ -3,9 +3,9 @@ use Rattle.std.proofs.Common.{◌≡◌, [], ◌∷◌, ap, refl, sym, subst, �
 use Rattle.std.specs.Prelude.{Option, Some}
 use Rattle.gl_calculus.specs.Formula.{Op, Level}
 use Rattle.gl_calculus.specs.Formula as F
-use Rattle.gl_language.specs.Token.{Sign, Token, Signed}
+use Rattle.gl_language.specs.Token.{Sign, Signed}
 use Rattle.gl_language.specs.Token as T
-use Rattle.gl_language.specs.Grammar.{Raw, Raws, no_raw, raw_and, RawOperands, Tokens, comparison, operator, chained, IsExpr, alone, compare, IsChain, chain, IsLinks, no_link, link, IsOperand, sum, prod, unary, IsUnary, neg, atom, IsAtom, number, text, truth, address, spill, corners, variable, apply, parens, IsArguments, no_argument, argument, IsMore, close, comma}
+use Rattle.gl_language.specs.Grammar.{Raw, Raws, raw_and, RawOperands, Tokens, comparison, operator, chained, IsExpr, alone, compare, IsChain, chain, IsLinks, no_link, link, IsOperand, sum, prod, unary, IsUnary, neg, atom, IsAtom, number, text, truth, address, spill, corners, variable, apply, parens, IsArguments, no_argument, argument, IsMore, close, comma}
 use Rattle.gl_language.specs.Grammar as G
 use Rattle.gl_grammar.proofs.Ends.{Ends, chain_end, operand_end, later, compares, operates, links_end, more_ends}
 

@@ -1,11 +1,9 @@
 //! Granting permits.
-ghost use Rattle.std.specs.Prelude.{◌≡◌, ◌++◌, ◌∷◌, [], Bool, IsTrue, IfOk, OnOk, OnErr, take};
-ghost use Rattle.std.specs.Prelude.{option_map, if◌then◌else◌};
+ghost use Rattle.std.specs.Prelude.{◌≡◌, IsTrue, IfOk, take};
 ghost use Rattle.std.specs.List.{list_all, list_any};
 ghost use Rattle.gl_calculus.specs.Grid.{area, grid, lies_in, meets};
-ghost use Rattle.gl_calculus.specs.Oracle.{IsInOrder, ArePermits, is_free, grant};
+ghost use Rattle.gl_calculus.specs.Oracle.{ArePermits, is_free, grant};
 ghost use Rattle.gl_calculus.specs.Value.{Permitted, Refused};
-ghost use Rattle.gl_plane.specs.Permit.{permit_tree};
 ghost use Rattle.gl_grant.specs.Granted.{taken_by, entry_behind, fits_grid};
 
 use crate::Blocks;

@@ -1,5 +1,5 @@
 //! The starts of segments.
-ghost use Rattle.std.specs.Prelude.{◌≡◌, ◌≤◌, ◌++◌, ◌∷◌, [], List, ℕ, nat_lt, nat_eq};
+ghost use Rattle.std.specs.Prelude.{◌≡◌, nat_lt, nat_eq};
 ghost use Rattle.gl_graph.specs.Search.{Rises, AreCut, passes, last_of};
 
 /// Drops the starts behind the place.

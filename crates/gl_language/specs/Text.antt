@@ -6,9 +6,9 @@ use Rattle.gl_calculus.specs.Limits.{max_minus}
 use Rattle.gl_calculus.specs.Grid.{Range, Size}
 use Rattle.gl_calculus.specs.Notation.{address_text}
 use Rattle.gl_calculus.specs.ErrKind.{ErrKind}
-use Rattle.gl_calculus.specs.Value.{Permit, Permitted, Refused, Entry, Oracle, Scalar, region}
+use Rattle.gl_calculus.specs.Value.{Scalar, region}
 use Rattle.gl_calculus.specs.Value as V
-use Rattle.gl_calculus.specs.Formula.{Op, Level, Cat, Sum, Prod, Fun, Formula, Formulas, Operands, Content, Const, Form, Cells}
+use Rattle.gl_calculus.specs.Formula.{Op, Level, Cat, Sum, Prod, Fun, Formula, Formulas, Operands, Content, Const, Form}
 use Rattle.gl_calculus.specs.Formula as F
 use Rattle.gl_calculus.specs.Calculation.{Shown, Cycle}
 

@@ -13,7 +13,7 @@ use Rattle.gl_calculus.specs.Notation.{column_text, address_text}
 use Rattle.gl_plane.specs.Parts.{IsAddr}
 use Rattle.gl_language.specs.Text.{Bytes, truth_text}
 use Rattle.gl_language.specs.Token as T
-use Rattle.gl_language.specs.Token.{is_digit, is_upper, is_lower, IsRow, NotBefore, Spells, Takes, EndsBefore, digits_value, integer, quoted, address, truth, word, variable, signed}
+use Rattle.gl_language.specs.Token.{is_digit, is_upper, IsRow, NotBefore, Spells, Takes, EndsBefore, digits_value, integer, quoted, address, truth, word, variable, signed}
 use Rattle.gl_lex.specs.declared.Kind.{Kind}
 use Rattle.gl_lex.specs.declared.Kind.TheVariants as k
 use Rattle.gl_lex.specs.declared.scan.Bad.TheVariants as bad

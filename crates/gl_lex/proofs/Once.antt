@@ -9,7 +9,7 @@ use Rattle.gl_calculus.specs.Grid.{Addr, addr, grid, covers}
 use Rattle.gl_calculus.specs.Notation.{column_text, address_text}
 use Rattle.gl_language.specs.Text.{Bytes}
 use Rattle.gl_language.specs.Token as T
-use Rattle.gl_language.specs.Token.{is_digit, is_upper, is_lower, Takes, Spells, Reads, no_more, space, token, Lexes, LexFault, IsLexFault, fault_at}
+use Rattle.gl_language.specs.Token.{is_digit, is_upper, is_lower, Takes, Reads, no_more, space, token, LexFault, IsLexFault, fault_at}
 use Rattle.gl_language.specs.Laws.{OneTokenList, OneLexFault, TokensOrFault}
 use Rattle.gl_lex.specs.Front.{NoToken, sign_len}
 use Rattle.gl_lex.proofs.Starts.{on_grid, spells_begins}

@@ -3,7 +3,7 @@ use Rattle.std.proofs.Common.{◌≡◌, ℕ, ◌<◌, ◌≤◌, true, false, �
 use Rattle.std.proofs.lemmas.Bool.Decides.{nat_tests}
 use Rattle.gl_language.specs.Text.{Bytes}
 use Rattle.gl_language.specs.Token as T
-use Rattle.gl_language.specs.Token.{is_digit, is_upper, is_lower, NotBefore, Spells, Takes, EndsBefore, integer, quoted, address, truth, word, variable, signed}
+use Rattle.gl_language.specs.Token.{is_digit, is_upper, is_lower, NotBefore, Takes, EndsBefore, integer, quoted, address, truth, word, variable, signed}
 use Rattle.gl_lex.specs.declared.Sign.{Sign}
 use Rattle.gl_lex.specs.declared.Kind.TheVariants as k
 use Rattle.gl_lex.specs.declared.scan.Bad.TheVariants as bad

@@ -1,6 +1,6 @@
 //! A form as a formula.
 
-ghost use Rattle.std.specs.Prelude.{◌≡◌, IfOk, IsTrue};
+ghost use Rattle.std.specs.Prelude.{◌≡◌, IfOk};
 ghost use Rattle.std.specs.Rc.{rc_str_bytes};
 ghost use Rattle.gl_calculus.specs.Grid.{range};
 ghost use Rattle.gl_calculus.specs.Formula as F;

@@ -1,7 +1,6 @@
 //! The words that are called.
 
-ghost use Rattle.std.specs.Prelude.{◌≡◌, codes, bytes_eq, option_map};
-ghost use Rattle.gl_calculus.specs.Formula as F;
+ghost use Rattle.std.specs.Prelude.{◌≡◌, bytes_eq, option_map};
 ghost use Rattle.gl_language.specs.Text.{fun_text};
 ghost use Rattle.gl_language.specs.Grammar as G;
 ghost use Rattle.gl_ast.specs.View.{fun_tree};

@@ -1,6 +1,6 @@
 //! The words that are called, and the variables that `LET` binds.
 
-ghost use Rattle.std.specs.Prelude.{◌≡◌, IfOk, MatchOption, is_some, true, false, not, length, ⊤};
+ghost use Rattle.std.specs.Prelude.{◌≡◌, IfOk, MatchOption, is_some, true, false, length, ⊤};
 ghost use Rattle.std.specs.Prelude.{◌||◌, [], ◌∷◌, bytes_eq};
 ghost use Rattle.std.specs.List.{list_any};
 ghost use Rattle.gl_language.specs.Text.{Bytes};

@@ -1,6 +1,6 @@
 //! What stands in front of some tokens.
 
-ghost use Rattle.std.specs.Prelude.{◌≡◌, ◌+◌, ◌∷◌, length, MatchOption, slice_range, ⊤};
+ghost use Rattle.std.specs.Prelude.{◌≡◌, ◌+◌, ◌∷◌, length, MatchOption, ⊤};
 ghost use Rattle.gl_calculus.specs.Grid.{Addr};
 ghost use Rattle.gl_language.specs.Grammar.{Tokens, comparison, operator};
 ghost use Rattle.gl_language.specs.Token.{Address, Signed};

@@ -22,7 +22,7 @@ use Rattle.gl_edits.specs.Replicas.{Edit, stamp, is_stamp}
 use Rattle.gl_explanation.specs.Certificate.{Certificate, Cert, Explains, verdict}
 use Rattle.gl_protocol.specs.Pieces.{cut_at, pieces, is_number}
 use Rattle.gl_protocol.specs.Explanations.{explanation_text}
-use Rattle.gl_calculus.specs.Calculation.{Answer, SpentKind, IsAnswer, Shown, IsShown}
+use Rattle.gl_calculus.specs.Calculation.{SpentKind, Shown, IsShown}
 use Rattle.gl_calculus.specs.Calculation as A
 use Rattle.gl_calculus.specs.Oracle as O
 

@@ -1,5 +1,5 @@
 //! The text of an explanation.
-ghost use Rattle.std.specs.Prelude.{◌≡◌, ◌++◌, codes, flat_map, map, IfOk, OnOk};
+ghost use Rattle.std.specs.Prelude.{◌≡◌, ◌++◌, codes, map, IfOk, OnOk};
 ghost use Rattle.std.specs.{Fmt.decimal, String.string_bytes};
 ghost use Rattle.gl_calculus.specs.Key as K;
 ghost use Rattle.gl_language.specs.Text as text;

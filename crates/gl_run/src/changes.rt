@@ -5,7 +5,7 @@ ghost use Rattle.gl_language.specs.Content.{IsProperContent};
 ghost use Rattle.gl_calculus.specs.Grid.{AreInOrder};
 ghost use Rattle.gl_protocol.specs.Script.{settings, removals};
 ghost use Rattle.gl_cells.specs.{Content.content_tree, Sheet.sheet, Sheet.AreProper};
-ghost use Rattle.gl_undo.specs.View.{AreProperChanges, IsProperOption, IsShared, changes_tree};
+ghost use Rattle.gl_undo.specs.View.{AreProperChanges, IsShared, changes_tree};
 ghost use Rattle.gl_run.specs.Ready.{places};
 
 use gl_cells::{Cells, Content};

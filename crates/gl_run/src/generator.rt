@@ -1,6 +1,6 @@
 //! The generated script.
-ghost use Rattle.std.specs.Prelude.{◌≡◌, ◌≤◌, ◌++◌, IfOk, OnOk, codes, flat_map, length};
-ghost use Rattle.std.specs.{Fmt.decimal, List.range_with_len, String.string_bytes};
+ghost use Rattle.std.specs.Prelude.{◌≡◌, ◌≤◌, ◌++◌, IfOk, OnOk, codes, length};
+ghost use Rattle.std.specs.{Fmt.decimal, String.string_bytes};
 ghost use Rattle.gl_calculus.specs.Limits.{max_generated};
 ghost use Rattle.gl_protocol.specs.Output.{row_number, generated_payload, recursion_line};
 ghost use Rattle.gl_protocol.specs.Output.{generated};

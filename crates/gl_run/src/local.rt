@@ -1,8 +1,7 @@
 //! What an edit of the sheet becomes: a step that can be undone, or edits of the replica.
-ghost use Rattle.std.specs.Prelude.{◌≡◌, map, option_map, Some, IfOk, IfSome};
+ghost use Rattle.std.specs.Prelude.{◌≡◌, Some, IfOk};
 ghost use Rattle.gl_calculus.specs.Grid.{AreInOrder};
 ghost use Rattle.gl_edits.specs.Replicas.{stamped, taking_all};
-ghost use Rattle.gl_protocol.specs.Commands.{word_text};
 ghost use Rattle.gl_merge.specs.{Index.trees, Replica.AreOrdered, Replica.replica_tree};
 ghost use Rattle.gl_undo.specs.View.{AreProperChanges, changes_tree};
 ghost use Rattle.gl_undo.specs.View as undo;
@@ -13,7 +12,6 @@ ghost use Rattle.gl_run.specs.{Replies.IsRefusal, Script.known_of, Script.script
 use crate::changes::Change;
 use crate::lines::error_line;
 use crate::script::Script;
-use gl_cells::Cells;
 use gl_merge::{Edit, Replica, RoomFault, Stamp};
 use gl_plane::{Addr, NoMemory};
 use gl_undo::{Step, step_of};

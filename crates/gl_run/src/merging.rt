@@ -1,5 +1,5 @@
 //! Replicas: how a script becomes one, and the edits that it takes.
-ghost use Rattle.std.specs.Prelude.{◌≡◌, ◌∷◌, [], IsTrue, IsSome, option_map};
+ghost use Rattle.std.specs.Prelude.{◌≡◌, IsTrue, IsSome, option_map};
 ghost use Rattle.gl_edits.specs.Replicas.{is_stamp};
 ghost use Rattle.gl_protocol.specs.Script.{allowed_change};
 ghost use Rattle.gl_protocol.specs.Commands as C;

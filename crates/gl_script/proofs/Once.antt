@@ -18,7 +18,7 @@ use Rattle.gl_lex.proofs.Once.{one_address}
 use Rattle.gl_grammar.proofs.Readings.{one_formula, one_fault, formula_or_fault}
 use Rattle.gl_edits.specs.Replicas.{stamp, is_stamp}
 use Rattle.gl_protocol.specs.Commands as C
-use Rattle.gl_protocol.specs.Commands.{Read, Is, Not, ReadsContent, ReadsRange, ReadsWords, ReadsLine, IsAddress, NoAddress, IsPlace, in_order, plain_scalar, fault_word, is_comment, words_of, ImportWords, TextWord, FieldWord}
+use Rattle.gl_protocol.specs.Commands.{Read, Is, Not, ReadsContent, ReadsRange, ReadsWords, ReadsLine, IsAddress, IsPlace, in_order, plain_scalar, fault_word, is_comment, words_of, TextWord, FieldWord}
 use Rattle.gl_script.proofs.Places.{Corners, corners, address_lacks, same_cut, holds_colon}
 use Rattle.gl_script.proofs.Headers.{Lacks}
 

@@ -7,7 +7,7 @@ use Rattle.gl_protocol.specs.Framing.{Line}
 use Rattle.gl_protocol.specs.Header.{payload_len}
 use Rattle.gl_protocol.specs.Output.{is_line}
 use Rattle.gl_protocol.specs.Commands as C
-use Rattle.gl_protocol.specs.Commands.{Word, Is, Not, ReadsLine, words_of, SetWords, EditWords, ImportWords, is_comment, IsAddress, NoAddress}
+use Rattle.gl_protocol.specs.Commands.{Word, Is, Not, ReadsLine, words_of, SetWords, EditWords, ImportWords, IsAddress, NoAddress}
 use Rattle.gl_lex.specs.declared.fault.LexFault.TheVariants as lex
 use Rattle.gl_parse.specs.Outcome.{IsRefused}
 use Rattle.gl_parse.specs.declared.fault.ParseFault.{ParseFault}

@@ -7,7 +7,7 @@ use Rattle.gl_query.specs.Evaluation.{given}
 use Rattle.gl_query.proofs.Asked.{Keeps, keeps_return, keeps_look, keeps_ask, keeps_bind}
 use Rattle.gl_calculus.specs.Grid.{Addr, same_addr, Range, addr, single, extents, addresses, covers}
 use Rattle.gl_calculus.specs.Value as V
-use Rattle.gl_calculus.specs.Value.{Scalar, Value, One, Array, scalars, Overrides, sheet_value, Oracle, Permit, Frame, Top, In, region}
+use Rattle.gl_calculus.specs.Value.{Scalar, Value, One, Array, sheet_value, Oracle, Permit, Frame, Top, In}
 use Rattle.gl_calculus.specs.Sheet.{override_at}
 use Rattle.gl_calculus.specs.Formula.{Content, Const, Form, Cells, content}
 use Rattle.gl_calculus.specs.Oracle.{Cover}

@@ -5,7 +5,7 @@ use Rattle.std.proofs.lemmas.Bool.Decides.{nat_tests}
 use Rattle.gl_calculus.specs.Limits.{max_rank, max_weight}
 use Rattle.gl_calculus.specs.Grid.{Addr, Range, same_addr, is_before, covers}
 use Rattle.gl_calculus.specs.Value as V
-use Rattle.gl_calculus.specs.Value.{Overrides, no_override, override_and, elements, Frame, Top, In, SheetValue, sheet_value}
+use Rattle.gl_calculus.specs.Value.{Overrides, no_override, override_and, elements, Frame, SheetValue, sheet_value}
 use Rattle.gl_calculus.specs.Sheet as M
 use Rattle.gl_calculus.specs.Sheet.{Made, override_at, with_override, overrides_weight, frame_weight, frame_rank, rank_above, weight, weighed, within_limits, sheet, update}
 use Rattle.gl_calculus.specs.Sound.{are_inside, overrides_rank, is_sound_value, are_sound_overrides, is_sound_frame, is_sound_sheet}

@@ -6,13 +6,13 @@ use Rattle.std.proofs.lemmas.Bool.{and_parts, and_from, or_parts, not-false, leb
 use Rattle.gl_calculus.specs.Limits.{max_text, max_cells}
 use Rattle.gl_calculus.specs.Grid.{Addr, range, extents}
 use Rattle.gl_calculus.specs.Value as V
-use Rattle.gl_calculus.specs.Formula.{Level, Fun, Formula, Formulas, Operands, Content, Const, Form, Cells}
+use Rattle.gl_calculus.specs.Formula.{Level, Fun, Formula, Formulas, Content, Const, Form}
 use Rattle.gl_calculus.specs.Formula as F
 use Rattle.gl_calculus.specs.Sound.{is_size}
 use Rattle.gl_language.specs.Text.{Bytes}
 use Rattle.gl_language.specs.Token.{IsToken, Quoted, quoted}
 use Rattle.gl_language.specs.Grammar as G
-use Rattle.gl_language.specs.Grammar.{Raw, Raws, no_raw, raw_and, RawOperands, Tokens, chained, IsExpr, alone, compare, IsChain, chain, IsLinks, no_link, link, IsOperand, sum, prod, unary, IsUnary, neg, atom, IsAtom, number, text, truth, address, spill, corners, variable, apply, parens, IsArguments, no_argument, argument, IsMore, close, comma, function_of, is_let, call_of, let_or_call, tree, operand_trees, trees, some_form, some_operand, some_argument, is_bad_range, is_bad_call, has_bad_name, raws, allows, allows_word, ParseFault, form_fault}
+use Rattle.gl_language.specs.Grammar.{Raw, Raws, no_raw, raw_and, RawOperands, Tokens, chained, IsExpr, alone, compare, IsChain, chain, IsLinks, no_link, link, IsOperand, sum, prod, unary, IsUnary, neg, atom, IsAtom, number, text, truth, address, spill, corners, variable, apply, parens, IsArguments, no_argument, argument, IsMore, close, comma, function_of, is_let, call_of, let_or_call, tree, operand_trees, trees, some_form, some_operand, some_argument, is_bad_range, is_bad_call, has_bad_name, raws, allows, allows_word, ParseFault}
 use Rattle.gl_language.specs.Content.{IsProperContent}
 use Rattle.gl_sound.specs.Fit.{takes, is_fit, are_fit, are_fit_operands, is_fit_content}
 use Rattle.gl_sound.specs.Laws.{WellFormedIsFit, ProperIsFit}

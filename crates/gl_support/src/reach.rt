@@ -1,7 +1,7 @@
 //! What is reached from seeds.
 ghost use Rattle.std.specs.Prelude.{◌≡◌, ◌≤◌, ◌<◌, ◌+◌, ◌||◌, ◌&&◌, not, ℕ, length, All, OnOk};
-ghost use Rattle.std.specs.Prelude.{IfOk, vec_len, nat_eq};
-ghost use Rattle.gl_support.specs.Reach.{is_marked, has, row_of, IsLeast, IsGraph, unmarked};
+ghost use Rattle.std.specs.Prelude.{IfOk, vec_len};
+ghost use Rattle.gl_support.specs.Reach.{is_marked, has, IsLeast, IsGraph, unmarked};
 
 use std::alloc::{AllocError, Global};
 

@@ -1,5 +1,5 @@
 //! The rings of steps.
-ghost use Rattle.std.specs.Prelude.{◌≡◌, ◌≤◌, ◌<◌, ◌+◌, [], ◌∷◌, take, length, slice_get};
+ghost use Rattle.std.specs.Prelude.{◌≡◌, ◌<◌, [], ◌∷◌, take, length, slice_get};
 ghost use Rattle.std.specs.Prelude.{option_copied, IfOk};
 ghost use Rattle.gl_edits.specs.Limits.{max_steps};
 ghost use Rattle.gl_undo.specs.Rings.{MovesFirst};

@@ -1,5 +1,5 @@
 //! A script is answered into a sink.
-ghost use Rattle.std.specs.Prelude.{◌≡◌, ◌≢◌, ◌≤◌, ℕ, List, Option, map, string_bytes, IfOk, None};
+ghost use Rattle.std.specs.Prelude.{◌≡◌, ◌≢◌, ℕ, List, Option, IfOk, None};
 ghost use Rattle.gl_run.specs.{Call.words_call, Call.input_of, Status.number_of};
 ghost use Rattle.gridlet_c.specs.Statuses.{Leaves};
 

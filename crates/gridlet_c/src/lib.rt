@@ -2,7 +2,7 @@
 //! static library; `include/gridlet.h` declares it.
 #![tactic(auto)]
 
-ghost use Rattle.std.specs.Prelude.{◌≡◌, ◌≢◌, ◌↔◌, ◌⊎◌, ◌≤◌, ℕ, [], take, drop, length, Some};
+ghost use Rattle.std.specs.Prelude.{◌≡◌, ◌≢◌, ◌↔◌, ◌⊎◌, ◌≤◌, [], take, drop, length, Some};
 ghost use Rattle.std.specs.Prelude.{IsTrue};
 ghost use Rattle.gl_language.specs.Text.{Bytes};
 ghost use Rattle.gl_run.specs.{declared.top.Status.Status as Ended, Status.number_of};

@@ -1,5 +1,5 @@
 //! Scalars that are written as cells show them.
-ghost use Rattle.std.specs.Prelude.{IfOk, IsTrue};
+ghost use Rattle.std.specs.Prelude.{IsTrue};
 ghost use Rattle.gl_calculus.specs.Sound.{is_sound_value};
 ghost use Rattle.gl_value.specs.View.{value_tree};
 

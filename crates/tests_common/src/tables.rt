@@ -1,5 +1,4 @@
 //! Tables of texts.
-ghost use Rattle.std.specs.Prelude.{◌≡◌};
 
 use std::alloc::Global;
 use std::test::Fail;

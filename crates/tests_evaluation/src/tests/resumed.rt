@@ -1,5 +1,5 @@
 //! Runs that begin with the results of an earlier one, over one sheet.
-ghost use Rattle.std.specs.Prelude.{◌≡◌, ◌≤◌, [], IfOk};
+ghost use Rattle.std.specs.Prelude.{◌≤◌, [], IfOk};
 ghost use Rattle.gl_query.specs.{InOrder.AreOrdered, Laws.IsQuiet, Remembered.AreTrue};
 ghost use Rattle.gl_calculus.specs.Key.{same_key};
 ghost use Rattle.gl_ast.specs.View.{version_tree};
