@@ -65,14 +65,8 @@ fn element(v: &Value, k: usize) -> Option<&Scalar>
 
 /// The item of an array at an index in row-major order.
 fn item(a: &Array, k: usize) -> Option<&Scalar>
-    requires { IsTrue (is_sound_value (array_tree a.now)) }
     ensures { option_map scalar_tree (option_copied result)
         ≡ slice_get (elements (array_tree a.now)) k }
 {
-    let cols = a.size().cols();
-    let row = k / usize::from(cols);
-    if row >= usize::from(a.size().rows()) {
-        return None;
-    }
-    a.item(row as u16, (k % usize::from(cols)) as u16)
+    a.items().get(k)
 }

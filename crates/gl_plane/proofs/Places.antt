@@ -7,6 +7,7 @@ use Rattle.std.proofs.lemmas.Nat.{div-add-mod'}
 use Rattle.std.proofs.lemmas.List.FromFn.{length-map-range_with_len}
 use Rattle.gl_calculus.specs.Grid.{Addr, addr, Range, extents, addresses}
 use Rattle.gl_calculus.proofs.Tests.{both}
+use Rattle.gl_plane.specs.Addresses.{addresses_from}
 use Rattle.gl_plane.specs.Parts.{is_ordered}
 use Rattle.gl_plane.proofs.Cells.{addresses_count}
 
@@ -88,3 +89,11 @@ placed r i n first last e f o k l =
 pub counted : (r : Range) (first last : Addr) → first ≡ r.first → last ≡ r.last → (last.row + 1 - first.row) * (last.col + 1 - first.col) ≡ length (addresses r)
 counted r first last e f =
     ap (λ a. (a.row + 1 - first.row) * (a.col + 1 - first.col)) f ∙ ap (λ a. (r.last.row + 1 - a.row) * (r.last.col + 1 - a.col)) e ∙ sym (addresses_count r)
+
+-- from the first on all are to come
+pub all_to_come : (r : Range) → IsTrue (is_ordered r.first r.last) → addresses_from r (Some r.first) ≡ addresses r
+all_to_come r o =
+    let (v, h) = both (nat_le r.first.row r.last.row) (nat_le r.first.col r.last.col) o in
+    let rows = leb-true r.first.row r.last.row v in
+    let e : (extents r).rows ≡ suc (r.last.row - r.first.row) = omega (arith, rows) in
+    rw e refl
