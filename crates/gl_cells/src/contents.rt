@@ -13,7 +13,7 @@ ghost use Rattle.gl_cells.specs.{Search.AtOrAfter};
 ghost use Rattle.gl_cells.specs.Listed.{listed, IsListed};
 ghost use Rattle.gl_cells.specs.Sheet.{addr_cmp, sheet};
 
-use crate::Content;
+use crate::{Content, Hint};
 use gl_plane::{Addr, NoMemory};
 use indexmap::IndexMap;
 use std::alloc::Global;
@@ -122,6 +122,26 @@ impl Contents {
         ensures value { option_copied result ≡ lookup (is_at (addr_cmp a)) self.now }
     {
         self.found.get(&a)
+    }
+
+    /// The same, looked for where the hint says before it is looked for by its hash.
+    pub fn get_near(&self, a: Addr, hint: &mut Hint) -> Option<&Content>
+        ensures value { option_copied result ≡ lookup (is_at (addr_cmp a)) self.now }
+    {
+        let place = hint.place();
+        if let Some((b, content)) = self.found.get_index(place) {
+            if *b == a {
+                hint.found(place);
+                return Some(content);
+            }
+        }
+        match self.found.get_full(&a) {
+            Some((place, _, content)) => {
+                hint.found(place);
+                Some(content)
+            }
+            None => None,
+        }
     }
 
     /// How many there are.

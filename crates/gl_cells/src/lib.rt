@@ -7,6 +7,7 @@ mod clear;
 mod content;
 mod contents;
 mod fault;
+mod hint;
 mod plain;
 mod search;
 mod table;
@@ -14,6 +15,7 @@ mod table;
 pub use cells::Cells;
 pub use content::Content;
 pub use fault::PutFault;
+pub use hint::Hint;
 pub use plain::plain_scalar;
 
 /// The most formulas that a sheet has.
