@@ -15,7 +15,7 @@ ghost use Rattle.gl_value.specs.View.{scalar_tree, value_tree, frame_tree};
 ghost use Rattle.gl_demand.specs.Held.{held_tree, IsSoundHeld, override_in};
 
 use gl_ast::Formula;
-use gl_cells::{Cells, Content};
+use gl_cells::{Cells, Content, Hint};
 use gl_plane::{Addr, Oracle, Permit};
 use gl_value::{Env, Scalar, Value};
 
@@ -143,6 +143,23 @@ pub fn held_at<'a>(cells: &'a Cells, env: &'a Env, a: Addr) -> Option<Held<'a>>
         content_in(cells, env, a)
     } else {
         None
+    }
+}
+
+/// The same, where the hint tells where the sheet's content is likely to stand.
+#[tactic(auto, using(gl_value::specs::Forms::trees))]
+pub fn held_near<'a>(cells: &'a Cells, env: &'a Env, a: Addr, hint: &mut Hint) -> Option<Held<'a>>
+    requires { IsTrue (is_sound_frame (frame_tree env.now)) }
+    ensures value { option_map held_tree result
+        ≡ own_content (content (sheet cells.now) a) (frame_tree env.now) a }
+    ensures sound { IfSome result (λ h. IsSoundHeld (held_tree h)) }
+{
+    match env {
+        Env::Top => match cells.content_near(a, hint) {
+            Some(content) => Some(held_top(content)),
+            None => None,
+        },
+        Env::In(_, _) => held_at(cells, env, a),
     }
 }
 

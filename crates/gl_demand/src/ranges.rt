@@ -17,10 +17,11 @@ ghost use Rattle.gl_ahead.specs.Reading.{Area};
 
 use crate::context::Context;
 use crate::demand::known_cell;
-use crate::held::{Held, constant_in, formula_in, held_at, is_blank};
+use crate::held::{Held, constant_in, formula_in, held_near, is_blank};
 use crate::reading::{shown_at, sound_home};
 use crate::trail::{Eval, Halt, Trail};
 use crate::{Ahead, Known, Reference};
+use gl_cells::Hint;
 use gl_plane::{Addr, NoMemory, Range, Share, Size};
 use gl_value::{Array, Env, Scalar, Value};
 use indexmap::IndexSet;
@@ -46,8 +47,8 @@ fn known_at<K: Known>(
     trail: &mut Trail,
 ) -> Result<Option<Scalar>, NoMemory>
     requires { IsTrue (is_sound_frame (frame_tree env.now)) }
-    ensures formula { IfOk result (λ o.
-        IfSome o (λ _. (f : Formula) × (option_map held_tree held.entry ≡ Some (R.Held.Computed f)))) }
+    ensures formula { IfOk result (λ o. IfSome o
+        (λ _. (f : Formula) × (option_map held_tree held.entry ≡ Some (R.Held.Computed f)))) }
     ensures read { IfOk result (λ o.
         IfSome o (λ x. ReadsKnown (world_of ctx.now) (Cell (frame_tree env.now) a) trail.old x
         trail.new)) }
@@ -67,6 +68,7 @@ fn read_onto<K: Known>(
     ctx: &Context<K>,
     env: &Env,
     a: Addr,
+    hint: &mut Hint,
     seen: &mut IndexSet<Addr>,
     items: &mut Vec<Scalar>,
     trail: &mut Trail,
@@ -84,7 +86,7 @@ fn read_onto<K: Known>(
     ensures len { OnOk result (vec_len items.new ≡ vec_len items.old + 1) }
 {
     let home = sound_home(env, a);
-    let held = held_at(ctx.cells, home, a);
+    let held = held_near(ctx.cells, home, a, hint);
     if let Some(x) = constant_in(held) {
         push(items, x.share()?)?;
         return Ok(());
@@ -122,10 +124,13 @@ fn read_range<K: Known>(
     ensures sound { IfOk result (λ v. IsTrue (are_sound (item_trees v.items))) }
     ensures count { IfOk result (λ v. vec_len v ≡ length (addresses r.now)) }
 {
+    let Ok(mut items) = Vec::with_capacity(ctx.alloc, r.cells() as usize) else {
+        return Err(Halt::NoMemory);
+    };
+    let mut hint = Hint::new();
     let mut seen = IndexSet::new(ctx.alloc);
-    let mut items = Vec::new(ctx.alloc);
-    for i in 0..r.cells() {
-        match read_onto(ctx, env, r.place(i), &mut seen, &mut items, trail) {
+    for a in r.addresses() {
+        match read_onto(ctx, env, a, &mut hint, &mut seen, &mut items, trail) {
             Ok(()) => {}
             Err(halt) => return Err(halt),
         }

@@ -18,14 +18,14 @@ returns-in-Some-clause-read g c =
     let x = fact (sheet c.args.ctx.now.cells.now) c.args.ctx.now.w.now c.args.a in
     let t = c.args.trail.now in
     λ s h. record {
-      ok = (c.in_ok-share.field-0, c.in_ok-push.ensures.items, constant_read w (frame_tree c.args.env.now) s x c.args.seen.now.keys t t t (frame_tree c.sound_home-home.result.now) c.in_ok-share.field-0 (scalar_tree c.in-Some.x.now) h c.sound_home-home.ensures.value (sym c.in-Some.ensures ∙ c.held_at-held.ensures.value) c.in_ok-share.ensures.0);
+      ok = (c.in_ok-share.field-0, c.in_ok-push.ensures.items, constant_read w (frame_tree c.args.env.now) s x c.args.seen.now.keys t t t (frame_tree c.sound_home-home.result.now) c.in_ok-share.field-0 (scalar_tree c.in-Some.x.now) h c.sound_home-home.ensures.value (sym c.in-Some.ensures ∙ c.held_near-held.ensures.value) c.in_ok-share.ensures.0);
       err = tt;
     }
 
 pub returns-in-Some-clause-sound : goal.returns-in-Some-clause-sound
 returns-in-Some-clause-sound g c = λ k.
     still_sound c.args.items.now.items c.push.new.items.items c.in_ok-share.field-0 c.in_ok-push.ensures.items k
-    (subst (λ z. IsTrue (is_sound_scalar z)) (sym c.in_ok-share.ensures.0) (held_sound c.held_at-held.result (scalar_tree c.in-Some.x.now) c.in-Some.ensures c.held_at-held.ensures.sound))
+    (subst (λ z. IsTrue (is_sound_scalar z)) (sym c.in_ok-share.ensures.0) (held_sound c.held_near-held.result (scalar_tree c.in-Some.x.now) c.in-Some.ensures c.held_near-held.ensures.sound))
 
 pub returns-in_ok-push-in-Ok-clause-read : goal.returns-in_ok-push-in-Ok-clause-read
 returns-in_ok-push-in-Ok-clause-read g c =
@@ -65,7 +65,7 @@ returns-then-is_blank-clause-read g c =
         S.Blank,
         c.in_ok-push-2.ensures.items,
         blank_read w (frame_tree c.args.env.now) s x c.args.seen.now.keys t t t (frame_tree c.sound_home-home.result.now) S.Blank h c.sound_home-home.ensures.value
-            (sym (c.is_blank.ensures.held c.if-is_blank.true) ∙ c.held_at-held.ensures.value) (sym (c.is_blank.ensures.cover c.if-is_blank.true (sheet c.args.ctx.now.cells.now))) scalar_tree-Blank,
+            (sym (c.is_blank.ensures.held c.if-is_blank.true) ∙ c.held_near-held.ensures.value) (sym (c.is_blank.ensures.cover c.if-is_blank.true (sheet c.args.ctx.now.cells.now))) scalar_tree-Blank,
       );
       err = tt;
     }
@@ -81,7 +81,7 @@ returns-in_ok-push-in-Some-2-clause-read g c =
     let formula = rw c.in-Some-2.is at c.in_ok-x.ensures.formula in
     let known = rw c.in-Some-2.is at c.in_ok-x.ensures.read in
     λ s h. record {
-      ok = (c.in-Some-2.x, c.in_ok-push-in-Some-2.ensures.items, known_read w (frame_tree c.args.env.now) s x c.args.seen.now.keys t t c.known_at.new.trail (frame_tree c.sound_home-home.result.now) formula.0 c.in-Some-2.x h c.sound_home-home.ensures.value (sym formula.1 ∙ c.held_at-held.ensures.value) known);
+      ok = (c.in-Some-2.x, c.in_ok-push-in-Some-2.ensures.items, known_read w (frame_tree c.args.env.now) s x c.args.seen.now.keys t t c.known_at.new.trail (frame_tree c.sound_home-home.result.now) formula.0 c.in-Some-2.x h c.sound_home-home.ensures.value (sym formula.1 ∙ c.held_near-held.ensures.value) known);
       err = tt;
     }
 
