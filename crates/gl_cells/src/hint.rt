@@ -1,9 +1,9 @@
-//! Where the next content is likely to stand.
+//! Where the next of several things is likely to stand.
 ghost use Rattle.std.specs.Prelude.{◌≡◌, ◌<◌, ◌≤◌, ◌+◌, ◌-◌, ◌^◌};
 
-/// Where the content of the next address is likely to stand among the contents in the order in which
-/// they came: as far behind the last one as that stood behind the one before. So the contents of a row
-/// or column that were put one after the other are found without a search.
+/// Where the next one is likely to stand, of those that are asked for one after another: as far behind
+/// the last as that stood behind the one before. So the contents of a row or column that came in order
+/// are found without a search, and the numbers of its formulas. No answer depends on a hint.
 #[derive(Clone, Copy)]
 pub struct Hint {
     last: usize,
@@ -11,7 +11,7 @@ pub struct Hint {
 }
 
 impl Hint {
-    /// The first content of all.
+    /// The first place of all.
     pub fn new() -> Hint
         ensures last { result.last ≡ 0 }
         ensures step { result.step ≡ 0 }
@@ -20,14 +20,14 @@ impl Hint {
     }
 
     /// The place that is likely.
-    pub(crate) fn place(self) -> usize
+    pub fn place(self) -> usize
         ensures { self.last + self.step < 2 ^ 64 → result ≡ self.last + self.step }
     {
         self.last.wrapping_add(self.step)
     }
 
-    /// The content stood at this place.
-    pub(crate) fn found(&mut self, place: usize)
+    /// It stood at this place.
+    pub fn found(&mut self, place: usize)
         ensures last { self.new.last ≡ place }
         ensures step { self.old.last ≤ place → self.new.step ≡ place - self.old.last }
     {

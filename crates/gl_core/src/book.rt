@@ -15,9 +15,11 @@ use crate::guesses::{
 };
 use crate::placing::{find_place, frame_of, place_key};
 use crate::short::{Short, find_short};
+use gl_cells::Hint;
 use gl_demand::Key;
 use gl_intern::Interner;
 use gl_plane::NoMemory;
+use gl_value::Env;
 use indexmap::IndexMap;
 use std::alloc::Global;
 use std::marker::Model;
@@ -87,6 +89,15 @@ fn place_anew(
     Ok(n)
 }
 
+/// The key is that of a cell of the sheet.
+pub fn is_top(key: &Key) -> bool {
+    match key {
+        Key::Cell(Env::Top, _) => true,
+        Key::Cell(Env::In(_, _), _) => false,
+        Key::Settle(_) => false,
+    }
+}
+
 impl Book {
     /// No key. It takes no memory yet.
     pub fn new(alloc: Global) -> Book
@@ -139,6 +150,28 @@ impl Book {
         } else {
             self.look_up(key)
         }
+    }
+
+    /// The number of a key, where the hint's is tried first. The hint is told.
+    pub fn find_near(&self, key: &Key, hint: &mut Hint) -> Option<u32>
+        ensures { IsNumber self.now (key_tree key.now) result }
+    {
+        let found = self.find_likely(hint.place(), key);
+        if let Some(n) = found {
+            hint.found(n as usize);
+        }
+        found
+    }
+
+    /// The number of a key, which at a cell of the sheet is likely to be this one. In copies a
+    /// comparison is a walk, and guesses go by words.
+    fn find_likely(&self, n: usize, key: &Key) -> Option<u32>
+        ensures { IsNumber self.now (key_tree key.now) result }
+    {
+        if is_top(key) && self.is_at(n, key) {
+            return Some(n as u32);
+        }
+        self.find(key)
     }
 
     /// The number of a key by its short form: `None` exactly where it has none.

@@ -9,12 +9,12 @@ ghost use Rattle.gl_core.specs.Numbers.{Each, named, numbers_of, AreNumbers, Gro
 ghost use Rattle.gl_core.specs.Numbers.{IsRowOf};
 ghost use Rattle.gl_core.specs.{State.IsSoundNote, Ledger.written, Ledger.IsLedger};
 
-use crate::book::Book;
+use crate::book::{Book, is_top};
 use crate::index::{forget, give_place, place_in, put};
+use gl_cells::Hint;
 use gl_demand::{Key, Outcome};
 use gl_plane::{Changes, NoMemory, Range, Share};
 use gl_support::{Row, keep_unmarked, mark};
-use gl_value::Env;
 use std::alloc::Global;
 
 /// The most notes of a ledger.
@@ -46,15 +46,6 @@ fn number_rows(places: &mut Vec<u32>, rows: &[Row<Outcome, Range>])
     forget(places);
     for r in 0..rows.len() {
         put(places, rows[r].by, r);
-    }
-}
-
-/// The key is that of a cell of the sheet.
-fn is_top(key: &Key) -> bool {
-    match key {
-        Key::Cell(Env::Top, _) => true,
-        Key::Cell(Env::In(_, _), _) => false,
-        Key::Settle(_) => false,
     }
 }
 
@@ -93,9 +84,9 @@ impl Ledger {
         self.book.number(key)
     }
 
-    /// The number of a key, which at a cell of the sheet is likely to be this one, and which gets one
-    /// where it has none. In copies a comparison is a walk, and guesses go by words.
-    fn number_near(&mut self, guess: u32, key: &Key) -> Result<u32, NoMemory>
+    /// The number of a key, which gets one where it has none. At a cell of the sheet the hint's is
+    /// tried first. The hint is told.
+    fn number_near(&mut self, hint: &mut Hint, key: &Key) -> Result<u32, NoMemory>
         requires kept { IsLedger self.old }
         requires sound { IsTrue (is_sound_key (key_tree key.now)) }
         ensures number { IfOk result (λ n. slice_get self.new.book n ≡ Some (key_tree key.now)) }
@@ -103,15 +94,18 @@ impl Ledger {
         ensures rows { self.new.rows.items ≡ self.old.rows.items }
         ensures kept { IsLedger self.new }
     {
-        if is_top(key) && self.book.is_at(guess as usize, key) {
-            return Ok(guess);
+        let place = hint.place();
+        if is_top(key) && self.book.is_at(place, key) {
+            hint.found(place);
+            return Ok(place as u32);
         }
-        let key = key.share()?;
-        self.number(key)
+        let n = self.number(key.share()?)?;
+        hint.found(n as usize);
+        Ok(n)
     }
 
-    /// The numbers of keys, which get some where they have none. They mostly stand side by side,
-    /// since those of a range do.
+    /// The numbers of keys, which get some where they have none. Those of a range mostly stand at like
+    /// distances.
     pub fn numbers(&mut self, alloc: Global, keys: &[Key]) -> Result<Vec<u32>, NoMemory>
         requires kept { IsLedger self.old }
         requires sound { AreSoundKeys (map key_tree keys.now) }
@@ -122,11 +116,10 @@ impl Ledger {
         ensures kept { IsLedger self.new }
     {
         let mut numbers = Vec::new(alloc);
-        let mut next = 0u32;
+        let mut hint = Hint::new();
         for key in keys {
-            let n = self.number_near(next, key)?;
+            let n = self.number_near(&mut hint, key)?;
             numbers.push(n)?;
-            next = n.wrapping_add(1);
         }
         Ok(numbers)
     }

@@ -17,6 +17,7 @@ use crate::context::Context;
 use crate::held::{Held, held_at};
 use crate::trail::{Eval, Halt, Trail};
 use crate::{Ahead, Key, Known, Outcome};
+use gl_cells::Hint;
 use gl_plane::{Addr, NoMemory, Share};
 use gl_value::{Env, Scalar, Value};
 
@@ -100,24 +101,30 @@ fn scalar_in(outcome: &Outcome) -> Option<&Scalar>
 }
 
 /// The scalar that a key is known to come to.
-fn known_scalar<'a, K: Known>(ctx: &Context<'a, K>, key: &Key) -> Option<&'a Scalar>
+fn known_scalar<'a, K: Known>(
+    ctx: &Context<'a, K>,
+    key: &Key,
+    hint: &mut Hint,
+) -> Option<&'a Scalar>
     ensures known { IfSome result (λ x.
         (world_of ctx.now).known (key_tree key.now)
         ≡ Some (Plain.Outcome.Value (One (scalar_tree x.now)))) }
     ensures sound { IfSome result (λ x. IsTrue (is_sound_scalar (scalar_tree x.now))) }
 {
-    match ctx.known.get(key) {
+    match ctx.known.get_near(key, hint) {
         Some(outcome) => scalar_in(outcome),
         None => None,
     }
 }
 
-/// The scalar that a formula cell is known to come to; then the cell is noted as read.
+/// The scalar that a formula cell is known to come to; then the cell is noted as read. The hint is
+/// at the number of its key.
 #[tactic(auto, using(gl_value::specs::Forms::trees))]
 pub fn known_cell<K: Known>(
     ctx: &Context<K>,
     env: &Env,
     a: Addr,
+    hint: &mut Hint,
     trail: &mut Trail,
 ) -> Result<Option<Scalar>, NoMemory>
     requires { IsTrue (is_sound_frame (frame_tree env.now)) }
@@ -129,7 +136,7 @@ pub fn known_cell<K: Known>(
         (λ o. IfSome o (λ x. IsTrue (is_sound_scalar (scalar_tree x)))) }
 {
     let key = Key::Cell(env.share()?, a);
-    let Some(x) = known_scalar(ctx, &key) else {
+    let Some(x) = known_scalar(ctx, &key, hint) else {
         return Ok(None);
     };
     let x = x.share()?;

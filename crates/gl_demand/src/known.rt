@@ -3,6 +3,7 @@ ghost use Rattle.std.specs.Prelude.{◌≡◌, Option};
 ghost use Rattle.gl_calculus.specs.Key as K;
 
 use crate::{Ahead, Key, Outcome};
+use gl_cells::Hint;
 use gl_plane::Range;
 
 /// The outcomes that are known so far, by key.
@@ -19,6 +20,15 @@ pub trait Known {
     fn get(&self, k: &Key) -> Option<&Outcome>
         ensures { option_map outcome_tree (option_copied result)
             ≡ outcomes self.now (key_tree k.now) };
+
+    /// The same. A table of keys by numbers may try the number of the hint first, which is told what
+    /// number the key has.
+    fn get_near(&self, k: &Key, hint: &mut Hint) -> Option<&Outcome>
+        ensures { option_map outcome_tree (option_copied result)
+            ≡ outcomes self.now (key_tree k.now) }
+    {
+        self.get(k)
+    }
 }
 
 /// What an evaluation finds: the key's outcome, or the first key that it demands without known outcome.

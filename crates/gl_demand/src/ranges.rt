@@ -28,6 +28,14 @@ use indexmap::IndexSet;
 use std::alloc::Global;
 use std::rc::Rc;
 
+/// Where the next address of a range is likely to be found: its content among the sheet's, and the
+/// number of its key.
+#[derive(Drop)]
+struct Hints {
+    content: Hint,
+    number: Hint,
+}
+
 /// Appends a scalar.
 fn push(items: &mut Vec<Scalar>, x: Scalar) -> Result<(), NoMemory>
     ensures items { OnOk result (items.new.items ≡ items.old.items ++ x ∷ []) }
@@ -44,6 +52,7 @@ fn known_at<K: Known>(
     env: &Env,
     a: Addr,
     held: Option<Held>,
+    hint: &mut Hint,
     trail: &mut Trail,
 ) -> Result<Option<Scalar>, NoMemory>
     requires { IsTrue (is_sound_frame (frame_tree env.now)) }
@@ -57,7 +66,7 @@ fn known_at<K: Known>(
         (λ o. IfSome o (λ x. IsTrue (is_sound_scalar (scalar_tree x)))) }
 {
     match formula_in(held) {
-        Some(_) => known_cell(ctx, env, a, trail),
+        Some(_) => known_cell(ctx, env, a, hint, trail),
         None => Ok(None),
     }
 }
@@ -68,7 +77,7 @@ fn read_onto<K: Known>(
     ctx: &Context<K>,
     env: &Env,
     a: Addr,
-    hint: &mut Hint,
+    hints: &mut Hints,
     seen: &mut IndexSet<Addr>,
     items: &mut Vec<Scalar>,
     trail: &mut Trail,
@@ -86,7 +95,7 @@ fn read_onto<K: Known>(
     ensures len { OnOk result (vec_len items.new ≡ vec_len items.old + 1) }
 {
     let home = sound_home(env, a);
-    let held = held_near(ctx.cells, home, a, hint);
+    let held = held_near(ctx.cells, home, a, &mut hints.content);
     if let Some(x) = constant_in(held) {
         push(items, x.share()?)?;
         return Ok(());
@@ -95,7 +104,7 @@ fn read_onto<K: Known>(
         push(items, Scalar::Blank)?;
         return Ok(());
     }
-    match known_at(ctx, home, a, held, trail)? {
+    match known_at(ctx, home, a, held, &mut hints.number, trail)? {
         Some(x) => {
             push(items, x)?;
             Ok(())
@@ -127,10 +136,13 @@ fn read_range<K: Known>(
     let Ok(mut items) = Vec::with_capacity(ctx.alloc, r.cells() as usize) else {
         return Err(Halt::NoMemory);
     };
-    let mut hint = Hint::new();
+    let mut hints = Hints {
+        content: Hint::new(),
+        number: Hint::new(),
+    };
     let mut seen = IndexSet::new(ctx.alloc);
     for a in r.addresses() {
-        match read_onto(ctx, env, a, &mut hint, &mut seen, &mut items, trail) {
+        match read_onto(ctx, env, a, &mut hints, &mut seen, &mut items, trail) {
             Ok(()) => {}
             Err(halt) => return Err(halt),
         }
