@@ -115,7 +115,7 @@ impl Ledger {
         ensures rows { self.new.rows.items ≡ self.old.rows.items }
         ensures kept { IsLedger self.new }
     {
-        let mut numbers = Vec::new(alloc);
+        let mut numbers = Vec::with_capacity(alloc, keys.len())?;
         let mut hint = Hint::new();
         for key in keys {
             let n = self.number_near(&mut hint, key)?;
