@@ -135,6 +135,14 @@ impl Contents {
                 return Some(content);
             }
         }
+        self.search(a, hint)
+    }
+
+    /// The same by its hash; the hint is told where it stands. A function of its own, so that
+    /// `get_near` is short enough to become part of its callers' loops.
+    fn search(&self, a: Addr, hint: &mut Hint) -> Option<&Content>
+        ensures value { option_copied result ≡ lookup (is_at (addr_cmp a)) self.now }
+    {
         match self.found.get_full(&a) {
             Some((place, _, content)) => {
                 hint.found(place);

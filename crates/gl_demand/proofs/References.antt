@@ -9,7 +9,7 @@ use Rattle.gl_calculus.specs.Oracle.{Cover}
 use Rattle.gl_calculus.specs.Facts.{Fact, fact, find_fact}
 use Rattle.gl_calculus.specs.Formula.{Formula}
 use Rattle.gl_calculus.specs.Key.{Cell, Eval, give, own_value, ◌>>=◌}
-use Rattle.gl_calculus.specs.Reference.{Held, Given, Computed, Reading, seen_or_looked, home, own_content, value_of, own, spilled, shown, shown_by, status_in, cover_in, covered, deref, at_address}
+use Rattle.gl_calculus.specs.Reference.{Held, Given, Computed, Reading, seen_or_looked, own_content, value_of, own, spilled, shown, shown_by, status_in, cover_in, covered, deref, at_address}
 use Rattle.gl_calculus.proofs.Proper.{fact_at_single}
 use Rattle.gl_plane.specs.Entries.{offsets}
 use Rattle.gl_value.specs.View.{scalar_tree, value_tree}
@@ -20,7 +20,7 @@ use Rattle.gl_demand.specs.declared.held.Held as Code
 use Rattle.gl_demand.specs.Held.{held_tree, IsSoundHeld}
 use Rattle.gl_demand.specs.Walk.{World, walk, looking, reading}
 use Rattle.gl_demand.specs.Walks.{Walks, trail_tree}
-use Rattle.gl_demand.specs.Seen.{AreSeen, ReadsKnown, ReadsOne, ReadsAlone, deref_held}
+use Rattle.gl_demand.specs.Seen.{AreSeen, ReadsKnown, ReadsOne, ReadsAlone, deref_held, deref_in}
 use Rattle.gl_demand.specs.declared.trail.Trail.{Trail}
 use Rattle.gl_demand.specs.declared.trail.Halt.{Halt}
 use Rattle.gl_demand.specs.declared.trail.Halt.TheVariants as halt
@@ -133,33 +133,30 @@ module _ (w : World) where
         on_ok (Ok x) h = h
         on_ok (Err x) h = tt
 
-    -- a constant, read where it is held
-    pub constant_read : (h : Frame) (y : Scalar) (c : V.Scalar) → AreSeen w roots s → h ≡ home e x.address → Some (Given (One c)) ≡ own_content x.content h x.address → scalar_tree y ≡ c → ReadsOne w (deref e s x) old (Ok y) roots old
-    constant_read h y c m at held is =
-        subst (λ f. ReadsOne w (own f x >>= shown_by f s x) old (Ok y) roots old) at
-        (subst (λ d. ReadsOne w (value_of h x.address d >>= shown_by h s x) old (Ok y) roots old) held (given_at h s x roots old (One c) y m is))
+    -- a constant, read in its home frame
+    pub constant_read : (y : Scalar) (c : V.Scalar) → AreSeen w roots s → Some (Given (One c)) ≡ own_content x.content e x.address → scalar_tree y ≡ c → ReadsOne w (deref_in e s x) old (Ok y) roots old
+    constant_read y c m held is =
+        subst (λ d. ReadsOne w (value_of e x.address d >>= shown_by e s x) old (Ok y) roots old) held (given_at e s x roots old (One c) y m is)
 
     -- a blank, read where nothing is held
-    pub blank_read : (h : Frame) (y : Scalar) → AreSeen w roots s → h ≡ home e x.address → None ≡ own_content x.content h x.address → None ≡ cover_in x h → scalar_tree y ≡ V.Blank → ReadsOne w (deref e s x) old (Ok y) roots old
-    blank_read h y m at held cover is =
-        subst (λ f. ReadsOne w (own f x >>= shown_by f s x) old (Ok y) roots old) at
-        (subst (λ d. ReadsOne w (value_of h x.address d >>= shown_by h s x) old (Ok y) roots old) held
-        (subst (λ c. ReadsOne w (covered h s c) old (Ok y) roots old) cover (record {
+    pub blank_read : (y : Scalar) → AreSeen w roots s → None ≡ own_content x.content e x.address → None ≡ cover_in x e → scalar_tree y ≡ V.Blank → ReadsOne w (deref_in e s x) old (Ok y) roots old
+    blank_read y m held cover is =
+        subst (λ d. ReadsOne w (value_of e x.address d >>= shown_by e s x) old (Ok y) roots old) held
+        (subst (λ c. ReadsOne w (covered e s c) old (Ok y) roots old) cover (record {
           seen = s;
           are_seen = m;
           walk = gives (V.Blank, s) (λ z. (scalar_tree z, s)) old (Ok y) (ap (λ z. (z, s)) is) tt;
-        })))
+        }))
 
     -- a scalar that a formula is known to come to
-    pub known_read : (h : Frame) (f : Formula) (y : Scalar) → AreSeen w roots s → h ≡ home e x.address → Some (Computed f) ≡ own_content x.content h x.address → ReadsKnown w (Cell h x.address) old y new → ReadsOne w (deref e s x) old (Ok y) roots new
-    known_read h f y m at held k =
-        subst (λ g. ReadsOne w (own g x >>= shown_by g s x) old (Ok y) roots new) at
-        (subst (λ d. ReadsOne w (value_of h x.address d >>= shown_by h s x) old (Ok y) roots new) held (record {
+    pub known_read : (f : Formula) (y : Scalar) → AreSeen w roots s → Some (Computed f) ≡ own_content x.content e x.address → ReadsKnown w (Cell e x.address) old y new → ReadsOne w (deref_in e s x) old (Ok y) roots new
+    known_read f y m held k =
+        subst (λ d. ReadsOne w (value_of e x.address d >>= shown_by e s x) old (Ok y) roots new) held (record {
           seen = s;
           are_seen = m;
-          walk = ap (λ o. next (Need (Cell h x.address), reading (Cell h x.address) (trail_tree old)) o (λ q. walk w (own_value q >>= shown_by h s x) (reading (Cell h x.address) (trail_tree old)))) k.known
+          walk = ap (λ o. next (Need (Cell e x.address), reading (Cell e x.address) (trail_tree old)) o (λ q. walk w (own_value q >>= shown_by e s x) (reading (Cell e x.address) (trail_tree old)))) k.known
               ∙ ap (λ t. (Ready (Ok (scalar_tree y, s)), t)) (sym k.read);
-        }))
+        })
 
     pub shown_some : (v : Value) (p : Option Permit) (r : Result Scalar Halt) → AreSeen w roots s → p ≡ status_in x e
         → IfOk r (λ y. scalar_tree y ≡ shown p (value_tree v)) → IfErr r (λ h. h ≡ halt.NoMemory) → ReadsOne w (shown_by e s x (Some (value_tree v))) new r roots new

@@ -1,5 +1,5 @@
 -- The roots that a reference has looked at: the code keeps their addresses, the calculus their facts.
-use Rattle.std.specs.Prelude.{◌≡◌, ◌++◌, ◌∷◌, [], List, Some, None, Result, Ok, Err, OnOk, IfErr, if◌then◌else◌}
+use Rattle.std.specs.Prelude.{◌≡◌, List, Some, None, Result, OnOk, if◌then◌else◌}
 use Rattle.std.specs.List.{list_any}
 use Rattle.gl_calculus.specs.Grid.{Addr, same_addr}
 use Rattle.gl_calculus.specs.Facts.{Fact, fact, find_fact}
@@ -23,11 +23,6 @@ pub record ReadsOne (w : World) (p : Eval Reading) (old : Trail) (r : Result Sca
   pub seen : List Fact
   pub are_seen : OnOk r (AreSeen w roots seen)
   pub walk : Walks w p (λ x. (scalar_tree x, seen)) old r new
-
--- One scalar is read and put behind others.
-pub record ReadsOnto (w : World) (p : Eval Reading) (old : Trail) (items : List Scalar) (r : Result (Unit {0}) Halt) (more : List Scalar) (roots : List Addr) (new : Trail) : Type 0 where
-  pub ok : OnOk r ((x : Scalar) × (more ≡ items ++ x ∷ []) × ReadsOne w p old (Ok x) roots new)
-  pub err : IfErr r (λ h. ReadsOne w p old (Err h) roots new)
 
 -- A key is known to come to this scalar, and is read.
 pub record ReadsKnown (w : World) (k : Key) (old : Trail) (x : Scalar) (new : Trail) : Type 0 where

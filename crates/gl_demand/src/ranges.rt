@@ -1,18 +1,19 @@
 //! How ranges are read: their addresses in row-major order, in one reference.
-ghost use Rattle.std.specs.Prelude.{◌≡◌, ◌+◌, ◌*◌, ◌++◌, ◌∷◌, [], List, OnOk, IsTrue, IfOk, IfErr, SomeIff, length, map};
+ghost use Rattle.std.specs.Prelude.{◌≡◌, ◌+◌, ◌*◌, [], List, IsTrue, IfOk, IfErr, SomeIff, length, map};
 ghost use Rattle.std.specs.Prelude.{vec_len, Some, IfSome, IfNone, option_map};
 ghost use Rattle.gl_calculus.specs.Sound.{is_sound_frame, are_sound, is_size, is_sound_value};
 ghost use Rattle.gl_calculus.specs.Sound.{is_sound_scalar};
-ghost use Rattle.gl_calculus.specs.{Key.Cell, Formula.Formula};
+ghost use Rattle.gl_calculus.specs.{Key.Cell, Formula.Formula, Formula.content};
 ghost use Rattle.gl_calculus.specs.{Grid.addresses, Grid.extents};
 ghost use Rattle.gl_calculus.specs.Facts.{Fact, fact, facts};
 ghost use Rattle.gl_calculus.specs.Reference as R;
+ghost use Rattle.gl_calculus.specs.Reference.{own_content};
 ghost use Rattle.gl_calculus.specs.Value as V;
 ghost use Rattle.gl_cells.specs.Sheet.{sheet};
 ghost use Rattle.gl_value.specs.View.{scalar_tree, value_tree, frame_tree, item_trees};
-ghost use Rattle.gl_demand.specs.Seen.{AreSeen, ReadsKnown, ReadsOnto};
+ghost use Rattle.gl_demand.specs.Seen.{AreSeen, ReadsKnown, ReadsOne, deref_in};
 ghost use Rattle.gl_demand.specs.{Worlds.world_of, Walks.EndsWalk, Walks.Walks, Stopped.IsHaltIn};
-ghost use Rattle.gl_demand.specs.{declared.trail.Halt.Halt, Held.held_tree};
+ghost use Rattle.gl_demand.specs.{declared.trail.Halt.Halt, Held.held_tree, Held.IsSoundHeld};
 ghost use Rattle.gl_ahead.specs.Reading.{Area};
 
 use crate::context::Context;
@@ -28,21 +29,13 @@ use indexmap::IndexSet;
 use std::alloc::Global;
 use std::rc::Rc;
 
-/// Where the next address of a range is likely to be found: its content among the sheet's, and the
-/// number of its key.
+/// What is carried from one address of a range to the next: where its content is likely to be found
+/// among the sheet's, and the number of its key, and the roots that were looked at.
 #[derive(Drop)]
-struct Hints {
+struct Carried {
     content: Hint,
     number: Hint,
-}
-
-/// Appends a scalar.
-fn push(items: &mut Vec<Scalar>, x: Scalar) -> Result<(), NoMemory>
-    ensures items { OnOk result (items.new.items ≡ items.old.items ++ x ∷ []) }
-    ensures len { OnOk result (vec_len items.new ≡ vec_len items.old + 1) }
-{
-    items.push(x)?;
-    Ok(())
+    seen: IndexSet<Addr>,
 }
 
 /// The scalar that the formula of a cell is known to come to; then the cell is noted as read. `None`
@@ -71,51 +64,33 @@ fn known_at<K: Known>(
     }
 }
 
-/// Appends the scalar at an address. Constants, blanks and formulas that are known to come to
-/// scalars, of which most ranges are, take the short way.
-fn read_onto<K: Known>(
+/// The scalar at an address, which is read in its home frame. Blanks, and formulas that are known to
+/// come to scalars, take the short way.
+fn scalar_at<K: Known>(
     ctx: &Context<K>,
     env: &Env,
     a: Addr,
-    hints: &mut Hints,
-    seen: &mut IndexSet<Addr>,
-    items: &mut Vec<Scalar>,
+    held: Option<Held>,
+    carried: &mut Carried,
     trail: &mut Trail,
-) -> Eval<()>
+) -> Eval<Scalar>
     requires frame { IsTrue (is_sound_frame (frame_tree env.now)) }
+    requires held { option_map held_tree held
+        ≡ own_content (content (sheet ctx.now.cells.now) a) (frame_tree env.now) a }
+    requires sound { IfSome held (λ h. IsSoundHeld (held_tree h)) }
     ensures read { (s : List Fact)
-        → AreSeen (world_of ctx.now)
-        seen.old.keys s
-        → ReadsOnto (world_of ctx.now)
-        (R.deref (frame_tree env.now) s (fact (sheet ctx.now.cells.now) ctx.now.w.now a)) trail.old
-        items.old.items result items.new.items seen.new.keys trail.new }
-    ensures sound { OnOk result (
-        IsTrue (are_sound (item_trees items.old.items))
-        → IsTrue (are_sound (item_trees items.new.items))) }
-    ensures len { OnOk result (vec_len items.new ≡ vec_len items.old + 1) }
+        → AreSeen (world_of ctx.now) carried.old.seen.keys s
+        → ReadsOne (world_of ctx.now)
+        (deref_in (frame_tree env.now) s (fact (sheet ctx.now.cells.now) ctx.now.w.now a)) trail.old
+        result carried.new.seen.keys trail.new }
+    ensures sound { IfOk result (λ x. IsTrue (is_sound_scalar (scalar_tree x))) }
 {
-    let home = sound_home(env, a);
-    let held = held_near(ctx.cells, home, a, &mut hints.content);
-    if let Some(x) = constant_in(held) {
-        push(items, x.share()?)?;
-        return Ok(());
+    if is_blank(ctx.w, env, a, held) {
+        return Ok(Scalar::Blank);
     }
-    if is_blank(ctx.w, home, a, held) {
-        push(items, Scalar::Blank)?;
-        return Ok(());
-    }
-    match known_at(ctx, home, a, held, &mut hints.number, trail)? {
-        Some(x) => {
-            push(items, x)?;
-            Ok(())
-        }
-        None => match shown_at(ctx, home, a, held, seen, trail) {
-            Ok(x) => {
-                push(items, x)?;
-                Ok(())
-            }
-            Err(halt) => Err(halt),
-        },
+    match known_at(ctx, env, a, held, &mut carried.number, trail)? {
+        Some(x) => Ok(x),
+        None => shown_at(ctx, env, a, held, &mut carried.seen, trail),
     }
 }
 
@@ -136,15 +111,20 @@ fn read_range<K: Known>(
     let Ok(mut items) = Vec::with_capacity(ctx.alloc, r.cells() as usize) else {
         return Err(Halt::NoMemory);
     };
-    let mut hints = Hints {
+    let mut carried = Carried {
         content: Hint::new(),
         number: Hint::new(),
+        seen: IndexSet::new(ctx.alloc),
     };
-    let mut seen = IndexSet::new(ctx.alloc);
     for a in r.addresses() {
-        match read_onto(ctx, env, a, &mut hints, &mut seen, &mut items, trail) {
-            Ok(()) => {}
-            Err(halt) => return Err(halt),
+        let home = sound_home(env, a);
+        let held = held_near(ctx.cells, home, a, &mut carried.content);
+        match constant_in(held) {
+            Some(x) => items.push_reserved(x.share()?),
+            None => match scalar_at(ctx, home, a, held, &mut carried, trail) {
+                Ok(x) => items.push_reserved(x),
+                Err(halt) => return Err(halt),
+            },
         }
     }
     Ok(items)

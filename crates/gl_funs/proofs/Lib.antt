@@ -1,5 +1,4 @@
 pub mod Characters
 pub mod Counts
 pub mod Folds
-pub mod Items
 pub mod Remainders

@@ -1,4 +1,4 @@
-use Rattle.std.proofs.Common.{◌≡◌, ◌+◌, IsTrue, length, map, vec_len}
+use Rattle.std.proofs.Common.{◌≡◌, ◌+◌, IsTrue, length, map, vec_len, vec_capacity}
 use Rattle.gl_calculus.specs.Grid.{addresses}
 use Rattle.gl_calculus.specs.Facts.{fact, facts}
 use Rattle.gl_calculus.specs.Sound.{are_sound}
@@ -16,7 +16,8 @@ invariant-loop-a g l =
     record {
       next : (goal.iterator-loop-a g).can_next l.a-iterator;
       finite : (goal.iterator-loop-a g).is_finite l.a-iterator;
-      far : ReadSoFar w (frame_tree l.env) (facts w.cells w.oracle l.r) l.fn.trail l.seen.keys l.items.items (map (fact w.cells w.oracle) rest) l.trail;
+      far : ReadSoFar w (frame_tree l.env) (facts w.cells w.oracle l.r) l.fn.trail l.carried.seen.keys l.items.items (map (fact w.cells w.oracle) rest) l.trail;
       sound : IsTrue (are_sound (item_trees l.items.items));
       count : vec_len l.items + length rest ≡ length (addresses l.r);
+      room : vec_capacity l.items ≡ length (addresses l.r);
     }

@@ -1,6 +1,6 @@
 use Rattle.std.proofs.Common.{◌≡◌}
 use Rattle.gl_calculus.specs.Functions as F
-use Rattle.gl_funs.specs.Elements.{elements_of, elements_past}
+use Rattle.gl_funs.specs.Elements.{elements_of, elements_left}
 use Rattle.gl_funs.specs.Rules.{better, extreme_from}
 use Rattle.gl_funs.proofs.numbers.extreme.Given as goal
 
@@ -8,4 +8,4 @@ abbrev pub invariant-loop-x : goal.invariant-loop-x
 invariant-loop-x l =
     (goal.iterator-loop-x).can_next l.x-iterator
     × (goal.iterator-loop-x).is_finite l.x-iterator
-    × (F.extreme (better l.end) (elements_of l.values) ≡ extreme_from (better l.end) l.found (elements_past l.x-iterator.given l.x-iterator.values.now))
+    × (F.extreme (better l.end) (elements_of l.values) ≡ extreme_from (better l.end) l.found (elements_left l.x-iterator.items.now l.x-iterator.values.now))

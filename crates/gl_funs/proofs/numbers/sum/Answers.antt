@@ -3,7 +3,7 @@ use Rattle.std.proofs.lemmas.Int.{to_z-of_z, fits_signed_from_abs}
 use Rattle.std.specs.Int.{w64, w128}
 use Rattle.std.specs.Int.Signed.{nat_abs-le}
 use Rattle.gl_value.specs.Forms.{trees}
-use Rattle.gl_funs.specs.Elements.{elements_of, elements_past}
+use Rattle.gl_funs.specs.Elements.{elements_of, elements_left}
 use Rattle.gl_funs.proofs.Counts.{elements_few}
 use Rattle.gl_funs.proofs.Folds.{total_int, sum_room}
 use Rattle.gl_funs.proofs.numbers.sum.Goals as goal
@@ -11,7 +11,7 @@ use Rattle.gl_funs.proofs.numbers.sum.Goals as goal
 pub loop-x-init : goal.loop-x-init
 loop-x-init c =
     let it = c.into_iter-x-iterator.result in
-    let e : elements_past it.given it.values.now ≡ elements_of c.args.values.now = rw c.into_iter-x-iterator.ensures.into_iter_gives c.new-x-items.ensures in
+    let e : elements_left it.items.now it.values.now ≡ elements_of c.args.values.now = rw c.into_iter-x-iterator.ensures.into_iter_gives c.new-x-items.ensures in
     rw e (tt, tt, refl, omega (arith, elements_few c.args.values.now c.requires.0 c.requires.1))
 
 pub overflow_add-total : goal.overflow_add-total

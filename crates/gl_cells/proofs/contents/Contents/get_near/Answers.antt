@@ -9,13 +9,3 @@ pub returns-then-eq : goal.returns-then-eq
 returns-then-eq c = record {
   value = subst (λ b. Some c.in-Some.content.now ≡ get same_addr c.self.inside.found b) (addr_exact c.in-Some.b.now c.args.a (sym c.eq.ensures ∙ c.if-eq.true)) (sym c.in-Some.ensures.value) ∙ sym (seen_listed _ c.self.inside.order.entries c.args.a c.self.invariant c.self.view_is);
 }
-
-pub returns-in-Some-get_full : goal.returns-in-Some-get_full
-returns-in-Some-get_full c = record {
-  value = c.in-Some-get_full.ensures.value ∙ sym (seen_listed _ c.self.inside.order.entries c.args.a c.self.invariant c.self.view_is);
-}
-
-pub returns-in-None : goal.returns-in-None
-returns-in-None c = record {
-  value = c.in-None.ensures.value ∙ sym (seen_listed _ c.self.inside.order.entries c.args.a c.self.invariant c.self.view_is);
-}
