@@ -1,5 +1,5 @@
 -- The content of the calculus that a content of the code stands for.
-use Rattle.std.specs.Prelude.{ℕ, Bool, true, false}
+use Rattle.std.specs.Prelude.{ℕ, Bool, true, false, if◌then◌else◌}
 use Rattle.std.specs.Rc.{rc_value}
 use Rattle.gl_calculus.specs.Formula as F
 use Rattle.gl_ast.specs.View.{formula_tree}
@@ -17,5 +17,4 @@ is_formula (F.Form f) = true
 
 -- what it adds to the number of formulas
 abbrev pub form_weight : F.Content → ℕ
-form_weight (F.Const x) = 0
-form_weight (F.Form f) = 1
+form_weight c = if is_formula c then 1 else 0

@@ -36,10 +36,7 @@ impl Content {
     pub(crate) fn weight(&self) -> usize
         ensures { result ≡ form_weight (content_tree self.now) }
     {
-        match self {
-            Content::Const(_) => 0,
-            Content::Form(_) => 1,
-        }
+        usize::from(self.is_formula())
     }
 }
 

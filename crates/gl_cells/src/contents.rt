@@ -140,6 +140,7 @@ impl Contents {
 
     /// The same by its hash; the hint is told where it stands. A function of its own, so that
     /// `get_near` is short enough to become part of its callers' loops.
+    #[cold]
     fn search(&self, a: Addr, hint: &mut Hint) -> Option<&Content>
         ensures value { option_copied result ≡ lookup (is_at (addr_cmp a)) self.now }
     {
