@@ -6,6 +6,7 @@ pub mod Equal
 pub mod Laws
 pub mod Walk
 pub mod Walks
+pub mod Reads
 pub mod Reading
 pub mod Lacking
 pub mod Marks

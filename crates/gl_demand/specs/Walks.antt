@@ -9,6 +9,7 @@ use Rattle.gl_ahead.specs.Ahead.{IsAhead}
 use Rattle.gl_ahead.specs.Demands.{is_value}
 use Rattle.gl_ahead.specs.Reading.{keys_from}
 use Rattle.gl_demand.specs.View.{key_tree, budget_tree}
+use Rattle.gl_demand.specs.Reads.{read_keys}
 use Rattle.gl_demand.specs.Reading.{ahead_tree}
 use Rattle.gl_demand.specs.Walk as W
 use Rattle.gl_demand.specs.Walk.{World, walk}
@@ -18,7 +19,7 @@ use Rattle.gl_demand.specs.declared.trail.Halt.{Halt}
 use Rattle.gl_demand.specs.declared.trail.Halt.TheVariants as halt
 
 abbrev pub trail_tree : Trail → W.Trail
-trail_tree t = record { reads = map key_tree t.reads.keys; looked = t.looked.items }
+trail_tree t = record { reads = map key_tree (read_keys t.reads); looked = t.looked.items }
 
 -- The walk ends with the answer and leaves the trail; nothing is said where there is no memory.
 abbrev pub EndsWalk : {T R : Type 0} → World → Eval R → (T → R) → Trail → Result T Halt → Trail → Type 0

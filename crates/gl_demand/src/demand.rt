@@ -80,7 +80,7 @@ fn demanded<K: Known>(
             Ok(outcome) => value_in(outcome, trail),
             Err(halt) => Err(halt),
         },
-        Err(halt) => Err(halt),
+        Err(NoMemory) => Err(Halt::NoMemory),
     }
 }
 
@@ -135,7 +135,7 @@ pub fn known_cell<K: Known>(
     ensures sound { IfOk result
         (λ o. IfSome o (λ x. IsTrue (is_sound_scalar (scalar_tree x)))) }
 {
-    let key = Key::Cell(env.share()?, a);
+    let key = cell_key(env, a)?;
     let Some(x) = known_scalar(ctx, &key, hint) else {
         return Ok(None);
     };
@@ -146,16 +146,12 @@ pub fn known_cell<K: Known>(
 
 /// The key of a cell.
 #[tactic(auto, using(gl_value::specs::Forms::trees))]
-fn cell_key(env: &Env, a: Addr) -> Eval<Key>
+fn cell_key(env: &Env, a: Addr) -> Result<Key, NoMemory>
     requires frame { IsTrue (is_sound_frame (frame_tree env.now)) }
     ensures value { IfOk result (λ k. key_tree k ≡ Cell (frame_tree env.now) a) }
-    ensures err { IfErr result (λ h. h ≡ Halt.NoMemory) }
     ensures sound { IfOk result (λ k. IsTrue (is_sound_key (key_tree k))) }
 {
-    match env.share() {
-        Ok(env) => Ok(Key::Cell(env, a)),
-        Err(NoMemory) => Err(Halt::NoMemory),
-    }
+    Ok(Key::Cell(env.share()?, a))
 }
 
 /// The own value of an address: its override's, its constant's, or that of its formula.

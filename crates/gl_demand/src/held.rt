@@ -147,6 +147,7 @@ pub fn held_at<'a>(cells: &'a Cells, env: &'a Env, a: Addr) -> Option<Held<'a>>
 }
 
 /// The same, where the hint tells where the sheet's content is likely to stand.
+#[inline(always)]
 #[tactic(auto, using(gl_value::specs::Forms::trees))]
 pub fn held_near<'a>(cells: &'a Cells, env: &'a Env, a: Addr, hint: &mut Hint) -> Option<Held<'a>>
     requires { IsTrue (is_sound_frame (frame_tree env.now)) }

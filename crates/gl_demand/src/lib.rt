@@ -29,6 +29,7 @@ mod places;
 mod properness;
 mod ranges;
 mod reading;
+mod reads;
 mod scope;
 mod scoping;
 mod settle;
@@ -50,8 +51,9 @@ pub use mark::Mark;
 pub use outcome::{Budget, Outcome};
 pub use outline::{level_word, oracle_word};
 pub use properness::proper;
+pub use reads::Reads;
 pub use shows::{shown, spilled};
-pub use stepping::{in_order, step};
+pub use stepping::step;
 pub use steps::{Silent, Steps, Watch};
 
 /// The most keys that one calculation, or one walk that explains an address, goes through.

@@ -1,23 +1,21 @@
 //! A trail grows.
-ghost use Rattle.std.specs.Prelude.{◌≡◌, OnOk, [], IsTrue, map};
-ghost use Rattle.indexmap.specs.IndexSet.{insert_key};
-ghost use Rattle.gl_calculus.specs.{Key.same_key, Sound.is_sound_key};
-ghost use Rattle.gl_demand.specs.{Sound.AreSoundKeys, View.key_tree, Walk.reading, Walk.looking};
-ghost use Rattle.gl_demand.specs.{Walks.trail_tree};
+ghost use Rattle.std.specs.Prelude.{◌≡◌, OnOk, [], IsTrue};
+ghost use Rattle.gl_calculus.specs.Sound.{is_sound_key};
+ghost use Rattle.gl_demand.specs.{View.key_tree, Walk.reading, Walk.looking, Walks.trail_tree};
 
-use crate::Key;
 use crate::trail::Trail;
+use crate::{Key, Reads};
 use gl_plane::{NoMemory, Range};
-use indexmap::IndexSet;
 use std::alloc::Global;
 
 impl Trail {
     /// Nothing is read yet.
+    #[tactic(auto, using(crate::proofs::Keys::keys))]
     pub fn new(alloc: Global) -> Trail
         ensures { trail_tree result ≡ record { reads = []; looked = [] } }
     {
         Trail {
-            reads: IndexSet::new(alloc),
+            reads: Reads::new(alloc),
             looked: Vec::new(alloc),
         }
     }
@@ -27,7 +25,7 @@ impl Trail {
         requires { IsTrue (is_sound_key (key_tree key)) }
         ensures { OnOk result (trail_tree self.new ≡ reading (key_tree key) (trail_tree self.old)) }
     {
-        insert(&mut self.reads, key)
+        self.reads.insert(key)
     }
 
     /// Notes a range that is looked at.
@@ -39,18 +37,4 @@ impl Trail {
             Err(_) => Err(NoMemory),
         }
     }
-}
-
-/// Puts a key last, unless the set has it.
-#[tactic(auto, using(crate::proofs::Keys::keys))]
-fn insert(reads: &mut IndexSet<Key>, key: Key) -> Result<(), NoMemory>
-    requires sound { IsTrue (is_sound_key (key_tree key)) }
-    requires all { AreSoundKeys (map key_tree reads.old.keys) }
-    ensures ok { OnOk result (
-        map key_tree reads.new.keys
-        ≡ insert_key same_key (map key_tree reads.old.keys) (key_tree key)) }
-    ensures all { AreSoundKeys (map key_tree reads.new.keys) }
-{
-    reads.insert(key)?;
-    Ok(())
 }

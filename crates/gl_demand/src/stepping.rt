@@ -9,7 +9,7 @@ ghost use Rattle.gl_ast.specs.View.{version_tree};
 ghost use Rattle.gl_cells.specs.Sheet.{sheet};
 ghost use Rattle.gl_demand.specs.Sound.{IsSoundTable, IsSoundFound, AreSoundKeys};
 ghost use Rattle.gl_demand.specs.{View.key_tree, View.found_tree, Reading.ahead_tree};
-ghost use Rattle.gl_demand.specs.{Steps.one_more, Evaluators.program_of};
+ghost use Rattle.gl_demand.specs.{Steps.one_more, Evaluators.program_of, Reads.read_keys};
 
 use crate::evaluating::{Ended, evaluate};
 use crate::trail::Trail;
@@ -17,7 +17,6 @@ use crate::{Evaluator, Key, Known, Steps, Turn, Watch};
 use gl_ast::Version;
 use gl_cells::Cells;
 use gl_plane::{NoMemory, Oracle};
-use indexmap::IndexSet;
 use std::alloc::Global;
 
 /// Evaluates a key for one level against the known outcomes, in the sheet and the oracle of the
@@ -44,7 +43,7 @@ pub fn step<K: Known, L: Watch>(
         ≡ found (K.outcomes known.now)
         (program (version_tree version) (sheet cells.now) w.now (key_tree key.now))) }
     ensures reads { IfOk result (λ t.
-        map key_tree t.reads.items
+        map key_tree (read_keys t.reads)
         ≡ distinct same_key
         (asked (K.outcomes known.now)
         (program (version_tree version) (sheet cells.now) w.now (key_tree key.now)))) }
@@ -56,7 +55,7 @@ pub fn step<K: Known, L: Watch>(
         IsAhead is_value (program (version_tree version) (sheet cells.now) w.now (key_tree key.now))
         (K.outcomes known.now) (keys_from (sheet cells.now) w.now (ahead_tree t.ahead) 0)) }
     ensures sound_found { IfOk result (λ t. IsSoundFound (key_tree key.now) (found_tree t.found)) }
-    ensures sound_reads { IfOk result (λ t. AreSoundKeys (map key_tree t.reads.items)) }
+    ensures sound_reads { IfOk result (λ t. AreSoundKeys (map key_tree (read_keys t.reads))) }
     ensures counted { steps.new ≡ one_more steps.old }
 {
     let evaluator = Evaluator {
@@ -81,7 +80,7 @@ impl Evaluator<'_> {
             found_tree t.found
             ≡ found (K.outcomes known.now) (program_of self.now (key_tree key.now))) }
         ensures reads { IfOk result (λ t.
-            map key_tree t.reads.items
+            map key_tree (read_keys t.reads)
             ≡ distinct same_key
             (asked (K.outcomes known.now) (program_of self.now (key_tree key.now)))) }
         ensures looked { IfOk result (λ t.
@@ -92,44 +91,19 @@ impl Evaluator<'_> {
             (keys_from (sheet self.now.cells.now) self.now.oracle.now (ahead_tree t.ahead) 0)) }
         ensures sound_found { IfOk result (λ t.
             IsSoundFound (key_tree key.now) (found_tree t.found)) }
-        ensures sound_reads { IfOk result (λ t. AreSoundKeys (map key_tree t.reads.items)) }
+        ensures sound_reads { IfOk result (λ t. AreSoundKeys (map key_tree (read_keys t.reads))) }
         ensures counted { steps.new ≡ one_more steps.old }
     {
         steps.count(key);
         let mut trail = Trail::new(self.alloc);
-        match evaluate(self, key, known, &mut trail) {
-            Ok(ended) => turn(self.alloc, ended, trail),
-            Err(NoMemory) => Err(NoMemory),
-        }
-    }
-}
-
-/// What was found, with the trail.
-fn turn(alloc: Global, ended: Ended, trail: Trail) -> Result<Turn, NoMemory>
-    ensures found { IfOk result (λ t. found_tree t.found ≡ found_tree ended.found) }
-    ensures ahead { IfOk result (λ t. ahead_tree t.ahead ≡ ahead_tree ended.ahead) }
-    ensures reads { IfOk result (λ t. map key_tree t.reads.items ≡ map key_tree trail.reads.keys) }
-    ensures looked { IfOk result (λ t. t.looked.items ≡ trail.looked.items) }
-{
-    let Trail { reads, looked } = trail;
-    let Ended { found, ahead } = ended;
-    match in_order(alloc, reads) {
-        Ok(reads) => Ok(Turn {
+        let ended = evaluate(self, key, known, &mut trail)?;
+        let Ended { found, ahead } = ended;
+        let Trail { reads, looked } = trail;
+        Ok(Turn {
             found,
             reads,
             looked,
             ahead,
-        }),
-        Err(NoMemory) => Err(NoMemory),
-    }
-}
-
-/// The keys of a set in their order.
-pub fn in_order(alloc: Global, keys: IndexSet<Key>) -> Result<Vec<Key>, NoMemory>
-    ensures { IfOk result (λ v. v.items ≡ keys.keys) }
-{
-    match keys.into_iter().collect(alloc) {
-        Ok(keys) => Ok(keys),
-        Err(_) => Err(NoMemory),
+        })
     }
 }

@@ -1,18 +1,20 @@
 //! What an evaluation has read and looked at, and why it stops.
 ghost use Rattle.std.specs.Prelude.{map};
+ghost use Rattle.std.proofs.Props.{props};
 ghost use Rattle.gl_demand.specs.{View.key_tree, Sound.AreSoundKeys};
+ghost use Rattle.gl_demand.specs.Reads.{read_keys, AreOnce};
 
-use crate::{Ahead, Budget, Key};
+use crate::{Ahead, Budget, Key, Reads};
 use gl_plane::{NoMemory, Range};
-use indexmap::IndexSet;
 
 /// The distinct keys that were read, in the order of their first reads, and the ranges that were
 /// looked at.
 #[derive(Drop)]
 pub struct Trail {
-    pub reads: IndexSet<Key>,
+    pub reads: Reads,
     pub looked: Vec<Range>,
-    ghost sound: { AreSoundKeys (map key_tree reads.keys) },
+    ghost sound: { AreSoundKeys (map key_tree (read_keys reads)) },
+    ghost once: { AreOnce (read_keys reads) } by { Prim.hlevel props },
 }
 
 /// Why an evaluation stops: at a key without known outcome, with what was being read, at a spent

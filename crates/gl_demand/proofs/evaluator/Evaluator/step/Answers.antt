@@ -17,54 +17,39 @@ use Rattle.gl_demand.specs.Walks.{trail_tree}
 use Rattle.gl_demand.proofs.Ending.{whole_found, whole_reads, whole_looked, whole_ahead}
 use Rattle.gl_demand.proofs.evaluator.Evaluator.step.Goals as goal
 
-pub returns-in-Ok-clause-found : goal.returns-in-Ok-clause-found
-returns-in-Ok-clause-found g c =
+pub returns-clause-found : goal.returns-clause-found
+returns-clause-found g c =
     let w = world (sheet c.args.self.now.cells.now) c.args.self.now.oracle.now (g.K.Known.outcomes c.args.known.now) in
     let v = version_tree c.args.self.now.version in
     let k = key_tree c.args.key.now in
-    let h = subst (λ t. walk w (evaluation v k) t ≡ (found_tree c.in-Ok.ended.found, trail_tree c.evaluate.new.trail)) c.new-trail.ensures c.in-Ok.ensures.walk in
-    IfOk-weaker c.turn.result (λ t. found_tree t.found ≡ found_tree c.in-Ok.ended.found) (λ t. found_tree t.found ≡ found w.known (program v w.cells w.oracle k))
-    (λ t e. e ∙ whole_found v w k (found_tree c.in-Ok.ended.found) (trail_tree c.evaluate.new.trail) h)
-    c.turn.ensures.found
+    let h = subst (λ t. walk w (evaluation v k) t ≡ (found_tree c.in_ok-ended.ended.found, trail_tree c.evaluate.new.trail)) c.new-trail.ensures c.in_ok-ended.ensures.walk in
+    whole_found v w k (found_tree c.in_ok-ended.ended.found) (trail_tree c.evaluate.new.trail) h
 
-pub returns-in-Ok-clause-reads : goal.returns-in-Ok-clause-reads
-returns-in-Ok-clause-reads g c =
+pub returns-clause-reads : goal.returns-clause-reads
+returns-clause-reads g c =
     let w = world (sheet c.args.self.now.cells.now) c.args.self.now.oracle.now (g.K.Known.outcomes c.args.known.now) in
     let v = version_tree c.args.self.now.version in
     let k = key_tree c.args.key.now in
-    let h = subst (λ t. walk w (evaluation v k) t ≡ (found_tree c.in-Ok.ended.found, trail_tree c.evaluate.new.trail)) c.new-trail.ensures c.in-Ok.ensures.walk in
-    IfOk-weaker c.turn.result (λ t. map key_tree t.reads.items ≡ map key_tree c.evaluate.new.trail.reads.keys) (λ t. map key_tree t.reads.items ≡ distinct same_key (asked w.known (program v w.cells w.oracle k)))
-    (λ t e. e ∙ whole_reads v w k (found_tree c.in-Ok.ended.found) (trail_tree c.evaluate.new.trail) h)
-    c.turn.ensures.reads
+    let h = subst (λ t. walk w (evaluation v k) t ≡ (found_tree c.in_ok-ended.ended.found, trail_tree c.evaluate.new.trail)) c.new-trail.ensures c.in_ok-ended.ensures.walk in
+    whole_reads v w k (found_tree c.in_ok-ended.ended.found) (trail_tree c.evaluate.new.trail) h
 
-pub returns-in-Ok-clause-looked : goal.returns-in-Ok-clause-looked
-returns-in-Ok-clause-looked g c =
+pub returns-clause-looked : goal.returns-clause-looked
+returns-clause-looked g c =
     let w = world (sheet c.args.self.now.cells.now) c.args.self.now.oracle.now (g.K.Known.outcomes c.args.known.now) in
     let v = version_tree c.args.self.now.version in
     let k = key_tree c.args.key.now in
-    let h = subst (λ t. walk w (evaluation v k) t ≡ (found_tree c.in-Ok.ended.found, trail_tree c.evaluate.new.trail)) c.new-trail.ensures c.in-Ok.ensures.walk in
-    IfOk-weaker c.turn.result (λ t. t.looked.items ≡ c.evaluate.new.trail.looked.items) (λ t. t.looked.items ≡ looked w.known (program v w.cells w.oracle k))
-    (λ t e. e ∙ whole_looked v w k (found_tree c.in-Ok.ended.found) (trail_tree c.evaluate.new.trail) h)
-    c.turn.ensures.looked
+    let h = subst (λ t. walk w (evaluation v k) t ≡ (found_tree c.in_ok-ended.ended.found, trail_tree c.evaluate.new.trail)) c.new-trail.ensures c.in_ok-ended.ensures.walk in
+    whole_looked v w k (found_tree c.in_ok-ended.ended.found) (trail_tree c.evaluate.new.trail) h
 
-pub returns-in-Ok-clause-sound_found : goal.returns-in-Ok-clause-sound_found
-returns-in-Ok-clause-sound_found g c =
-    let k = key_tree c.args.key.now in
-    IfOk-weaker c.turn.result (λ t. found_tree t.found ≡ found_tree c.in-Ok.ended.found) (λ t. IsSoundFound k (found_tree t.found))
-    (λ t e. subst (IsSoundFound k) (sym e) c.in-Ok.ensures.sound)
-    c.turn.ensures.found
+pub returns-clause-sound_found : goal.returns-clause-sound_found
+returns-clause-sound_found g c = c.in_ok-ended.ensures.sound
 
-pub returns-in-Ok-clause-sound_reads : goal.returns-in-Ok-clause-sound_reads
-returns-in-Ok-clause-sound_reads g c =
-    IfOk-weaker c.turn.result (λ t. map key_tree t.reads.items ≡ map key_tree c.evaluate.new.trail.reads.keys) (λ t. AreSoundKeys (map key_tree t.reads.items))
-    (λ t e. subst AreSoundKeys (sym e) c.evaluate.new.trail.sound)
-    c.turn.ensures.reads
+pub returns-clause-sound_reads : goal.returns-clause-sound_reads
+returns-clause-sound_reads g c = c.evaluate.new.trail.sound
 
-pub returns-in-Ok-clause-ahead : goal.returns-in-Ok-clause-ahead
-returns-in-Ok-clause-ahead g c =
+pub returns-clause-ahead : goal.returns-clause-ahead
+returns-clause-ahead g c =
     let w = world (sheet c.args.self.now.cells.now) c.args.self.now.oracle.now (g.K.Known.outcomes c.args.known.now) in
     let v = version_tree c.args.self.now.version in
     let k = key_tree c.args.key.now in
-    IfOk-weaker c.turn.result (λ t. ahead_tree t.ahead ≡ ahead_tree c.in-Ok.ended.ahead) (λ t. IsAhead is_value (program v w.cells w.oracle k) w.known (keys_from w.cells w.oracle (ahead_tree t.ahead) 0))
-    (λ t e. subst (λ z. IsAhead is_value (program v w.cells w.oracle k) w.known (keys_from w.cells w.oracle z 0)) (sym e) (whole_ahead v w k c.in-Ok.ended.ahead c.in-Ok.ensures.ahead))
-    c.turn.ensures.ahead
+    whole_ahead v w k c.in_ok-ended.ended.ahead c.in_ok-ended.ensures.ahead
