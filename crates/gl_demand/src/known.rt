@@ -2,7 +2,7 @@
 ghost use Rattle.std.specs.Prelude.{◌≡◌, Option};
 ghost use Rattle.gl_calculus.specs.Key as K;
 
-use crate::{Ahead, Key, Outcome, Reads};
+use crate::{Ahead, Key, Outcome};
 use gl_cells::Hint;
 use gl_plane::Range;
 
@@ -44,7 +44,7 @@ pub enum Found {
 #[derive(Drop)]
 pub struct Turn {
     pub found: Found,
-    pub reads: Reads,
+    pub reads: Vec<Key>,
     pub looked: Vec<Range>,
     pub ahead: Ahead,
 }

@@ -3,8 +3,9 @@ ghost use Rattle.std.specs.Prelude.{◌≡◌, OnOk, [], IsTrue};
 ghost use Rattle.gl_calculus.specs.Sound.{is_sound_key};
 ghost use Rattle.gl_demand.specs.{View.key_tree, Walk.reading, Walk.looking, Walks.trail_tree};
 
+use crate::Key;
+use crate::reads::Reads;
 use crate::trail::Trail;
-use crate::{Key, Reads};
 use gl_plane::{NoMemory, Range};
 use std::alloc::Global;
 

@@ -13,8 +13,8 @@ use std::mem;
 /// The most keys that are searched one by one.
 const FEW: usize = 8;
 
-/// Distinct keys in the order of their first reads. Most formulas read few, which need no table of
-/// hashes.
+/// Keys in the order of their first reads. Most formulas read few, which need no table of hashes.
+/// That no key stands twice is kept by the trail that has them.
 #[derive(Drop)]
 pub enum Reads {
     Few(Vec<Key>),
@@ -23,24 +23,27 @@ pub enum Reads {
 
 impl Reads {
     /// No key.
-    pub(crate) fn new(alloc: Global) -> Reads
+    pub fn new(alloc: Global) -> Reads
         ensures { read_keys result ≡ [] }
     {
         Reads::Few(Vec::new(alloc))
     }
 
-    /// The keys in their order.
-    pub fn as_slice(&self) -> &[Key]
-        ensures { result.now ≡ read_keys self.now }
+    /// The keys as a list.
+    pub fn into_list(self, alloc: Global) -> Result<Vec<Key>, NoMemory>
+        ensures { IfOk result (λ keys. keys.items ≡ read_keys self) }
     {
         match self {
-            Reads::Few(keys) => keys,
-            Reads::Many(keys) => keys.as_slice(),
+            Reads::Few(keys) => Ok(keys),
+            Reads::Many(keys) => match keys.into_iter().collect(alloc) {
+                Ok(keys) => Ok(keys),
+                Err(_) => Err(NoMemory),
+            },
         }
     }
 
     /// Puts a key last, unless it is there.
-    pub(crate) fn insert(&mut self, key: Key) -> Result<(), NoMemory>
+    pub fn insert(&mut self, key: Key) -> Result<(), NoMemory>
         requires sound { IsTrue (is_sound_key (key_tree key)) }
         requires all { AreSoundKeys (map key_tree (read_keys self.old)) }
         requires once { AreOnce (read_keys self.old) }

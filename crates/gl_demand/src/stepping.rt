@@ -9,7 +9,7 @@ ghost use Rattle.gl_ast.specs.View.{version_tree};
 ghost use Rattle.gl_cells.specs.Sheet.{sheet};
 ghost use Rattle.gl_demand.specs.Sound.{IsSoundTable, IsSoundFound, AreSoundKeys};
 ghost use Rattle.gl_demand.specs.{View.key_tree, View.found_tree, Reading.ahead_tree};
-ghost use Rattle.gl_demand.specs.{Steps.one_more, Evaluators.program_of, Reads.read_keys};
+ghost use Rattle.gl_demand.specs.{Steps.one_more, Evaluators.program_of};
 
 use crate::evaluating::{Ended, evaluate};
 use crate::trail::Trail;
@@ -43,7 +43,7 @@ pub fn step<K: Known, L: Watch>(
         ≡ found (K.outcomes known.now)
         (program (version_tree version) (sheet cells.now) w.now (key_tree key.now))) }
     ensures reads { IfOk result (λ t.
-        map key_tree (read_keys t.reads)
+        map key_tree t.reads.items
         ≡ distinct same_key
         (asked (K.outcomes known.now)
         (program (version_tree version) (sheet cells.now) w.now (key_tree key.now)))) }
@@ -55,7 +55,7 @@ pub fn step<K: Known, L: Watch>(
         IsAhead is_value (program (version_tree version) (sheet cells.now) w.now (key_tree key.now))
         (K.outcomes known.now) (keys_from (sheet cells.now) w.now (ahead_tree t.ahead) 0)) }
     ensures sound_found { IfOk result (λ t. IsSoundFound (key_tree key.now) (found_tree t.found)) }
-    ensures sound_reads { IfOk result (λ t. AreSoundKeys (map key_tree (read_keys t.reads))) }
+    ensures sound_reads { IfOk result (λ t. AreSoundKeys (map key_tree t.reads.items)) }
     ensures counted { steps.new ≡ one_more steps.old }
 {
     let evaluator = Evaluator {
@@ -80,7 +80,7 @@ impl Evaluator<'_> {
             found_tree t.found
             ≡ found (K.outcomes known.now) (program_of self.now (key_tree key.now))) }
         ensures reads { IfOk result (λ t.
-            map key_tree (read_keys t.reads)
+            map key_tree t.reads.items
             ≡ distinct same_key
             (asked (K.outcomes known.now) (program_of self.now (key_tree key.now)))) }
         ensures looked { IfOk result (λ t.
@@ -91,7 +91,7 @@ impl Evaluator<'_> {
             (keys_from (sheet self.now.cells.now) self.now.oracle.now (ahead_tree t.ahead) 0)) }
         ensures sound_found { IfOk result (λ t.
             IsSoundFound (key_tree key.now) (found_tree t.found)) }
-        ensures sound_reads { IfOk result (λ t. AreSoundKeys (map key_tree (read_keys t.reads))) }
+        ensures sound_reads { IfOk result (λ t. AreSoundKeys (map key_tree t.reads.items)) }
         ensures counted { steps.new ≡ one_more steps.old }
     {
         steps.count(key);
@@ -99,6 +99,7 @@ impl Evaluator<'_> {
         let ended = evaluate(self, key, known, &mut trail)?;
         let Ended { found, ahead } = ended;
         let Trail { reads, looked } = trail;
+        let reads = reads.into_list(self.alloc)?;
         Ok(Turn {
             found,
             reads,

@@ -4,7 +4,8 @@ ghost use Rattle.std.proofs.Props.{props};
 ghost use Rattle.gl_demand.specs.{View.key_tree, Sound.AreSoundKeys};
 ghost use Rattle.gl_demand.specs.Reads.{read_keys, AreOnce};
 
-use crate::{Ahead, Budget, Key, Reads};
+use crate::reads::Reads;
+use crate::{Ahead, Budget, Key};
 use gl_plane::{NoMemory, Range};
 
 /// The distinct keys that were read, in the order of their first reads, and the ranges that were

@@ -72,7 +72,7 @@ fn is_as_said(alloc: Global, turn: &Turn, row: &Row) -> Result<bool, Fail> {
     let (_, _, looked, reads, want) = *row;
     Ok(
         ranges_text(alloc, &turn.looked)?.as_str() == looked
-            && keys_text(alloc, turn.reads.as_slice())?.as_str() == reads
+            && keys_text(alloc, &turn.reads)?.as_str() == reads
             && is_written(alloc, &turn.found, want)?,
     )
 }

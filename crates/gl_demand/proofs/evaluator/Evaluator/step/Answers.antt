@@ -1,5 +1,4 @@
-use Rattle.std.proofs.Common.{◌≡◌, map, subst, sym, ◌∙◌}
-use Rattle.std.proofs.lemmas.Result.{IfOk-weaker}
+use Rattle.std.proofs.Common.{◌≡◌, map, ap, subst, sym, ◌∙◌}
 use Rattle.gl_query.specs.Lists.{distinct}
 use Rattle.gl_query.specs.Query.{found, asked, looked}
 use Rattle.gl_calculus.specs.Key.{same_key}
@@ -31,7 +30,7 @@ returns-clause-reads g c =
     let v = version_tree c.args.self.now.version in
     let k = key_tree c.args.key.now in
     let h = subst (λ t. walk w (evaluation v k) t ≡ (found_tree c.in_ok-ended.ended.found, trail_tree c.evaluate.new.trail)) c.new-trail.ensures c.in_ok-ended.ensures.walk in
-    whole_reads v w k (found_tree c.in_ok-ended.ended.found) (trail_tree c.evaluate.new.trail) h
+    ap (map key_tree) c.in_ok-reads.ensures ∙ whole_reads v w k (found_tree c.in_ok-ended.ended.found) (trail_tree c.evaluate.new.trail) h
 
 pub returns-clause-looked : goal.returns-clause-looked
 returns-clause-looked g c =
@@ -45,7 +44,7 @@ pub returns-clause-sound_found : goal.returns-clause-sound_found
 returns-clause-sound_found g c = c.in_ok-ended.ensures.sound
 
 pub returns-clause-sound_reads : goal.returns-clause-sound_reads
-returns-clause-sound_reads g c = c.evaluate.new.trail.sound
+returns-clause-sound_reads g c = subst (λ ks. AreSoundKeys (map key_tree ks)) (sym c.in_ok-reads.ensures) c.evaluate.new.trail.sound
 
 pub returns-clause-ahead : goal.returns-clause-ahead
 returns-clause-ahead g c =
