@@ -51,6 +51,7 @@ pub use mark::Mark;
 pub use outcome::{Budget, Outcome};
 pub use outline::{level_word, oracle_word};
 pub use properness::proper;
+pub use reads::in_order;
 pub use shows::{shown, spilled};
 pub use stepping::step;
 pub use steps::{Silent, Steps, Watch};

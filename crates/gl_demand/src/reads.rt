@@ -35,10 +35,7 @@ impl Reads {
     {
         match self {
             Reads::Few(keys) => Ok(keys),
-            Reads::Many(keys) => match keys.into_iter().collect(alloc) {
-                Ok(keys) => Ok(keys),
-                Err(_) => Err(NoMemory),
-            },
+            Reads::Many(keys) => in_order(alloc, keys),
         }
     }
 
@@ -115,6 +112,16 @@ fn hashed(alloc: Global, keys: Vec<Key>) -> Result<IndexSet<Key>, NoMemory>
 {
     match keys.into_iter().collect(alloc) {
         Ok(set) => Ok(set),
+        Err(_) => Err(NoMemory),
+    }
+}
+
+/// The keys of a set in their order.
+pub fn in_order(alloc: Global, keys: IndexSet<Key>) -> Result<Vec<Key>, NoMemory>
+    ensures { IfOk result (λ v. v.items ≡ keys.keys) }
+{
+    match keys.into_iter().collect(alloc) {
+        Ok(keys) => Ok(keys),
         Err(_) => Err(NoMemory),
     }
 }

@@ -10,11 +10,10 @@ ghost use Rattle.gl_cert.specs.{Notes.claims, View.cert_tree};
 
 use gl_cells::Cells;
 use gl_cert::{Cert, Notes, says};
-use gl_demand::{Budget, Evaluator, Key, Outcome};
+use gl_demand::{Budget, Evaluator, Key, Outcome, in_order};
 use gl_plane::{Addr, NoMemory, Oracle};
 use gl_value::Shown;
 use indexmap::IndexSet;
-use std::alloc::Global;
 
 /// The budget that a key spends, if that is its outcome.
 pub fn spent(notes: &Notes, key: &Key) -> Option<Budget>
@@ -52,16 +51,6 @@ fn said(
         Ok(Some(x)) => Ok(x),
         Ok(None) => unreachable!(),
         Err(NoMemory) => Err(NoMemory),
-    }
-}
-
-/// The keys of a set in their order.
-fn in_order(alloc: Global, keys: IndexSet<Key>) -> Result<Vec<Key>, NoMemory>
-    ensures { IfOk result (λ v. v.items ≡ keys.keys) }
-{
-    match keys.into_iter().collect(alloc) {
-        Ok(keys) => Ok(keys),
-        Err(_) => Err(NoMemory),
     }
 }
 

@@ -16,27 +16,17 @@ returns-then-contains-clause-ok c =
     sym (ap (map key_tree) (kept-insert_key c.in-Few.keys.items k there)) ∙ insert_key-trees c.in-Few.keys.items k
     ∙ ap (λ r. insert_key same_key (map key_tree (read_keys r)) (key_tree k)) (sym c.in-Few.is)
 
-pub returns-then-len-lt-FEW-clause-ok : goal.returns-then-len-lt-FEW-clause-ok
-returns-then-len-lt-FEW-clause-ok c =
+pub returns-then-len-lt-FEW : goal.returns-then-len-lt-FEW
+returns-then-len-lt-FEW c =
     let k = c.args.key in
     let new : list_any (λ j. key.eq j k) c.in-Few.keys.items ≡ false = sym (ap (λ l. list_any (λ j. key.eq j k) l) c.deref.ensures.value) ∙ sym c.contains.ensures.value ∙ c.if-contains.false in
-    ap (map key_tree) (c.in_ok-push-in-Few.ensures.items ∙ sym (last-insert_key c.in-Few.keys.items k new)) ∙ insert_key-trees c.in-Few.keys.items k
-    ∙ ap (λ r. insert_key same_key (map key_tree (read_keys r)) (key_tree k)) (sym c.in-Few.is)
-
-pub returns-then-len-lt-FEW-clause-all : goal.returns-then-len-lt-FEW-clause-all
-returns-then-len-lt-FEW-clause-all c =
-    let k = c.args.key in
-    let new : list_any (λ j. key.eq j k) c.in-Few.keys.items ≡ false = sym (ap (λ l. list_any (λ j. key.eq j k) l) c.deref.ensures.value) ∙ sym c.contains.ensures.value ∙ c.if-contains.false in
-    let old = subst (λ r. AreSoundKeys (map key_tree (read_keys r))) c.in-Few.is c.requires.all in
-    subst AreSoundKeys (sym (ap (map key_tree) (c.in_ok-push-in-Few.ensures.items ∙ sym (last-insert_key c.in-Few.keys.items k new)) ∙ insert_key-trees c.in-Few.keys.items k))
-    (sound-insert_key (map key_tree c.in-Few.keys.items) (key_tree k) old c.requires.sound)
-
-pub returns-then-len-lt-FEW-clause-once : goal.returns-then-len-lt-FEW-clause-once
-returns-then-len-lt-FEW-clause-once c =
-    let k = c.args.key in
-    let new : list_any (λ j. key.eq j k) c.in-Few.keys.items ≡ false = sym (ap (λ l. list_any (λ j. key.eq j k) l) c.deref.ensures.value) ∙ sym c.contains.ensures.value ∙ c.if-contains.false in
-    let old = subst (λ r. AreOnce (read_keys r)) c.in-Few.is c.requires.once in
-    subst AreOnce (sym (c.in_ok-push-in-Few.ensures.items ∙ sym (last-insert_key c.in-Few.keys.items k new))) (once-insert_key c.in-Few.keys.items k old)
+    let pushed = c.in_ok-push-in-Few.ensures.items ∙ sym (last-insert_key c.in-Few.keys.items k new) in
+    let trees = ap (map key_tree) pushed ∙ insert_key-trees c.in-Few.keys.items k in
+    record {
+      ok = trees ∙ ap (λ r. insert_key same_key (map key_tree (read_keys r)) (key_tree k)) (sym c.in-Few.is);
+      all = subst AreSoundKeys (sym trees) (sound-insert_key (map key_tree c.in-Few.keys.items) (key_tree k) (subst (λ r. AreSoundKeys (map key_tree (read_keys r))) c.in-Few.is c.requires.all) c.requires.sound);
+      once = subst AreOnce (sym pushed) (once-insert_key c.in-Few.keys.items k (subst (λ r. AreOnce (read_keys r)) c.in-Few.is c.requires.once));
+    }
 
 pub returns-in_err-keys-in-Few-clause-once : goal.returns-in_err-keys-in-Few-clause-once
 returns-in_err-keys-in-Few-clause-once c = subst (λ v. AreOnce v.items) (sym c.replace.ensures.after) (subst AreOnce (sym c.new.ensures.items) once-nil)
