@@ -4,11 +4,11 @@ use Rattle.std.specs.List.{range_with_len, flat_map}
 use Rattle.std.proofs.lemmas.Bool.Decides.{nat_tests}
 use Rattle.std.proofs.lemmas.List.{map-append}
 use Rattle.std.proofs.lemmas.List.FromFn.{length-map-range_with_len}
-use Rattle.gl_calculus.specs.Grid.{size}
-use Rattle.gl_calculus.specs.ErrKind.{ErrKind}
-use Rattle.gl_calculus.specs.Value.{Scalar, Value}
-use Rattle.gl_calculus.specs.Lift.{item, shape, table, rows, from_rows}
-use Rattle.gl_calculus.specs.Functions.{padded, greatest_cols, vstack}
+use Rattle.gl_calculus.specs.Grid.Grid.{size}
+use Rattle.gl_calculus.specs.Values.ErrKind.{ErrKind}
+use Rattle.gl_calculus.specs.Values.Value.{Scalar, Value}
+use Rattle.gl_calculus.specs.Values.Lift.{item, shape, table, rows, from_rows}
+use Rattle.gl_calculus.specs.Values.Functions.{padded, greatest_cols, vstack}
 use Rattle.gl_arrays.specs.Parts.{row}
 use Rattle.gl_arrays.specs.Stacks.{total, greatest, stacked}
 use Rattle.gl_arrays.specs.declared.stacks.Axis.TheVariants.{Rows, Columns}

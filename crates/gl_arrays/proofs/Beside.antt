@@ -4,12 +4,12 @@ use Rattle.std.specs.List.{range_with_len}
 use Rattle.std.proofs.lemmas.Bool.Decides.{nat_tests}
 use Rattle.std.proofs.lemmas.List.{length-map}
 use Rattle.std.proofs.lemmas.List.Elements.{All-head, All-tail}
-use Rattle.gl_calculus.specs.Grid.{Size, size}
-use Rattle.gl_calculus.specs.ErrKind.{ErrKind}
-use Rattle.gl_calculus.specs.Value.{Scalar, Value, One}
-use Rattle.gl_calculus.specs.Lift.{item, shape, is_small, table, rows}
-use Rattle.gl_calculus.specs.Functions.{flipped, transpose, greatest_cols, vstack, hstack}
-use Rattle.gl_calculus.specs.Sound.{is_sound_value}
+use Rattle.gl_calculus.specs.Grid.Grid.{Size, size}
+use Rattle.gl_calculus.specs.Values.ErrKind.{ErrKind}
+use Rattle.gl_calculus.specs.Values.Value.{Scalar, Value, One}
+use Rattle.gl_calculus.specs.Values.Lift.{item, shape, is_small, table, rows}
+use Rattle.gl_calculus.specs.Values.Functions.{flipped, transpose, greatest_cols, vstack, hstack}
+use Rattle.gl_calculus.specs.Evaluation.Sound.{is_sound_value}
 use Rattle.gl_value.specs.View.{value_tree}
 use Rattle.gl_value.specs.declared.Value as Code
 use Rattle.gl_arrays.specs.Parts.{row}

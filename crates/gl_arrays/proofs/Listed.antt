@@ -3,12 +3,12 @@ use Rattle.std.proofs.Common.{◌≡◌, ℕ, zero, suc, ◌+◌, ◌<◌, ◌�
 use Rattle.std.specs.List.{range_with_len}
 use Rattle.std.proofs.lemmas.List.{map-id}
 use Rattle.std.proofs.lemmas.List.FromFn.{length-map-range_with_len, filter_of_map_range_with_len_more}
-use Rattle.gl_calculus.specs.Grid.{size}
-use Rattle.gl_calculus.specs.ErrKind.{ErrKind}
-use Rattle.gl_calculus.specs.Value.{Scalar, Value, elements}
-use Rattle.gl_calculus.specs.Lift.{item, shape, table, rows, width, from_rows}
-use Rattle.gl_calculus.specs.Functions.{is_column_beside, keeps, kept_rows, some_rows, value_or_error, when}
-use Rattle.gl_calculus.specs.Sound.{is_sound_value}
+use Rattle.gl_calculus.specs.Grid.Grid.{size}
+use Rattle.gl_calculus.specs.Values.ErrKind.{ErrKind}
+use Rattle.gl_calculus.specs.Values.Value.{Scalar, Value, elements}
+use Rattle.gl_calculus.specs.Values.Lift.{item, shape, table, rows, width, from_rows}
+use Rattle.gl_calculus.specs.Values.Functions.{is_column_beside, keeps, kept_rows, some_rows, value_or_error, when}
+use Rattle.gl_calculus.specs.Evaluation.Sound.{is_sound_value}
 use Rattle.gl_arrays.specs.Parts.{row, picked, keeps_row, column_from}
 use Rattle.gl_arrays.proofs.Ranges.{map_same, map_shift}
 use Rattle.gl_arrays.proofs.Tables.{rows_are, from_rows_are, extents_small, test_lt}

@@ -3,11 +3,11 @@ use Rattle.std.proofs.Common.{◌≡◌, ℕ, zero, suc, ◌+◌, ◌-◌, ◌<�
 use Rattle.std.specs.List.{list_any, range_with_len}
 use Rattle.std.proofs.lemmas.List.{append-nil, map-append}
 use lib.Pointwise.{pointwise}
-use Rattle.gl_calculus.specs.Value as V
-use Rattle.gl_calculus.specs.Functions.{same_row, new_rows}
-use Rattle.gl_calculus.specs.Same.{same_scalar}
-use Rattle.gl_calculus.specs.Lift.{rows, shape}
-use Rattle.gl_calculus.specs.Sound.{is_sound_value}
+use Rattle.gl_calculus.specs.Values.Value as V
+use Rattle.gl_calculus.specs.Values.Functions.{same_row, new_rows}
+use Rattle.gl_calculus.specs.Values.Same.{same_scalar}
+use Rattle.gl_calculus.specs.Values.Lift.{rows, shape}
+use Rattle.gl_calculus.specs.Evaluation.Sound.{is_sound_value}
 use Rattle.gl_value.specs.View.{scalar_tree}
 use Rattle.gl_arrays.specs.Parts.{row}
 use Rattle.gl_arrays.proofs.Tables.{rows_are, extents_small}

@@ -3,14 +3,14 @@ use Rattle.std.proofs.Common.{◌≡◌, Option, Some, None, Result, Ok, Err, �
 use Rattle.std.specs.Option.{option_or}
 use Rattle.std.proofs.lemmas.Bool.{and_parts, eqb-true}
 use Rattle.std.proofs.lemmas.List.FromFn.{fill_by_all}
-use Rattle.gl_calculus.specs.ErrKind.{ErrKind}
-use Rattle.gl_calculus.specs.Value.{Scalar, Value, One, Array, items, elements}
-use Rattle.gl_calculus.specs.Lift.{item, shape, rows}
-use Rattle.gl_calculus.specs.Operators.{agrees}
-use Rattle.gl_calculus.specs.Functions.{is_column_beside, looked_up, first_fault, truth_fault, no_fault, no_error, some_rows, kept_rows, filter_rows}
+use Rattle.gl_calculus.specs.Values.ErrKind.{ErrKind}
+use Rattle.gl_calculus.specs.Values.Value.{Scalar, Value, One, Array, items, elements}
+use Rattle.gl_calculus.specs.Values.Lift.{item, shape, rows}
+use Rattle.gl_calculus.specs.Values.Operators.{agrees}
+use Rattle.gl_calculus.specs.Values.Functions.{is_column_beside, looked_up, first_fault, truth_fault, no_fault, no_error, some_rows, kept_rows, filter_rows}
 use Rattle.gl_value.specs.declared.ErrKind as Code
 use Rattle.gl_arrays.specs.Answers.{continued}
-use Rattle.gl_calculus.specs.Sound.{is_sound_value}
+use Rattle.gl_calculus.specs.Evaluation.Sound.{is_sound_value}
 use Rattle.gl_arrays.specs.Parts.{column_from, are_columns}
 use Rattle.gl_arrays.proofs.Tables.{count, item_in}
 

@@ -6,12 +6,12 @@ use Rattle.std.proofs.lemmas.Bool.Decides.{nat_tests}
 use Rattle.std.proofs.lemmas.List.{length-take-le, length-drop, get_or-take, get_or-drop}
 use Rattle.std.proofs.lemmas.List.FromFn.{length-map-range_with_len, fill_by_all}
 use Rattle.std.proofs.lemmas.List.Folds.{flat_map-map}
-use Rattle.gl_calculus.specs.Grid.{Size, size}
-use Rattle.gl_calculus.specs.ErrKind.{ErrKind}
-use Rattle.gl_calculus.specs.Value.{Scalar, Scalars, Value, One, Array, items, scalars}
-use Rattle.gl_calculus.specs.Lift.{item, shape, is_small, table, table_if, cut, rows, width, rows_if, from_rows}
-use Rattle.gl_calculus.specs.Functions.{some_rows, value_or_error, when}
-use Rattle.gl_calculus.specs.Sound.{is_size, are_sound, is_sound_value}
+use Rattle.gl_calculus.specs.Grid.Grid.{Size, size}
+use Rattle.gl_calculus.specs.Values.ErrKind.{ErrKind}
+use Rattle.gl_calculus.specs.Values.Value.{Scalar, Scalars, Value, One, Array, items, scalars}
+use Rattle.gl_calculus.specs.Values.Lift.{item, shape, is_small, table, table_if, cut, rows, width, rows_if, from_rows}
+use Rattle.gl_calculus.specs.Values.Functions.{some_rows, value_or_error, when}
+use Rattle.gl_calculus.specs.Evaluation.Sound.{is_size, are_sound, is_sound_value}
 use Rattle.gl_arrays.specs.Parts.{row}
 use Rattle.gl_arrays.proofs.Ranges.{flat_map_same, map_same, map_shift, get_or_rows, count_rows}
 

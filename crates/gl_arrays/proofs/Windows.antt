@@ -3,11 +3,11 @@ use Rattle.std.proofs.Common.{◌≡◌, ℕ, suc, ◌+◌, ◌-◌, ◌≤◌, 
 use Rattle.std.specs.List.{range_with_len}
 use Rattle.std.proofs.lemmas.List.{take_min, drop_min}
 use Rattle.std.proofs.lemmas.List.FromFn.{length-map-range_with_len}
-use Rattle.gl_calculus.specs.ErrKind.{ErrKind}
-use Rattle.gl_calculus.specs.Value.{Scalar, Value}
-use Rattle.gl_calculus.specs.Lift.{item, shape, rows}
-use Rattle.gl_calculus.specs.Functions.{kept, left_over, kept_part, left_over_part}
-use Rattle.gl_calculus.specs.Sound.{is_sound_value}
+use Rattle.gl_calculus.specs.Values.ErrKind.{ErrKind}
+use Rattle.gl_calculus.specs.Values.Value.{Scalar, Value}
+use Rattle.gl_calculus.specs.Values.Lift.{item, shape, rows}
+use Rattle.gl_calculus.specs.Values.Functions.{kept, left_over, kept_part, left_over_part}
+use Rattle.gl_calculus.specs.Evaluation.Sound.{is_sound_value}
 use Rattle.gl_arrays.specs.Parts.{row, window, kept_start, kept_count, left_start, left_count, start_of, count_of, rule_of}
 use Rattle.gl_arrays.specs.declared.parts.Part.{Part}
 use Rattle.gl_arrays.specs.declared.parts.Part.TheVariants.{Kept, LeftOver}

@@ -1,6 +1,6 @@
 -- What the arguments of a function come to, and how it goes on from there.
 use Rattle.std.specs.Prelude.{Result, Ok, Err}
-use Rattle.gl_calculus.specs.Functions.{Try}
+use Rattle.gl_calculus.specs.Values.Functions.{Try}
 use Rattle.gl_value.specs.View.{error_tree}
 use Rattle.gl_value.specs.declared.ErrKind.{ErrKind}
 

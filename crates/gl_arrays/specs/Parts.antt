@@ -1,10 +1,10 @@
 -- Places, rows and columns of a value.
 use Rattle.std.specs.Prelude.{◌≡◌, ℕ, suc, ◌+◌, ◌-◌, ◌*◌, min, ℤ, pos, negsuc, nat_lt, Bool, ◌&&◌, Ok, Err, Result, IfOk, Option, None, Some, slice_get, List, map}
 use Rattle.std.specs.List.{range_with_len}
-use Rattle.gl_calculus.specs.ErrKind.{ErrKind}
-use Rattle.gl_calculus.specs.Value.{Scalar, Int, Value}
-use Rattle.gl_calculus.specs.Lift.{item, shape}
-use Rattle.gl_calculus.specs.Functions.{Try, when, is_column_beside, keeps, kept_part, left_over_part, part_of, value_or_error}
+use Rattle.gl_calculus.specs.Values.ErrKind.{ErrKind}
+use Rattle.gl_calculus.specs.Values.Value.{Scalar, Int, Value}
+use Rattle.gl_calculus.specs.Values.Lift.{item, shape}
+use Rattle.gl_calculus.specs.Values.Functions.{Try, when, is_column_beside, keeps, kept_part, left_over_part, part_of, value_or_error}
 use Rattle.gl_plane.specs.declared.NoMemory.{NoMemory}
 use Rattle.gl_value.specs.View.{value_tree}
 use Rattle.gl_value.specs.declared.Value as Code

@@ -1,10 +1,10 @@
 -- Values one under the other, and side by side.
 use Rattle.std.specs.Prelude.{ℕ, ◌+◌, ◌-◌, ◌≤◌, max, nat_lt, List, [], ◌∷◌, All, IsTrue, length, if◌then◌else◌}
-use Rattle.gl_calculus.specs.ErrKind.{ErrKind}
-use Rattle.gl_calculus.specs.Value.{Scalar, Value}
-use Rattle.gl_calculus.specs.Limits.{max_arguments}
-use Rattle.gl_calculus.specs.Lift.{item, shape}
-use Rattle.gl_calculus.specs.Sound.{is_sound_value}
+use Rattle.gl_calculus.specs.Values.ErrKind.{ErrKind}
+use Rattle.gl_calculus.specs.Values.Value.{Scalar, Value}
+use Rattle.gl_calculus.specs.Grid.Limits.{max_arguments}
+use Rattle.gl_calculus.specs.Values.Lift.{item, shape}
+use Rattle.gl_calculus.specs.Evaluation.Sound.{is_sound_value}
 use Rattle.gl_value.specs.View.{value_tree}
 use Rattle.gl_value.specs.declared.Value as Code
 use Rattle.gl_arrays.specs.declared.stacks.Axis.{Axis}

@@ -1,6 +1,6 @@
 //! What the arguments of a function come to.
 ghost use Rattle.std.specs.Prelude.{◌≡◌, ◌≤◌, IfOk, Ok};
-ghost use Rattle.gl_calculus.specs.Functions as F;
+ghost use Rattle.gl_calculus.specs.Values.Functions as F;
 ghost use Rattle.gl_value.specs.View.{value_tree};
 ghost use Rattle.gl_arrays.specs.{Answers.continued, Parts.within};
 

@@ -1,7 +1,9 @@
 //! Values of one column.
 ghost use Rattle.std.specs.Prelude.{◌≡◌, IsTrue};
-ghost use Rattle.gl_calculus.specs.{Lift.item, Operators.agrees, Sound.is_sound_value};
-ghost use Rattle.gl_calculus.specs.Functions as F;
+ghost use Rattle.gl_calculus.specs.Values.Lift.{item};
+ghost use Rattle.gl_calculus.specs.Values.Operators.{agrees};
+ghost use Rattle.gl_calculus.specs.Evaluation.Sound.{is_sound_value};
+ghost use Rattle.gl_calculus.specs.Values.Functions as F;
 ghost use Rattle.gl_value.specs.View.{scalar_tree, value_tree};
 
 use gl_lift::{element, extents};

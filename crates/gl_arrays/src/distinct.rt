@@ -1,8 +1,10 @@
 //! Rows without those that stand before.
 ghost use Rattle.std.specs.Prelude.{◌≡◌, ◌≤◌, [], IsTrue, IfOk, vec_len, map};
-ghost use Rattle.gl_calculus.specs.{Limits.max_cells, Lift.from_rows, Sound.is_sound_value};
-ghost use Rattle.gl_calculus.specs.Lift as L;
-ghost use Rattle.gl_calculus.specs.Functions as F;
+ghost use Rattle.gl_calculus.specs.Grid.Limits.{max_cells};
+ghost use Rattle.gl_calculus.specs.Values.Lift.{from_rows};
+ghost use Rattle.gl_calculus.specs.Evaluation.Sound.{is_sound_value};
+ghost use Rattle.gl_calculus.specs.Values.Lift as L;
+ghost use Rattle.gl_calculus.specs.Values.Functions as F;
 ghost use Rattle.gl_value.specs.View.{scalar_tree, value_tree};
 ghost use Rattle.gl_arrays.specs.Parts.{row};
 

@@ -1,9 +1,10 @@
 //! Elements by their places, and by what stands beside them.
 ghost use Rattle.std.specs.Prelude.{◌≡◌, IsTrue, IfOk, OnOk, Ok};
-ghost use Rattle.gl_calculus.specs.{Sound.is_sound_scalar, Sound.is_sound_value, Value.elements};
-ghost use Rattle.gl_calculus.specs.Value as V;
-ghost use Rattle.gl_calculus.specs.Lift as L;
-ghost use Rattle.gl_calculus.specs.Functions as F;
+ghost use Rattle.gl_calculus.specs.Evaluation.Sound.{is_sound_scalar, is_sound_value};
+ghost use Rattle.gl_calculus.specs.Values.Value.{elements};
+ghost use Rattle.gl_calculus.specs.Values.Value as V;
+ghost use Rattle.gl_calculus.specs.Values.Lift as L;
+ghost use Rattle.gl_calculus.specs.Values.Functions as F;
 ghost use Rattle.gl_value.specs.View.{scalar_tree, value_tree};
 ghost use Rattle.gl_arrays.specs.{Answers.continued, Parts.are_columns};
 

@@ -1,7 +1,10 @@
 //! How many rows and columns a value has.
 ghost use Rattle.std.specs.Prelude.{◌≡◌, IsTrue, ℕ};
-ghost use Rattle.gl_calculus.specs.{Functions.extent, Grid.Size, Lift.shape, Sound.is_sound_scalar};
-ghost use Rattle.gl_calculus.specs.Value as V;
+ghost use Rattle.gl_calculus.specs.Values.Functions.{extent};
+ghost use Rattle.gl_calculus.specs.Grid.Grid.{Size};
+ghost use Rattle.gl_calculus.specs.Values.Lift.{shape};
+ghost use Rattle.gl_calculus.specs.Evaluation.Sound.{is_sound_scalar};
+ghost use Rattle.gl_calculus.specs.Values.Value as V;
 ghost use Rattle.gl_value.specs.View.{scalar_tree, value_tree};
 
 use gl_lift::extents;

@@ -1,11 +1,13 @@
 //! Rows that a column of truths keeps.
 ghost use Rattle.std.specs.Prelude.{◌≡◌, ◌≤◌, IsTrue, IfOk, OnOk, Ok, vec_len, option_map, filter};
 ghost use Rattle.std.specs.List.{range_with_len};
-ghost use Rattle.gl_calculus.specs.{Limits.max_cells, Value.elements, Lift.shape};
-ghost use Rattle.gl_calculus.specs.{Sound.is_sound_value};
-ghost use Rattle.gl_calculus.specs.ErrKind as E;
-ghost use Rattle.gl_calculus.specs.Lift as L;
-ghost use Rattle.gl_calculus.specs.Functions as F;
+ghost use Rattle.gl_calculus.specs.Grid.Limits.{max_cells};
+ghost use Rattle.gl_calculus.specs.Values.Value.{elements};
+ghost use Rattle.gl_calculus.specs.Values.Lift.{shape};
+ghost use Rattle.gl_calculus.specs.Evaluation.Sound.{is_sound_value};
+ghost use Rattle.gl_calculus.specs.Values.ErrKind as E;
+ghost use Rattle.gl_calculus.specs.Values.Lift as L;
+ghost use Rattle.gl_calculus.specs.Values.Functions as F;
 ghost use Rattle.gl_value.specs.View.{error_tree, value_tree};
 ghost use Rattle.gl_arrays.specs.{Answers.continued, Parts.column_from, Parts.keeps_row};
 

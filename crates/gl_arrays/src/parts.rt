@@ -1,9 +1,9 @@
 //! Parts of an array: some of its rows and columns.
 ghost use Rattle.std.specs.Prelude.{◌≡◌, ◌+◌, IsTrue, IfOk, min};
-ghost use Rattle.gl_calculus.specs.Sound.{is_sound_scalar, is_sound_value};
-ghost use Rattle.gl_calculus.specs.ErrKind as E;
-ghost use Rattle.gl_calculus.specs.Lift as L;
-ghost use Rattle.gl_calculus.specs.Functions as F;
+ghost use Rattle.gl_calculus.specs.Evaluation.Sound.{is_sound_scalar, is_sound_value};
+ghost use Rattle.gl_calculus.specs.Values.ErrKind as E;
+ghost use Rattle.gl_calculus.specs.Values.Lift as L;
+ghost use Rattle.gl_calculus.specs.Values.Functions as F;
 ghost use Rattle.gl_value.specs.View.{scalar_tree, value_tree};
 ghost use Rattle.gl_arrays.specs.Parts.{kept_start, kept_count, left_start, left_count, start_of};
 ghost use Rattle.gl_arrays.specs.Parts.{count_of, rule_of, window, IsPart};

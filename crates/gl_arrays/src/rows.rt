@@ -1,7 +1,9 @@
 //! Some of the rows of a value.
 ghost use Rattle.std.specs.Prelude.{◌≡◌, ◌≤◌, IsTrue, IfOk, length, map};
-ghost use Rattle.gl_calculus.specs.{Limits.max_cells, Lift.from_rows, Sound.is_sound_scalar};
-ghost use Rattle.gl_calculus.specs.{Sound.is_sound_value};
+ghost use Rattle.gl_calculus.specs.Grid.Limits.{max_cells};
+ghost use Rattle.gl_calculus.specs.Values.Lift.{from_rows};
+ghost use Rattle.gl_calculus.specs.Evaluation.Sound.{is_sound_scalar};
+ghost use Rattle.gl_calculus.specs.Evaluation.Sound.{is_sound_value};
 ghost use Rattle.gl_value.specs.View.{scalar_tree, value_tree};
 ghost use Rattle.gl_arrays.specs.Parts.{picked, row};
 

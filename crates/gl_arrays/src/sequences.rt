@@ -1,8 +1,10 @@
 //! Numbered arrays, and arrays with rows and columns exchanged.
 ghost use Rattle.std.specs.Prelude.{◌≡◌, ◌≤◌, ◌<◌, ◌+◌, ◌*◌, IsTrue, IfOk, IfSome, IfNone, Ok};
-ghost use Rattle.gl_calculus.specs.{Limits.max_cells, Grid.size, Sound.is_sound_value};
-ghost use Rattle.gl_calculus.specs.Lift as L;
-ghost use Rattle.gl_calculus.specs.Functions as F;
+ghost use Rattle.gl_calculus.specs.Grid.Limits.{max_cells};
+ghost use Rattle.gl_calculus.specs.Grid.Grid.{size};
+ghost use Rattle.gl_calculus.specs.Evaluation.Sound.{is_sound_value};
+ghost use Rattle.gl_calculus.specs.Values.Lift as L;
+ghost use Rattle.gl_calculus.specs.Values.Functions as F;
 ghost use Rattle.gl_value.specs.View.{scalar_tree, value_tree};
 ghost use Rattle.gl_arrays.specs.{Answers.continued, Parts.numbered};
 

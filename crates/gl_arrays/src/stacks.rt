@@ -1,8 +1,9 @@
 //! Arrays one under the other, and side by side.
 ghost use Rattle.std.specs.Prelude.{◌≡◌, ◌≤◌, IsTrue, IfOk, All, length, map};
-ghost use Rattle.gl_calculus.specs.{Limits.max_arguments, Sound.is_sound_scalar};
-ghost use Rattle.gl_calculus.specs.{Sound.is_sound_value};
-ghost use Rattle.gl_calculus.specs.Functions as F;
+ghost use Rattle.gl_calculus.specs.Grid.Limits.{max_arguments};
+ghost use Rattle.gl_calculus.specs.Evaluation.Sound.{is_sound_scalar};
+ghost use Rattle.gl_calculus.specs.Evaluation.Sound.{is_sound_value};
+ghost use Rattle.gl_calculus.specs.Values.Functions as F;
 ghost use Rattle.gl_value.specs.View.{scalar_tree, value_tree};
 ghost use Rattle.gl_arrays.specs.Stacks as S;
 

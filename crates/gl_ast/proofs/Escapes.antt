@@ -8,7 +8,7 @@ use Rattle.std.proofs.lemmas.Grind.{flat_map-append}
 use Rattle.std.proofs.lemmas.List.{at_drop_more, at_drop_all}
 use Rattle.std.proofs.lemmas.Str.{encode_ascii, encodes-chars, inside_one}
 use lib.Utf8.{encode, encodes}
-use Rattle.gl_language.specs.Text.{escaped, is_control, hex_digit}
+use Rattle.gl_language.specs.Texts.Text.{escaped, is_control, hex_digit}
 
 -- a character below 128 is one byte
 small_char : (c : ℕ) → c < 128 → flat_map escaped (encode c) ≡ escaped c

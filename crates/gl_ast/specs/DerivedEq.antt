@@ -5,9 +5,9 @@ use denote.Hole.Carrier as carrier
 use lib.Pointwise.{pointwise}
 use Rattle.gl_ast.specs.Ints.{int_test}
 use Rattle.gl_ast.specs.Same.{fun_place, same_op, same_level, same_fun, same_formula, same_formulas, same_operands}
-use Rattle.gl_calculus.specs.Same.{same_bool}
+use Rattle.gl_calculus.specs.Values.Same.{same_bool}
 use Rattle.gl_ast.specs.View.{level_tree, op_tree, fun_tree, formula_tree, argument_trees, operand_trees, formula_step as tree_step}
-use Rattle.gl_calculus.specs.Formula as F
+use Rattle.gl_calculus.specs.Formulas.Formula as F
 use Rattle.gl_ast.specs.declared.Level.{Level}
 use Rattle.gl_ast.specs.declared.Level.TheVariants as level
 use Rattle.gl_ast.specs.declared.Op.{Op}

@@ -2,9 +2,9 @@
 use Rattle.std.proofs.Common.{◌≡◌, ℕ, Bool, true, ◌&&◌, [], ◌∷◌, get_or, bytes_eq, refl, ap, sym, ◌∙◌}
 use Rattle.std.proofs.lemmas.Bool.{eqb-true, eq-eqb}
 use Rattle.std.proofs.lemmas.Slice.Eq.{bytes_eq-Decides}
-use Rattle.gl_query.specs.Lists.{IsEquality}
+use Rattle.gl_calculus.specs.Computation.Lists.{IsEquality}
 use Rattle.gl_calculus.proofs.Tests.{both, and_true, addr_exact, addr_same, int_exact, int_same, bool_exact, bool_same, range_exact, range_same}
-use Rattle.gl_calculus.specs.Formula.{Op, Level, Fun, Formula, Formulas, no_formula, formula_and, Operands, no_operand, operand_and}
+use Rattle.gl_calculus.specs.Formulas.Formula.{Op, Level, Fun, Formula, Formulas, no_formula, formula_and, Operands, no_operand, operand_and}
 use Rattle.gl_ast.specs.Same.{op_place, level_place, fun_place, same_op, same_level, same_fun, same_formula, same_formulas, same_operands}
 
 abbrev op_at : ℕ → Op

@@ -5,8 +5,8 @@ use Rattle.std.specs.declared.rc.RcStr.{RcStr}
 use Rattle.std.specs.declared.boxed.Box.{Box}
 use Rattle.std.specs.declared.vec.Vec.{Vec}
 use Rattle.std.specs.Rc.{rc_str_bytes}
-use Rattle.gl_calculus.specs.Grid.{Addr, Range}
-use Rattle.gl_calculus.specs.Formula as F
+use Rattle.gl_calculus.specs.Grid.Grid.{Addr, Range}
+use Rattle.gl_calculus.specs.Formulas.Formula as F
 use Rattle.gl_ast.specs.View.{level_tree, op_tree, fun_tree, formula_tree, argument_trees, operand_trees}
 use Rattle.gl_ast.specs.declared.Level.{Level}
 use Rattle.gl_ast.specs.declared.Op.{Op}

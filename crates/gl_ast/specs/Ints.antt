@@ -3,7 +3,7 @@ use Rattle.std.specs.Prelude.{◌≡◌, ℤ, Bool, true, false, refl}
 use Rattle.std.proofs.Common.{subst}
 use Rattle.std.specs.Ordering.{int_eq}
 use Rattle.std.proofs.lemmas.Bool.Decides.{Decides-int_eq}
-use Rattle.gl_calculus.specs.Same.{same_int}
+use Rattle.gl_calculus.specs.Values.Same.{same_int}
 use Rattle.gl_calculus.proofs.Tests.{int_exact, int_same}
 
 cases : (m n : ℤ) (b c : Bool) → int_eq m n ≡ b → same_int m n ≡ c → b ≡ c

@@ -1,8 +1,8 @@
 -- Equality of formulas by structure, as a test of their trees.
 use Rattle.std.specs.Prelude.{◌==◌, ℕ, Bool, true, false, ◌&&◌, bytes_eq}
-use Rattle.gl_calculus.specs.Grid.{same_addr, same_range}
-use Rattle.gl_calculus.specs.Same.{same_int, same_bool}
-use Rattle.gl_calculus.specs.Formula.{Op, Level, Fun, Formula, Formulas, no_formula, formula_and, Operands, no_operand, operand_and}
+use Rattle.gl_calculus.specs.Grid.Grid.{same_addr, same_range}
+use Rattle.gl_calculus.specs.Values.Same.{same_int, same_bool}
+use Rattle.gl_calculus.specs.Formulas.Formula.{Op, Level, Fun, Formula, Formulas, no_formula, formula_and, Operands, no_operand, operand_and}
 
 -- the places of operators, levels and functions in their lists
 abbrev pub op_place : Op → ℕ

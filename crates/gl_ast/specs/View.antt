@@ -1,7 +1,7 @@
 -- The tree of the calculus that a formula of the code stands for.
 use Rattle.std.specs.Prelude.{List, [], ◌∷◌, map}
 use Rattle.std.specs.Rc.{rc_str_bytes}
-use Rattle.gl_calculus.specs.Formula as F
+use Rattle.gl_calculus.specs.Formulas.Formula as F
 use Rattle.gl_ast.specs.declared.Version.{Version}
 use Rattle.gl_ast.specs.declared.Version.TheVariants as version
 use Rattle.gl_ast.specs.declared.Level.{Level}

@@ -3,8 +3,8 @@
 ghost use Rattle.std.specs.Prelude.{◌≡◌, ◌+◌, ◌≤◌, ◌++◌, ◌∷◌, [], OnOk, IfOk, Bool};
 ghost use Rattle.std.specs.Prelude.{if◌then◌else◌};
 ghost use Rattle.std.specs.{List.join_with_byte, String.string_bytes};
-ghost use Rattle.gl_calculus.specs.Notation as notation;
-ghost use Rattle.gl_language.specs.Text as text;
+ghost use Rattle.gl_calculus.specs.Grid.Notation as notation;
+ghost use Rattle.gl_language.specs.Texts.Text as text;
 ghost use Rattle.gl_ast.specs.View.{formula_tree, argument_trees, operand_trees, level_tree};
 ghost use Rattle.gl_ast.specs.View.{op_tree, fun_tree};
 

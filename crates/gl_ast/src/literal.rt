@@ -2,7 +2,7 @@
 
 ghost use Rattle.std.specs.Prelude.{◌≡◌, ◌≢◌, ◌++◌, ◌∷◌, [], ◌/◌, ◌%◌, ◌<◌, OnOk, flat_map};
 ghost use Rattle.std.specs.{Char.encode_utf8, String.string_bytes};
-ghost use Rattle.gl_language.specs.Text as text;
+ghost use Rattle.gl_language.specs.Texts.Text as text;
 
 use gl_plane::NoMemory;
 

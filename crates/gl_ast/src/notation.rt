@@ -2,8 +2,8 @@
 
 ghost use Rattle.std.specs.Prelude.{◌≡◌, ◌++◌, ◌≤◌, OnOk};
 ghost use Rattle.std.specs.{Fmt.decimal, Fmt.signed_decimal, String.string_bytes};
-ghost use Rattle.gl_calculus.specs.Notation as notation;
-ghost use Rattle.gl_language.specs.Text as text;
+ghost use Rattle.gl_calculus.specs.Grid.Notation as notation;
+ghost use Rattle.gl_language.specs.Texts.Text as text;
 
 use gl_plane::{Addr, NoMemory, Range};
 use std::alloc::Global;

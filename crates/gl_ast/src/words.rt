@@ -1,7 +1,7 @@
 //! The words and signs of formulas, as they are written.
 
 ghost use Rattle.std.specs.Prelude.{◌≡◌};
-ghost use Rattle.gl_language.specs.Text as text;
+ghost use Rattle.gl_language.specs.Texts.Text as text;
 ghost use Rattle.gl_ast.specs.View.{fun_tree, op_tree};
 
 use crate::{Fun, Op};

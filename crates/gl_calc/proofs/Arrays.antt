@@ -2,14 +2,14 @@
 use Rattle.std.proofs.Common.{◌≡◌, List, [], ◌∷◌, ◌++◌, map, inl, inr, Option, Some, None, Ok, Err, refl, sym, ap, subst, ◌∙◌, append_assoc}
 use Rattle.std.proofs.lemmas.List.{append-nil}
 use Rattle.std.specs.List.{AllByRecursion}
-use Rattle.gl_query.specs.Lists.{Member}
-use Rattle.gl_query.specs.Machine.{Status, Idle, Waiting, Resolved, at}
-use Rattle.gl_calculus.specs.Grid.{Addr, Size, AreInOrder}
-use Rattle.gl_calculus.specs.Value.{Oracle, One, Array, Top}
-use Rattle.gl_calculus.specs.Formula.{Version, Cells}
-use Rattle.gl_calculus.specs.Oracle.{Sizes}
-use Rattle.gl_calculus.specs.Key.{Key, Cell, same_key, Budget, Outcome, Settled, Abort}
-use Rattle.gl_calculus.specs.Calculation.{DemandedIn, is_abort, TopFails, TopHas, Arrays, none, array, other, FirstAbort, here, behind}
+use Rattle.gl_calculus.specs.Computation.Lists.{Member}
+use Rattle.gl_machine.specs.Machine.{Status, Idle, Waiting, Resolved, at}
+use Rattle.gl_calculus.specs.Grid.Grid.{Addr, Size, AreInOrder}
+use Rattle.gl_calculus.specs.Values.Value.{Oracle, One, Array, Top}
+use Rattle.gl_calculus.specs.Formulas.Formula.{Version, Cells}
+use Rattle.gl_calculus.specs.Evaluation.Oracle.{Sizes}
+use Rattle.gl_calculus.specs.Evaluation.Key.{Key, Cell, same_key, Budget, Outcome, Settled, Abort}
+use Rattle.gl_calculus.specs.Calculation.Calculation.{DemandedIn, is_abort, TopFails, TopHas, Arrays, none, array, other, FirstAbort, here, behind}
 use Rattle.gl_demand.proofs.Ordered.{order_without}
 use Rattle.gl_core.specs.State.{State}
 use Rattle.gl_calc.specs.Shown.{IsRound}

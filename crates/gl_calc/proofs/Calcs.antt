@@ -1,22 +1,22 @@
 -- What a calculator keeps across its calls.
 use Rattle.std.proofs.Common.{◌≡◌, ◌⊎◌, inl, inr, ℕ, suc, ◌+◌, ◌≤◌, Bool, true, false, not, cond, if◌then◌else◌, List, [], ◌∷◌, ◌++◌, length, slice_get, vec_len, vec_capacity, Vec, Global, Option, Some, None, IsSome, IfSome, option_map, Result, Ok, Err, OnErr, refl, sym, ap, subst, ◌∙◌, arith}
-use Rattle.gl_query.specs.Lists.{Member}
-use Rattle.gl_calculus.specs.Grid.{Addr, Range, same_addr, is_before, covers, grid}
-use Rattle.gl_calculus.specs.Value.{Oracle}
-use Rattle.gl_calculus.specs.Formula as F
-use Rattle.gl_calculus.specs.Formula.{Content, Cells, IsSheet, content, formula_addresses}
-use Rattle.gl_calculus.specs.Calculation as C
-use Rattle.gl_calculus.specs.Calculation.{has_content, Reaches}
-use Rattle.gl_calculus.specs.Differences.{AreApart}
-use Rattle.gl_calculus.specs.Memory as M
-use Rattle.gl_calculus.specs.Memory.{Table, AreTables}
-use Rattle.gl_calculus.specs.Oracle.{grant}
-use Rattle.gl_calculus.proofs.Apart.{apart}
-use Rattle.gl_calculus.proofs.Settles.{array_order}
+use Rattle.gl_calculus.specs.Computation.Lists.{Member}
+use Rattle.gl_calculus.specs.Grid.Grid.{Addr, Range, same_addr, is_before, covers, grid}
+use Rattle.gl_calculus.specs.Values.Value.{Oracle}
+use Rattle.gl_calculus.specs.Formulas.Formula as F
+use Rattle.gl_calculus.specs.Formulas.Formula.{Content, Cells, IsSheet, content, formula_addresses}
+use Rattle.gl_calculus.specs.Calculation.Calculation as C
+use Rattle.gl_calculus.specs.Calculation.Calculation.{has_content, Reaches}
+use Rattle.gl_calculus.specs.Calculation.Differences.{AreApart}
+use Rattle.gl_calculus.specs.Calculation.Memory as M
+use Rattle.gl_calculus.specs.Calculation.Memory.{Table, AreTables}
+use Rattle.gl_calculus.specs.Evaluation.Oracle.{grant}
+use Rattle.laws_calculus.proofs.Calculus.Apart.{apart}
+use Rattle.laws_calculus.proofs.Calculus.Settles.{array_order}
 use Rattle.gl_calc.proofs.Formulas.{formulas_in_order}
-use Rattle.gl_calculus.proofs.Proved.{grant_gives_permits}
-use Rattle.gl_protocol.specs.Commands.{with_content, with_contents, without, places_in}
-use Rattle.gl_protocol.proofs.SheetChanges.{sets_these, clears_these}
+use Rattle.laws_calculus.proofs.Calculus.Proved.{grant_gives_permits}
+use Rattle.gl_calculus.specs.Edits.Sheets.{with_content, with_contents, without, places_in}
+use Rattle.laws_calculus.proofs.SheetEdits.SheetChanges.{sets_these, clears_these}
 use Rattle.gl_ast.specs.View.{version_tree}
 use Rattle.gl_ast.specs.declared.Version.{Version}
 use Rattle.gl_calc.specs.Answers.{Answers, Takes}

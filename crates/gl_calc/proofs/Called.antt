@@ -1,22 +1,24 @@
 -- What one round over the sheet begins with, gives and leaves.
 use Rattle.std.proofs.Common.{◌≡◌, ◌⊎◌, inl, inr, ℕ, List, [], ◌∷◌, ◌++◌, Bool, true, false, if◌then◌else◌, length, nat_lt, map, Option, Some, None, Result, Ok, Err, IfOk, IfErr, refl, sym, ap, ◌∙◌, subst}
-use Rattle.gl_query.specs.Lists.{Member, AreDistinct}
-use Rattle.gl_query.specs.InOrder.{note_keys}
-use Rattle.gl_query.specs.Laws.{IsQuiet}
-use Rattle.gl_query.specs.Machine.{Seed, Demanded, keys}
-use Rattle.gl_query.specs.Remembered.{Note, AreTrue}
-use Rattle.gl_query.proofs.Ordered.{key_of}
-use Rattle.gl_calculus.specs.Grid.{Addr, Range}
-use Rattle.gl_calculus.specs.Value.{Oracle, Top}
-use Rattle.gl_calculus.specs.Formula.{Version, Cells, formula_addresses}
-use Rattle.gl_calculus.specs.Limits.{kept_rounds}
-use Rattle.gl_calculus.specs.Oracle.{Sizes}
-use Rattle.gl_calculus.specs.Key.{Key, Cell, same_key, Outcome}
-use Rattle.gl_calculus.specs.Evaluation.{program}
-use Rattle.gl_calculus.specs.Calculation.{DemandedIn, SpendsWork}
-use Rattle.gl_calculus.specs.Differences.{AreApart}
-use Rattle.gl_calculus.specs.Memory.{Table, Notes, base_by, no_table, IsTableOf}
-use Rattle.gl_calculus.proofs.Proved.{kept_stay_true}
+use Rattle.gl_calculus.specs.Computation.Lists.{Member, AreDistinct}
+use Rattle.gl_calculus.specs.Computation.Notes.{note_keys}
+use Rattle.gl_machine.specs.Quiet.{IsQuiet}
+use Rattle.gl_calculus.specs.Computation.Demanded.{Seed, Demanded}
+use Rattle.gl_machine.specs.Machine.{keys}
+use Rattle.gl_calculus.specs.Computation.Notes.{Note}
+use Rattle.gl_machine.specs.Remembered.{AreTrue}
+use Rattle.laws_calculus.proofs.Query.Ordered.{key_of}
+use Rattle.gl_calculus.specs.Grid.Grid.{Addr, Range}
+use Rattle.gl_calculus.specs.Values.Value.{Oracle, Top}
+use Rattle.gl_calculus.specs.Formulas.Formula.{Version, Cells, formula_addresses}
+use Rattle.gl_calculus.specs.Grid.Limits.{kept_rounds}
+use Rattle.gl_calculus.specs.Evaluation.Oracle.{Sizes}
+use Rattle.gl_calculus.specs.Evaluation.Key.{Key, Cell, same_key, Outcome}
+use Rattle.gl_calculus.specs.Evaluation.Evaluation.{program}
+use Rattle.gl_calculus.specs.Calculation.Calculation.{DemandedIn, SpendsWork}
+use Rattle.gl_calculus.specs.Calculation.Differences.{AreApart}
+use Rattle.gl_calculus.specs.Calculation.Memory.{Table, Notes, base_by, no_table, IsTableOf}
+use Rattle.laws_calculus.proofs.Calculus.Proved.{kept_stay_true}
 use Rattle.gl_core.specs.Held.{Held}
 use Rattle.gl_core.specs.Kept.{AreTheNotes}
 use Rattle.gl_core.specs.State.{state_of, seeds_of, IsFor}
@@ -27,7 +29,7 @@ use Rattle.gl_calc.specs.Progress.{Progress, first_of, rest_of, last_of, either,
 use Rattle.gl_calc.specs.Kept.{AreKept, IsEarlier, IsReady, IsTaken, IsKeptBy, IsSet}
 use Rattle.gl_calc.specs.Visits.{Collects, StandFirst}
 use Rattle.gl_calc.proofs.Seeds.{stand_first}
-use Rattle.gl_calculus.specs.Costs.{Finishes}
+use Rattle.gl_calculus.specs.Steps.Costs.{Finishes}
 use Rattle.gl_calc.specs.Round.{Gives, Fails, Stops, Keeps, Calls}
 use Rattle.gl_calc.specs.declared.ending.RoundFault.{RoundFault}
 use Rattle.gl_calc.specs.declared.ending.RoundFault.TheVariants as fault

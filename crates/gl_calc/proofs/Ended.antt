@@ -1,22 +1,22 @@
 -- What a calculation leaves, what is held after it, and what is answered where nothing was touched since.
 use Rattle.std.proofs.Common.{◌≡◌, ℕ, List, [], Option, Some, option_map, Err, refl, sym, ap, subst, ◌∙◌}
-use Rattle.gl_calculus.specs.Grid.{Addr}
-use Rattle.gl_calculus.specs.Value.{Oracle}
-use Rattle.gl_calculus.specs.Formula as F
-use Rattle.gl_calculus.specs.Formula.{Cells, IsSheet}
-use Rattle.gl_calculus.specs.Calculation as C
-use Rattle.gl_calculus.specs.Calculation.{IsAnswer, Ends}
-use Rattle.gl_calculus.specs.Memory.{Table, base, AreTables}
-use Rattle.gl_calculus.specs.Costs.{Finishes}
-use Rattle.gl_calculus.proofs.Keeps.{nothing_asked}
-use Rattle.gl_calculus.proofs.Settles.{settled_consistent}
-use Rattle.gl_calculus.proofs.Something.{settled_shows}
+use Rattle.gl_calculus.specs.Grid.Grid.{Addr}
+use Rattle.gl_calculus.specs.Values.Value.{Oracle}
+use Rattle.gl_calculus.specs.Formulas.Formula as F
+use Rattle.gl_calculus.specs.Formulas.Formula.{Cells, IsSheet}
+use Rattle.gl_calculus.specs.Calculation.Calculation as C
+use Rattle.gl_calculus.specs.Calculation.Calculation.{IsAnswer, Ends}
+use Rattle.gl_calculus.specs.Calculation.Memory.{Table, base, AreTables}
+use Rattle.gl_calculus.specs.Steps.Costs.{Finishes}
+use Rattle.laws_calculus.proofs.Calculus.Keeps.{nothing_asked}
+use Rattle.laws_calculus.proofs.Calculus.Settles.{settled_consistent}
+use Rattle.laws_calculus.proofs.Calculus.Something.{settled_shows}
 use Rattle.gl_ast.specs.View.{version_tree}
 use Rattle.gl_ast.specs.declared.Version.{Version}
 use Rattle.gl_cells.specs.Sheet as cells
 use Rattle.gl_cells.specs.declared.fault.PutFault.{PutFault}
 use Rattle.gl_cells.specs.declared.fault.PutFault.TheVariants as fault
-use Rattle.gl_calc.specs.Costs.{Comes, first, later, Costs}
+use Rattle.gl_calculus.specs.Steps.Rounds.{Comes, first, later, Costs}
 use Rattle.gl_calc.specs.Answers.{Answers, Takes, spent_tree}
 use Rattle.gl_calc.specs.Progress.{Progress, either, last_of, before_of}
 use Rattle.gl_calc.specs.Ending.{IsSettledTable, HasLast, EndsWith}

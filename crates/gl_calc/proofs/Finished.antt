@@ -1,31 +1,33 @@
 -- The steps of a round that is run to its end, beginning with what is kept of a table.
 use Rattle.std.proofs.Common.{◌≡◌, ℕ, ◌+◌, ◌-◌, ◌^◌, ◌≤◌, ◌<◌, List, [], ◌∷◌, ◌||◌, Bool, length, inl, inr, true, false, cond, Some, refl, sym, ap, subst, ◌∙◌, arith}
-use Rattle.gl_query.specs.Lists.{Member, AreDistinct, MoreThan}
-use Rattle.gl_query.specs.Laws.{IsQuiet}
-use Rattle.gl_query.specs.InOrder.{AreOrdered}
-use Rattle.gl_query.specs.Machine.{Demanded, Entry, Status, Idle, Waiting, Resolved, at, keys}
-use Rattle.gl_query.specs.Remembered.{Note, Here, IsDropped}
-use Rattle.gl_query.specs.Costs.{unnoted, settled, settled_of, step_of}
-use Rattle.gl_query.proofs.Quiet.{distinct_within}
-use Rattle.gl_query.proofs.Lookups.{member_known}
-use Rattle.gl_query.proofs.Credit.{at-entry}
-use Rattle.gl_query.proofs.Proved.{kept_or_dropped}
-use Rattle.gl_calculus.specs.Grid.{Addr, Range}
-use Rattle.gl_calculus.specs.Value.{Oracle}
-use Rattle.gl_calculus.specs.Formula.{Version, Cells}
-use Rattle.gl_calculus.specs.Key as K
-use Rattle.gl_calculus.specs.Key.{same_key}
-use Rattle.gl_calculus.specs.Evaluation.{program}
-use Rattle.gl_calculus.specs.Limits.{max_demanded}
-use Rattle.gl_calculus.specs.Calculation.{SpendsWork}
-use Rattle.gl_calculus.specs.Memory.{Table, Notes, differs_in, IsKeptKey}
-use Rattle.gl_calculus.specs.Costs.{Finishes}
+use Rattle.gl_calculus.specs.Computation.Lists.{Member, AreDistinct, MoreThan}
+use Rattle.gl_machine.specs.Quiet.{IsQuiet}
+use Rattle.gl_machine.specs.InOrder.{AreOrdered}
+use Rattle.gl_calculus.specs.Computation.Demanded.{Demanded}
+use Rattle.gl_machine.specs.Machine.{Entry, Status, Idle, Waiting, Resolved, at, keys}
+use Rattle.gl_calculus.specs.Computation.Notes.{Note, Here}
+use Rattle.gl_machine.specs.Remembered.{IsDropped}
+use Rattle.gl_machine.specs.Costs.{unnoted, settled, settled_of, step_of}
+use Rattle.laws_calculus.proofs.Query.Quiet.{distinct_within}
+use Rattle.laws_calculus.proofs.Query.Lookups.{member_known}
+use Rattle.laws_calculus.proofs.Query.Credit.{at-entry}
+use Rattle.laws_calculus.proofs.Query.Proved.{kept_or_dropped}
+use Rattle.gl_calculus.specs.Grid.Grid.{Addr, Range}
+use Rattle.gl_calculus.specs.Values.Value.{Oracle}
+use Rattle.gl_calculus.specs.Formulas.Formula.{Version, Cells}
+use Rattle.gl_calculus.specs.Evaluation.Key as K
+use Rattle.gl_calculus.specs.Evaluation.Key.{same_key}
+use Rattle.gl_calculus.specs.Evaluation.Evaluation.{program}
+use Rattle.gl_calculus.specs.Grid.Limits.{max_demanded}
+use Rattle.gl_calculus.specs.Calculation.Calculation.{SpendsWork}
+use Rattle.gl_calculus.specs.Calculation.Memory.{Table, Notes, differs_in, IsKeptKey}
+use Rattle.gl_calculus.specs.Steps.Costs.{Finishes}
 use Rattle.gl_calculus.proofs.Tests.{key_equality}
 use Rattle.gl_core.specs.Held.{Held}
 use Rattle.gl_core.specs.State.{State, state_of, seeds_of, notes_in, is_noted, IsFor}
-use Rattle.gl_demand.specs.Steps.{AllowsDemanded}
+use Rattle.gl_calculus.specs.Steps.Demanded.{AllowsDemanded}
 use Rattle.gl_core.specs.Answers.{AllowsKnown}
-use Rattle.gl_calc.specs.Costs.{Breaks}
+use Rattle.gl_calculus.specs.Steps.Rounds.{Breaks}
 use Rattle.gl_calc.specs.Kept.{AreKept}
 use Rattle.gl_calc.specs.Shown.{IsRound}
 use Rattle.gl_calc.specs.Starting.{IsStarted}

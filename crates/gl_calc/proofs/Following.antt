@@ -2,13 +2,13 @@
 use Rattle.std.proofs.Common.{◌≡◌, ◌⊎◌, inl, inr, ℕ, zero, suc, ◌+◌, ◌-◌, ◌≤◌, ◌<◌, nat_lt, Bool, true, false, if◌then◌else◌, List, [], ◌∷◌, ◌++◌, length, slice_get, option_to_list, Option, Some, None, refl, sym, ap, subst, ◌∙◌, arith}
 use Rattle.std.proofs.lemmas.Bool.{cases_order, ltb-true}
 use borrow.Author.Tests.{ltb-false}
-use Rattle.gl_calculus.specs.Grid.{Addr}
-use Rattle.gl_calculus.specs.Value.{Oracle}
-use Rattle.gl_calculus.specs.Formula.{Version, Cells}
-use Rattle.gl_calculus.specs.Limits.{kept_rounds}
-use Rattle.gl_calculus.specs.Calculation.{Answer, SpendsWork, Reaches, IsFinished, Ends}
-use Rattle.gl_calculus.specs.Memory.{Table, base, base_by, before_round, IsTableOf, AreTables}
-use Rattle.gl_calculus.proofs.Single.{one_round, goes_on, ends_not_on}
+use Rattle.gl_calculus.specs.Grid.Grid.{Addr}
+use Rattle.gl_calculus.specs.Values.Value.{Oracle}
+use Rattle.gl_calculus.specs.Formulas.Formula.{Version, Cells}
+use Rattle.gl_calculus.specs.Grid.Limits.{kept_rounds}
+use Rattle.gl_calculus.specs.Calculation.Calculation.{Answer, SpendsWork, Reaches, IsFinished, Ends}
+use Rattle.gl_calculus.specs.Calculation.Memory.{Table, base, base_by, before_round, IsTableOf, AreTables}
+use Rattle.laws_calculus.proofs.Calculus.Single.{one_round, goes_on, ends_not_on}
 use Rattle.gl_calc.specs.Progress.{Progress, first_of, rest_of, last_of, either, before_of, next_base, made_with, beyond_with}
 
 first_slice : {X : Type 0} (xs : List X) → first_of xs ≡ slice_get xs 0

@@ -1,11 +1,11 @@
 -- The formulas of a sheet: they stand in row-major order, and are proper keys.
 use Rattle.std.proofs.Common.{◌≡◌, ◌⊎◌, inl, inr, suc, List, [], ◌∷◌, length, map, true, false, Some, refl, sym, ◌∙◌, subst, ap, IsTrue}
-use Rattle.gl_query.specs.Lists.{Member, AreDistinct}
-use Rattle.gl_calculus.specs.Grid.{Addr, same_addr, AreInOrder}
-use Rattle.gl_calculus.specs.Value.{Top}
-use Rattle.gl_calculus.specs.Formula.{Formula, Content, Const, Form, Cells, IsSheet, content, formula_addresses}
-use Rattle.gl_calculus.specs.Key.{Key, Cell}
-use Rattle.gl_calculus.specs.Sound.{IsProperKey, is_sound_key}
+use Rattle.gl_calculus.specs.Computation.Lists.{Member, AreDistinct}
+use Rattle.gl_calculus.specs.Grid.Grid.{Addr, same_addr, AreInOrder}
+use Rattle.gl_calculus.specs.Values.Value.{Top}
+use Rattle.gl_calculus.specs.Formulas.Formula.{Formula, Content, Const, Form, Cells, IsSheet, content, formula_addresses}
+use Rattle.gl_calculus.specs.Evaluation.Key.{Key, Cell}
+use Rattle.gl_calculus.specs.Evaluation.Sound.{IsProperKey, is_sound_key}
 use Rattle.gl_calculus.proofs.Tests.{addr_exact, addr_same}
 use Rattle.gl_calculus.proofs.Grants.{Before, before_of, of_before, before_trans, not_same, split}
 

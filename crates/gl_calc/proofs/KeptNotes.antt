@@ -1,16 +1,17 @@
 -- What is kept of notes goes by the places that are touched, however they are told.
 use Rattle.std.proofs.Common.{◌≡◌, inl, inr, ◌||◌, Bool, true, false, not, List, [], ◌∷◌, length, refl, sym, ap, subst, ◌∙◌}
 use Rattle.std.specs.List.{list_any}
-use Rattle.gl_query.specs.Lists.{Member, AreDistinct}
-use Rattle.gl_query.specs.InOrder.{note_keys}
-use Rattle.gl_query.proofs.Ordered.{key_of}
-use Rattle.gl_query.specs.Remembered.{Note, AreClosed, AreSingle, AreTheKept, IsDropped}
-use Rattle.gl_query.specs.Remembered as R
-use Rattle.gl_calculus.specs.Grid.{Addr, same_addr, Range, addresses}
-use Rattle.gl_calculus.specs.Value.{Oracle}
-use Rattle.gl_calculus.specs.Oracle.{status, cover}
-use Rattle.gl_calculus.specs.Key.{Key, Outcome}
-use Rattle.gl_calculus.specs.Memory.{Table, Notes, same_status, same_cover, differs_at, differs_in}
+use Rattle.gl_calculus.specs.Computation.Lists.{Member, AreDistinct}
+use Rattle.gl_calculus.specs.Computation.Notes.{note_keys}
+use Rattle.laws_calculus.proofs.Query.Ordered.{key_of}
+use Rattle.gl_calculus.specs.Computation.Notes.{Note}
+use Rattle.gl_machine.specs.Remembered.{AreClosed, AreSingle, AreTheKept, IsDropped}
+use Rattle.gl_machine.specs.Remembered as R
+use Rattle.gl_calculus.specs.Grid.Grid.{Addr, same_addr, Range, addresses}
+use Rattle.gl_calculus.specs.Values.Value.{Oracle}
+use Rattle.gl_calculus.specs.Evaluation.Oracle.{status, cover}
+use Rattle.gl_calculus.specs.Evaluation.Key.{Key, Outcome}
+use Rattle.gl_calculus.specs.Calculation.Memory.{Table, Notes, same_status, same_cover, differs_at, differs_in}
 use Rattle.gl_plane.specs.Changes.{is_covered, reaches}
 use Rattle.gl_calc.specs.Kept.{AreRanges, AreKept}
 

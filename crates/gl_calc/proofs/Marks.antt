@@ -1,8 +1,8 @@
 -- The contents of a range, one after another.
 use Rattle.std.proofs.Common.{◌≡◌, inl, inr, ℕ, zero, suc, ◌+◌, ◌≤◌, ◌<◌, Bool, true, false, ◌&&◌, cond, List, [], ◌∷◌, ◌++◌, map, filter, find, take, length, slice_get, Some, None, refl, sym, ap, subst, ◌∙◌, arith}
-use Rattle.gl_query.specs.Lists.{Member}
-use Rattle.gl_calculus.specs.Grid.{Addr, Range, is_before, covers, AreInOrder}
-use Rattle.gl_calculus.specs.Formula.{Cells}
+use Rattle.gl_calculus.specs.Computation.Lists.{Member}
+use Rattle.gl_calculus.specs.Grid.Grid.{Addr, Range, is_before, covers, AreInOrder}
+use Rattle.gl_calculus.specs.Formulas.Formula.{Cells}
 use Rattle.gl_calculus.proofs.Grants.{Before, before_of, of_before, before_trans, not_same}
 use Rattle.gl_cells.specs.Search.{is_in_play}
 use Rattle.gl_demand.proofs.Ordered.{tail, behind}

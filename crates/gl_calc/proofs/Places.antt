@@ -6,12 +6,12 @@ use Rattle.std.specs.List.Sorted.{IsNonDecreasingBy, IsPartitionPoint}
 use Rattle.std.specs.Ordering.{ordering_index}
 use Rattle.std.specs.declared.cmp.Ordering.TheVariants.{Less, Equal, Greater}
 use Rattle.std.specs.declared.alloc.Global.{Global}
-use Rattle.gl_query.specs.Lists.{Member}
-use Rattle.gl_calculus.specs.Grid.{Addr, Range, same_addr, is_before, covers, AreInOrder}
-use Rattle.gl_calculus.specs.Formula.{Content, Const, Form, Cells, IsSheet, formula_addresses}
+use Rattle.gl_calculus.specs.Computation.Lists.{Member}
+use Rattle.gl_calculus.specs.Grid.Grid.{Addr, Range, same_addr, is_before, covers, AreInOrder}
+use Rattle.gl_calculus.specs.Formulas.Formula.{Content, Const, Form, Cells, IsSheet, formula_addresses}
 use Rattle.gl_calculus.proofs.Tests.{addr_exact}
 use Rattle.gl_calculus.proofs.Grants.{Before, before_of, of_before, before_trans}
-use Rattle.gl_protocol.specs.Commands.{with_content, with_contents, without}
+use Rattle.gl_calculus.specs.Edits.Sheets.{with_content, with_contents, without}
 use Rattle.gl_plane.proofs.Search.{other_side}
 use Rattle.gl_plane.specs.contracts.addr.AddrOrd.TheImpl.{ghosts as addr}
 use Rattle.gl_cells.specs.Content.{is_formula}

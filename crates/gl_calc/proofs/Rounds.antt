@@ -1,16 +1,16 @@
 -- The rounds that iteration makes are those of the calculation.
 use Rattle.std.proofs.Common.{◌≡◌, ℕ, suc, List, [], Some, None, Result, Err, refl, sym, subst, ◌∙◌}
-use Rattle.gl_calculus.specs.Grid.{Addr, Range, grid}
-use Rattle.gl_calculus.specs.Value.{Oracle}
-use Rattle.gl_calculus.specs.Oracle.{Sizes, grant}
-use Rattle.gl_calculus.specs.Formula as F
-use Rattle.gl_calculus.specs.Formula.{Cells}
-use Rattle.gl_calculus.specs.Calculation as C
-use Rattle.gl_calculus.specs.Calculation.{has_content, round_budget, IsUnspent, GoesOn, Ends, settled, rounds, work, abort, IsAnswer, Reaches}
-use Rattle.gl_calculus.specs.Key.{Budget}
-use Rattle.gl_calculus.specs.Memory as M
-use Rattle.gl_calculus.specs.Memory.{base, IsTableOf, AreTables}
-use Rattle.gl_calculus.specs.Costs.{Finishes}
+use Rattle.gl_calculus.specs.Grid.Grid.{Addr, Range, grid}
+use Rattle.gl_calculus.specs.Values.Value.{Oracle}
+use Rattle.gl_calculus.specs.Evaluation.Oracle.{Sizes, grant}
+use Rattle.gl_calculus.specs.Formulas.Formula as F
+use Rattle.gl_calculus.specs.Formulas.Formula.{Cells}
+use Rattle.gl_calculus.specs.Calculation.Calculation as C
+use Rattle.gl_calculus.specs.Calculation.Calculation.{has_content, round_budget, IsUnspent, GoesOn, Ends, settled, rounds, work, abort, IsAnswer, Reaches}
+use Rattle.gl_calculus.specs.Evaluation.Key.{Budget}
+use Rattle.gl_calculus.specs.Calculation.Memory as M
+use Rattle.gl_calculus.specs.Calculation.Memory.{base, IsTableOf, AreTables}
+use Rattle.gl_calculus.specs.Steps.Costs.{Finishes}
 use Rattle.gl_ast.specs.View.{version_tree}
 use Rattle.gl_ast.specs.declared.Version.{Version}
 use Rattle.gl_cells.specs.Sheet.{Table, sheet}
@@ -18,7 +18,7 @@ use Rattle.gl_rounds.specs.Rounds as R
 use Rattle.gl_rounds.specs.Answers as A
 use Rattle.gl_rounds.specs.declared.IterFault.{IterFault}
 use Rattle.gl_rounds.specs.declared.IterFault.TheVariants as iter
-use Rattle.gl_calc.specs.Costs.{Breaks, Comes, first, later, Costs}
+use Rattle.gl_calculus.specs.Steps.Rounds.{Breaks, Comes, first, later, Costs}
 use Rattle.gl_calc.specs.Progress.{Progress, next_base, before_of}
 use Rattle.gl_calc.specs.Round.{Gives, Fails, Keeps, Calls}
 use Rattle.gl_calc.specs.Answers.{spent_tree}

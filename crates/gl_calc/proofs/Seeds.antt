@@ -1,10 +1,10 @@
 -- The formulas of a sheet stand first among the known keys.
 use Rattle.std.proofs.Common.{◌≡◌, ℕ, zero, suc, ◌<◌, get_or, List, [], ◌∷◌, map, take, length, slice_get, cond, Bool, true, false, Some, inl, inr, refl, sym, ap, subst, ◌∙◌, arith}
-use Rattle.gl_query.specs.Lists.{Member, AreDistinct}
-use Rattle.gl_query.specs.Machine.{at, keys}
-use Rattle.gl_calculus.specs.Grid.{Addr}
-use Rattle.gl_calculus.specs.Value.{Top}
-use Rattle.gl_calculus.specs.Key.{Key, Cell, same_key}
+use Rattle.gl_calculus.specs.Computation.Lists.{Member, AreDistinct}
+use Rattle.gl_machine.specs.Machine.{at, keys}
+use Rattle.gl_calculus.specs.Grid.Grid.{Addr}
+use Rattle.gl_calculus.specs.Values.Value.{Top}
+use Rattle.gl_calculus.specs.Evaluation.Key.{Key, Cell, same_key}
 use Rattle.gl_calculus.proofs.Tests.{key_equality}
 use Rattle.gl_core.specs.State.{State, first_keys}
 use Rattle.gl_calc.specs.Visits.{StandFirst, status_at}

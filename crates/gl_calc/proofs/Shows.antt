@@ -1,29 +1,29 @@
 -- What an address shows by what is seen of formula cells.
 use Rattle.std.proofs.Common.{◌≡◌, ◌⊎◌, inl, inr, Bool, true, false, if◌then◌else◌, ℕ, [], ◌∷◌, Option, Some, None, refl, sym, ap, subst, ◌∙◌, option_map}
-use Rattle.gl_query.specs.Query.{val, Has}
-use Rattle.gl_calculus.specs.Grid.{Addr}
-use Rattle.gl_calculus.specs.Value.{Oracle, Permit, Blank, Value, Frame, Top}
-use Rattle.gl_calculus.specs.Formula.{Version, Formula, Form, Cells, content}
-use Rattle.gl_calculus.specs.Oracle.{status, Cover, cover}
-use Rattle.gl_calculus.specs.Key as K
-use Rattle.gl_calculus.specs.Key.{Cell, Outcome, same_key}
-use Rattle.gl_calculus.specs.Reference.{shown, spilled}
-use Rattle.gl_calculus.specs.Evaluation.{program}
-use Rattle.gl_calculus.specs.Calculation as C
-use Rattle.gl_calculus.specs.Calculation.{IsShown, TopHas, TopLoops}
+use Rattle.gl_calculus.specs.Computation.Query.{val, Has}
+use Rattle.gl_calculus.specs.Grid.Grid.{Addr}
+use Rattle.gl_calculus.specs.Values.Value.{Oracle, Permit, Blank, Value, Frame, Top}
+use Rattle.gl_calculus.specs.Formulas.Formula.{Version, Formula, Form, Cells, content}
+use Rattle.gl_calculus.specs.Evaluation.Oracle.{status, Cover, cover}
+use Rattle.gl_calculus.specs.Evaluation.Key as K
+use Rattle.gl_calculus.specs.Evaluation.Key.{Cell, Outcome, same_key}
+use Rattle.gl_calculus.specs.Evaluation.Reference.{shown, spilled}
+use Rattle.gl_calculus.specs.Evaluation.Evaluation.{program}
+use Rattle.gl_calculus.specs.Calculation.Calculation as C
+use Rattle.gl_calculus.specs.Calculation.Calculation.{IsShown, TopHas, TopLoops}
 use Rattle.gl_plane.specs.Entries.{offsets}
-use Rattle.gl_query.specs.Lists.{Member}
-use Rattle.gl_query.specs.Machine.{Seed}
-use Rattle.gl_query.specs.Remembered.{Note}
-use Rattle.gl_query.specs.InOrder.{note_keys}
-use Rattle.gl_query.proofs.Remember.{note_has}
-use Rattle.gl_calculus.specs.Grid.{Range}
-use Rattle.gl_calculus.specs.Formula.{formula_addresses}
-use Rattle.gl_calculus.specs.Memory.{Table, Notes, IsTableOf}
-use Rattle.gl_calculus.specs.Calculation.{DemandedIn}
-use Rattle.gl_calculus.proofs.Settles.{formula_listed}
+use Rattle.gl_calculus.specs.Computation.Lists.{Member}
+use Rattle.gl_calculus.specs.Computation.Demanded.{Seed}
+use Rattle.gl_calculus.specs.Computation.Notes.{Note}
+use Rattle.gl_calculus.specs.Computation.Notes.{note_keys}
+use Rattle.laws_calculus.proofs.Query.Remember.{note_has}
+use Rattle.gl_calculus.specs.Grid.Grid.{Range}
+use Rattle.gl_calculus.specs.Formulas.Formula.{formula_addresses}
+use Rattle.gl_calculus.specs.Calculation.Memory.{Table, Notes, IsTableOf}
+use Rattle.gl_calculus.specs.Calculation.Calculation.{DemandedIn}
+use Rattle.laws_calculus.proofs.Calculus.Settles.{formula_listed}
 use Rattle.gl_calculus.proofs.Tests.{key_equality}
-use Rattle.gl_calculus.proofs.Shows.{formula_shows, blank_shows, element_shows}
+use Rattle.laws_calculus.proofs.Calculus.Shows.{formula_shows, blank_shows, element_shows}
 use Rattle.gl_core.specs.Results.{outcome_in}
 use Rattle.gl_calc.proofs.Formulas.{key_member}
 

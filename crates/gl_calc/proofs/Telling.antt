@@ -1,24 +1,24 @@
 -- What the table of a settled calculation tells of formula cells.
 use Rattle.std.proofs.Common.{◌≡◌, ◌⊎◌, inl, inr, ℕ, Bool, true, false, if◌then◌else◌, ◌-◌, List, [], ◌∷◌, Option, Some, None, option_map, refl, sym, subst, ap, ◌∙◌}
 use Rattle.std.specs.List.{AllByRecursion}
-use Rattle.gl_query.specs.Lists.{Member}
-use Rattle.gl_query.specs.Machine.{Seed}
-use Rattle.gl_query.specs.InOrder.{note_keys}
-use Rattle.gl_query.proofs.Levels.{Has-Loops}
-use Rattle.gl_calculus.specs.Grid.{Addr, Size, grid}
-use Rattle.gl_calculus.specs.Value.{Permit, Oracle, Value, Array, Frame, Top}
-use Rattle.gl_calculus.specs.Formula.{Version, Cells, IsSheet, formula_addresses}
-use Rattle.gl_calculus.specs.Oracle.{sizes_of, Cover, cover, spills_over}
-use Rattle.gl_calculus.specs.Key as K
-use Rattle.gl_calculus.specs.Key.{Cell, Outcome, Settled, Abort, same_key}
-use Rattle.gl_calculus.specs.Evaluation.{program}
-use Rattle.gl_calculus.specs.Calculation as C
-use Rattle.gl_calculus.specs.Calculation.{has_content, is_abort, TopHas, TopFails, DemandedIn, IsNext, Ends, settled}
-use Rattle.gl_calculus.specs.Memory.{Table, Notes, IsTableOf}
-use Rattle.gl_calculus.proofs.Fits.{outcomes_fit}
+use Rattle.gl_calculus.specs.Computation.Lists.{Member}
+use Rattle.gl_calculus.specs.Computation.Demanded.{Seed}
+use Rattle.gl_calculus.specs.Computation.Notes.{note_keys}
+use Rattle.laws_calculus.proofs.Query.Levels.{Has-Loops}
+use Rattle.gl_calculus.specs.Grid.Grid.{Addr, Size, grid}
+use Rattle.gl_calculus.specs.Values.Value.{Permit, Oracle, Value, Array, Frame, Top}
+use Rattle.gl_calculus.specs.Formulas.Formula.{Version, Cells, IsSheet, formula_addresses}
+use Rattle.gl_calculus.specs.Evaluation.Oracle.{sizes_of, Cover, cover, spills_over}
+use Rattle.gl_calculus.specs.Evaluation.Key as K
+use Rattle.gl_calculus.specs.Evaluation.Key.{Cell, Outcome, Settled, Abort, same_key}
+use Rattle.gl_calculus.specs.Evaluation.Evaluation.{program}
+use Rattle.gl_calculus.specs.Calculation.Calculation as C
+use Rattle.gl_calculus.specs.Calculation.Calculation.{has_content, is_abort, TopHas, TopFails, DemandedIn, IsNext, Ends, settled}
+use Rattle.gl_calculus.specs.Calculation.Memory.{Table, Notes, IsTableOf}
+use Rattle.laws_calculus.proofs.Calculus.Fits.{outcomes_fit}
 use Rattle.gl_calculus.proofs.Grants.{grant_permits}
-use Rattle.gl_calculus.proofs.Proved.{one_outcome}
-use Rattle.gl_calculus.proofs.Settles.{formula_order, formula_listed, size_of_entry, array_order, array_has}
+use Rattle.laws_calculus.proofs.Calculus.Proved.{one_outcome}
+use Rattle.laws_calculus.proofs.Calculus.Settles.{formula_order, formula_listed, size_of_entry, array_order, array_has}
 use Rattle.gl_calculus.proofs.Tests.{key_equality}
 use Rattle.gl_plane.specs.Entries.{offsets}
 use Rattle.gl_core.specs.Results.{outcome_in}

@@ -1,15 +1,15 @@
 -- What a calculator answers.
 use Rattle.std.specs.Prelude.{◌≡◌, ℕ, List, Option, Some, None, IsTrue}
-use Rattle.gl_calculus.specs.Grid.{Addr}
-use Rattle.gl_calculus.specs.Value.{Oracle}
-use Rattle.gl_calculus.specs.Formula.{Version, Cells}
-use Rattle.gl_calculus.specs.Calculation as C
-use Rattle.gl_calculus.specs.Calculation.{IsAnswer, IsConsistent, IsShown}
-use Rattle.gl_calculus.specs.Memory.{Table}
+use Rattle.gl_calculus.specs.Grid.Grid.{Addr}
+use Rattle.gl_calculus.specs.Values.Value.{Oracle}
+use Rattle.gl_calculus.specs.Formulas.Formula.{Version, Cells}
+use Rattle.gl_calculus.specs.Calculation.Calculation as C
+use Rattle.gl_calculus.specs.Calculation.Calculation.{IsAnswer, IsConsistent, IsShown}
+use Rattle.gl_calculus.specs.Calculation.Memory.{Table}
 use Rattle.gl_value.specs.Made.{shown_tree}
 use Rattle.gl_value.specs.declared.Shown.{Shown}
 use Rattle.gl_calc.specs.Shown.{is_sound_shown}
-use Rattle.gl_calc.specs.Costs.{Costs}
+use Rattle.gl_calculus.specs.Steps.Rounds.{Costs}
 use Rattle.gl_calc.specs.declared.answers.Answer.{Answer}
 use Rattle.gl_calc.specs.declared.answers.Answer.TheVariants.{Settled, Spent}
 use Rattle.gl_calc.specs.declared.answers.SpentKind.{SpentKind}

@@ -1,10 +1,10 @@
 -- How a calculation ends, and the tables that it leaves.
 use Rattle.std.specs.Prelude.{◌≡◌, ℕ, List, Option, Some, None}
-use Rattle.gl_calculus.specs.Grid.{Addr}
-use Rattle.gl_calculus.specs.Formula.{Version, Cells}
-use Rattle.gl_calculus.specs.Calculation as C
-use Rattle.gl_calculus.specs.Calculation.{IsAnswer, IsUnspent}
-use Rattle.gl_calculus.specs.Memory.{Table, IsTableOf, AreTables}
+use Rattle.gl_calculus.specs.Grid.Grid.{Addr}
+use Rattle.gl_calculus.specs.Formulas.Formula.{Version, Cells}
+use Rattle.gl_calculus.specs.Calculation.Calculation as C
+use Rattle.gl_calculus.specs.Calculation.Calculation.{IsAnswer, IsUnspent}
+use Rattle.gl_calculus.specs.Calculation.Memory.{Table, IsTableOf, AreTables}
 use Rattle.gl_rounds.specs.declared.IterFault.{IterFault}
 use Rattle.gl_rounds.specs.declared.IterFault.TheVariants as rounds
 use Rattle.gl_calc.specs.Answers.{Takes}

@@ -1,12 +1,12 @@
 -- The held answer: what is seen of it, and what it keeps of the sheet; and what a calculator keeps.
 use Rattle.std.specs.Prelude.{◌≡◌, ◌≤◌, ℕ, ◌+◌, List, [], length, vec_len, vec_capacity, Vec, ◌⊎◌, Option, Some, None, IsSome, IfSome, option_map}
 use Rattle.std.specs.declared.alloc.Global.{Global}
-use Rattle.gl_calculus.specs.Grid.{Addr, grid}
-use Rattle.gl_calculus.specs.Value.{Oracle}
-use Rattle.gl_calculus.specs.Formula.{Version, Cells, IsSheet}
-use Rattle.gl_calculus.specs.Oracle.{ArePermits}
-use Rattle.gl_calculus.specs.Calculation.{has_content, IsUnspent}
-use Rattle.gl_calculus.specs.Memory.{Table, IsTableOf, AreTables}
+use Rattle.gl_calculus.specs.Grid.Grid.{Addr, grid}
+use Rattle.gl_calculus.specs.Values.Value.{Oracle}
+use Rattle.gl_calculus.specs.Formulas.Formula.{Version, Cells, IsSheet}
+use Rattle.gl_calculus.specs.Evaluation.Oracle.{ArePermits}
+use Rattle.gl_calculus.specs.Calculation.Calculation.{has_content, IsUnspent}
+use Rattle.gl_calculus.specs.Calculation.Memory.{Table, IsTableOf, AreTables}
 use Rattle.gl_ast.specs.View.{version_tree}
 use Rattle.gl_calc.specs.Kept.{AreEarlier}
 use Rattle.gl_calc.specs.Progress.{either, last_of}

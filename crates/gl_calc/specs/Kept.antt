@@ -1,16 +1,16 @@
 -- What a round begins with, and why it is true.
 use Rattle.std.specs.Prelude.{◌≡◌, ◌≤◌, List, [], length, Some}
 use Rattle.std.specs.List.{list_any}
-use Rattle.gl_query.specs.Lists.{Member}
-use Rattle.gl_query.specs.Remembered.{AreTrue, AreClosed, AreSingle, AreTheKept}
-use Rattle.gl_calculus.specs.Grid.{Addr, same_addr, Range}
-use Rattle.gl_calculus.specs.Value.{Oracle}
-use Rattle.gl_calculus.specs.Formula.{Version, Cells, IsSheet, content, formula_addresses}
-use Rattle.gl_calculus.specs.Limits.{max_formulas}
-use Rattle.gl_calculus.specs.Key.{same_key}
-use Rattle.gl_calculus.specs.Evaluation.{program}
-use Rattle.gl_calculus.specs.Differences.{AreApart}
-use Rattle.gl_calculus.specs.Memory.{Table, Notes, IsTableOf, differs_in}
+use Rattle.gl_calculus.specs.Computation.Lists.{Member}
+use Rattle.gl_machine.specs.Remembered.{AreTrue, AreClosed, AreSingle, AreTheKept}
+use Rattle.gl_calculus.specs.Grid.Grid.{Addr, same_addr, Range}
+use Rattle.gl_calculus.specs.Values.Value.{Oracle}
+use Rattle.gl_calculus.specs.Formulas.Formula.{Version, Cells, IsSheet, content, formula_addresses}
+use Rattle.gl_calculus.specs.Grid.Limits.{max_formulas}
+use Rattle.gl_calculus.specs.Evaluation.Key.{same_key}
+use Rattle.gl_calculus.specs.Evaluation.Evaluation.{program}
+use Rattle.gl_calculus.specs.Calculation.Differences.{AreApart}
+use Rattle.gl_calculus.specs.Calculation.Memory.{Table, Notes, IsTableOf, differs_in}
 use Rattle.gl_plane.specs.Changes.{is_covered}
 use Rattle.gl_calc.specs.Progress.{Progress, rest_of, made_with, beyond_with}
 

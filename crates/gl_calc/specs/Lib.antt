@@ -1,7 +1,6 @@
 pub mod Shown
 pub mod Why
 pub mod View
-pub mod Costs
 pub mod Answers
 pub mod Visits
 pub mod Round

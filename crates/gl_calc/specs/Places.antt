@@ -1,8 +1,8 @@
 -- The addresses of the formulas, from one calculation to the next.
 use Rattle.std.specs.Prelude.{◌≡◌, Option, Vec, IfSome}
 use Rattle.std.specs.declared.alloc.Global.{Global}
-use Rattle.gl_calculus.specs.Grid.{Addr}
-use Rattle.gl_calculus.specs.Formula.{Cells, formula_addresses}
+use Rattle.gl_calculus.specs.Grid.Grid.{Addr}
+use Rattle.gl_calculus.specs.Formulas.Formula.{Cells, formula_addresses}
 
 -- the addresses of the formulas, where they are known
 abbrev pub ArePlaces : Cells → Option (Vec Addr Global) → Type 0

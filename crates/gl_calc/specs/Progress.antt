@@ -1,8 +1,8 @@
 -- How far the rounds of a calculation are: the tables from before of those that are to come, those that were made of the first ones, and that of the last one behind these.
 use Rattle.std.specs.Prelude.{Bool, true, false, List, [], ◌∷◌, ◌++◌, length, nat_lt, if◌then◌else◌, Option, Some, None}
-use Rattle.gl_calculus.specs.Limits.{kept_rounds}
-use Rattle.gl_calculus.specs.Grid.{Addr}
-use Rattle.gl_calculus.specs.Memory.{Table, base_by}
+use Rattle.gl_calculus.specs.Grid.Limits.{kept_rounds}
+use Rattle.gl_calculus.specs.Grid.Grid.{Addr}
+use Rattle.gl_calculus.specs.Calculation.Memory.{Table, base_by}
 
 pub record Progress : Type 0 where
   pub earlier : List Table

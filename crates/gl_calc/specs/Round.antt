@@ -1,14 +1,14 @@
 -- One round over the sheet: what it gives, why it may fail, and what one call of it does.
 use Rattle.std.specs.Prelude.{◌≡◌, ℕ, List, Result, Ok, Err}
-use Rattle.gl_calculus.specs.Grid.{Addr}
-use Rattle.gl_calculus.specs.Value.{Oracle}
-use Rattle.gl_calculus.specs.Oracle.{Sizes}
-use Rattle.gl_calculus.specs.Formula.{Version, Cells, formula_addresses}
-use Rattle.gl_calculus.specs.Key.{Budget}
-use Rattle.gl_calculus.specs.Calculation.{Arrays, FirstAbort, SpendsWork, IsUnspent}
-use Rattle.gl_calculus.specs.Memory.{Table, IsTableOf}
-use Rattle.gl_calculus.specs.Costs.{Finishes}
-use Rattle.gl_calc.specs.Costs.{Breaks}
+use Rattle.gl_calculus.specs.Grid.Grid.{Addr}
+use Rattle.gl_calculus.specs.Values.Value.{Oracle}
+use Rattle.gl_calculus.specs.Evaluation.Oracle.{Sizes}
+use Rattle.gl_calculus.specs.Formulas.Formula.{Version, Cells, formula_addresses}
+use Rattle.gl_calculus.specs.Evaluation.Key.{Budget}
+use Rattle.gl_calculus.specs.Calculation.Calculation.{Arrays, FirstAbort, SpendsWork, IsUnspent}
+use Rattle.gl_calculus.specs.Calculation.Memory.{Table, IsTableOf}
+use Rattle.gl_calculus.specs.Steps.Costs.{Finishes}
+use Rattle.gl_calculus.specs.Steps.Rounds.{Breaks}
 use Rattle.gl_calc.specs.Progress.{Progress, rest_of, next_base, made_with, beyond_with}
 use Rattle.gl_calc.specs.declared.ending.RoundFault.{RoundFault}
 use Rattle.gl_calc.specs.declared.ending.RoundFault.TheVariants as fault

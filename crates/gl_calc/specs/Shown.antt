@@ -1,16 +1,16 @@
 -- What is seen of a round, what its table tells of formula cells, and what an address shows.
 use Rattle.std.specs.Prelude.{◌≡◌, Bool, true, map, Some}
-use Rattle.gl_query.specs.Laws.{IsQuiet}
-use Rattle.gl_calculus.specs.Grid.{Addr}
-use Rattle.gl_calculus.specs.Value.{Oracle, Top}
-use Rattle.gl_calculus.specs.Value as V
-use Rattle.gl_calculus.specs.Formula.{Version, Formula, Form, Cells, content, formula_addresses}
-use Rattle.gl_calculus.specs.Oracle.{Cover, cover}
-use Rattle.gl_calculus.specs.Key.{Cell, Outcome, same_key}
-use Rattle.gl_calculus.specs.Evaluation.{program}
-use Rattle.gl_calculus.specs.Calculation.{Shown, Cycle, Value}
-use Rattle.gl_calculus.specs.Memory.{Table}
-use Rattle.gl_calculus.specs.Sound.{is_sound_scalar}
+use Rattle.gl_machine.specs.Quiet.{IsQuiet}
+use Rattle.gl_calculus.specs.Grid.Grid.{Addr}
+use Rattle.gl_calculus.specs.Values.Value.{Oracle, Top}
+use Rattle.gl_calculus.specs.Values.Value as V
+use Rattle.gl_calculus.specs.Formulas.Formula.{Version, Formula, Form, Cells, content, formula_addresses}
+use Rattle.gl_calculus.specs.Evaluation.Oracle.{Cover, cover}
+use Rattle.gl_calculus.specs.Evaluation.Key.{Cell, Outcome, same_key}
+use Rattle.gl_calculus.specs.Evaluation.Evaluation.{program}
+use Rattle.gl_calculus.specs.Calculation.Calculation.{Shown, Cycle, Value}
+use Rattle.gl_calculus.specs.Calculation.Memory.{Table}
+use Rattle.gl_calculus.specs.Evaluation.Sound.{is_sound_scalar}
 use Rattle.gl_core.specs.Results.{outcome_in}
 use Rattle.gl_core.specs.State.{State}
 

@@ -1,13 +1,13 @@
 -- An oracle gives sizes at most once.
 use Rattle.std.proofs.Common.{◌≡◌, inl, inr, List, [], ◌∷◌, true, refl, ap, subst, ◌∙◌}
-use Rattle.gl_query.proofs.Levels.{Has-one, Has-Loops}
-use Rattle.gl_calculus.specs.Grid.{Addr, Size}
-use Rattle.gl_calculus.specs.Value.{Oracle, Scalars, Array, Top}
-use Rattle.gl_calculus.specs.Formula.{Version, Cells}
-use Rattle.gl_calculus.specs.Oracle.{Sizes}
-use Rattle.gl_calculus.specs.Key.{Cell, Outcome}
-use Rattle.gl_calculus.specs.Evaluation.{program}
-use Rattle.gl_calculus.specs.Calculation.{is_array, TopHas, TopFails, Arrays, none, array, other}
+use Rattle.laws_calculus.proofs.Query.Levels.{Has-one, Has-Loops}
+use Rattle.gl_calculus.specs.Grid.Grid.{Addr, Size}
+use Rattle.gl_calculus.specs.Values.Value.{Oracle, Scalars, Array, Top}
+use Rattle.gl_calculus.specs.Formulas.Formula.{Version, Cells}
+use Rattle.gl_calculus.specs.Evaluation.Oracle.{Sizes}
+use Rattle.gl_calculus.specs.Evaluation.Key.{Cell, Outcome}
+use Rattle.gl_calculus.specs.Evaluation.Evaluation.{program}
+use Rattle.gl_calculus.specs.Calculation.Calculation.{is_array, TopHas, TopFails, Arrays, none, array, other}
 use Rattle.gl_calculus.proofs.Grants.{clash}
 
 module _ (version : Version) (S : Cells) (w : Oracle) where

@@ -1,10 +1,10 @@
 -- A core at the start of a round, and at its end.
 use Rattle.std.specs.Prelude.{◌≡◌, [], map}
-use Rattle.gl_query.specs.InOrder.{AreOrdered}
-use Rattle.gl_calculus.specs.Value.{Oracle, Top}
-use Rattle.gl_calculus.specs.Formula.{Version, Cells, formula_addresses}
-use Rattle.gl_calculus.specs.Key.{Cell}
-use Rattle.gl_calculus.specs.Calculation.{SpendsWork}
+use Rattle.gl_machine.specs.InOrder.{AreOrdered}
+use Rattle.gl_calculus.specs.Values.Value.{Oracle, Top}
+use Rattle.gl_calculus.specs.Formulas.Formula.{Version, Cells, formula_addresses}
+use Rattle.gl_calculus.specs.Evaluation.Key.{Cell}
+use Rattle.gl_calculus.specs.Calculation.Calculation.{SpendsWork}
 use Rattle.gl_core.specs.Held.{Held}
 use Rattle.gl_core.specs.State.{state_of, seeds_of, notes_in, IsFor}
 use Rattle.gl_calc.specs.Shown.{IsRound}

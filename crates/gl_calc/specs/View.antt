@@ -1,10 +1,10 @@
 -- What a calculator holds and remembers.
 use Rattle.std.specs.Prelude.{List, Option}
-use Rattle.gl_calculus.specs.Grid.{Addr}
-use Rattle.gl_calculus.specs.Value.{Oracle}
-use Rattle.gl_calculus.specs.Formula.{Version, Cells}
-use Rattle.gl_calculus.specs.Memory.{Memory}
-use Rattle.gl_calculus.specs.Memory as M
+use Rattle.gl_calculus.specs.Grid.Grid.{Addr}
+use Rattle.gl_calculus.specs.Values.Value.{Oracle}
+use Rattle.gl_calculus.specs.Formulas.Formula.{Version, Cells}
+use Rattle.gl_calculus.specs.Calculation.Memory.{Memory}
+use Rattle.gl_calculus.specs.Calculation.Memory as M
 use Rattle.gl_cells.specs.Sheet.{Table, sheet}
 
 -- the contents by address, and the version and the oracle of the held answer; the tables of the first rounds of the latest calculation with its version, and the addresses that were touched since

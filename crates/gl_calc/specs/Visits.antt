@@ -1,14 +1,14 @@
 -- What a visit of a formula cell adds to the sizes of a round, by the cell's status in the quiet core.
 use Rattle.std.specs.Prelude.{◌≡◌, ℕ, List, [], ◌∷◌, ◌++◌, slice_get, option_map, Option, Some, None, Result, Ok, Err}
 use Rattle.std.specs.List.{AllByRecursion}
-use Rattle.gl_query.specs.Machine.{Status, Resolved}
-use Rattle.gl_calculus.specs.Grid.{Addr}
-use Rattle.gl_calculus.specs.Value as V
-use Rattle.gl_calculus.specs.Oracle.{Sizes}
-use Rattle.gl_calculus.specs.Formula.{Version, Cells}
-use Rattle.gl_calculus.specs.Key.{Key, Cell, Budget, Outcome, Abort}
+use Rattle.gl_machine.specs.Machine.{Status, Resolved}
+use Rattle.gl_calculus.specs.Grid.Grid.{Addr}
+use Rattle.gl_calculus.specs.Values.Value as V
+use Rattle.gl_calculus.specs.Evaluation.Oracle.{Sizes}
+use Rattle.gl_calculus.specs.Formulas.Formula.{Version, Cells}
+use Rattle.gl_calculus.specs.Evaluation.Key.{Key, Cell, Budget, Outcome, Abort}
 use Rattle.gl_core.specs.State.{State}
-use Rattle.gl_calculus.specs.Calculation.{Arrays, FirstAbort, TopFails, is_abort}
+use Rattle.gl_calculus.specs.Calculation.Calculation.{Arrays, FirstAbort, TopFails, is_abort}
 use Rattle.gl_calc.specs.declared.ending.RoundFault.{RoundFault}
 use Rattle.gl_calc.specs.declared.ending.RoundFault.TheVariants as fault
 

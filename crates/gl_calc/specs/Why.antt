@@ -1,5 +1,5 @@
 -- Why a root has its permit, in the words of the calculus.
-use Rattle.gl_calculus.specs.Calculation as C
+use Rattle.gl_calculus.specs.Calculation.Calculation as C
 use Rattle.gl_grant.specs.Obstacle.{obstacle_tree}
 use Rattle.gl_calc.specs.declared.answers.Why.{Why}
 use Rattle.gl_calc.specs.declared.answers.Why.TheVariants.{NoEntry, Permitted, Blocked}

@@ -1,9 +1,9 @@
 //! The rounds of the whole sheet, to their end.
 ghost use Rattle.std.specs.Prelude.{◌≡◌, IfOk};
-ghost use Rattle.gl_calculus.specs.Formula.{IsSheet, formula_addresses};
+ghost use Rattle.gl_calculus.specs.Formulas.Formula.{IsSheet, formula_addresses};
 ghost use Rattle.gl_ast.specs.View.{version_tree};
 ghost use Rattle.gl_cells.specs.Sheet.{sheet};
-ghost use Rattle.gl_order.specs.Rule.{PicksBelow};
+ghost use Rattle.gl_calculus.specs.Steps.Rule.{PicksBelow};
 ghost use Rattle.gl_calc.specs.{Kept.AreEarlier, Ending.EndsWith, Engine.rule_in};
 
 use crate::ending::{Ended, spent_by};

@@ -1,12 +1,14 @@
 //! The sizes of the arrays of a round.
 ghost use Rattle.std.specs.Prelude.{◌++◌, ◌∷◌, [], Some};
-ghost use Rattle.gl_query.specs.{Lists.Member, Lists.AreDistinct, Machine.keys};
-ghost use Rattle.gl_query.specs.Machine as Machine;
-ghost use Rattle.gl_calculus.specs.Grid.{Addr as PlainAddr, Size as PlainSize, AreInOrder};
-ghost use Rattle.gl_calculus.specs.{Formula.Version as PlainVersion, Formula.Cells as Sheet};
-ghost use Rattle.gl_calculus.specs.{Oracle.AreSizes, Calculation.DemandedIn};
-ghost use Rattle.gl_calculus.specs.Value as V;
-ghost use Rattle.gl_calculus.specs.Key as K;
+ghost use Rattle.gl_calculus.specs.Computation.Lists.{Member, AreDistinct};
+ghost use Rattle.gl_machine.specs.Machine.{keys};
+ghost use Rattle.gl_machine.specs.Machine as Machine;
+ghost use Rattle.gl_calculus.specs.Grid.Grid.{Addr as PlainAddr, Size as PlainSize, AreInOrder};
+ghost use Rattle.gl_calculus.specs.Formulas.Formula.{Version as PlainVersion, Cells as Sheet};
+ghost use Rattle.gl_calculus.specs.Evaluation.Oracle.{AreSizes};
+ghost use Rattle.gl_calculus.specs.Calculation.Calculation.{DemandedIn};
+ghost use Rattle.gl_calculus.specs.Values.Value as V;
+ghost use Rattle.gl_calculus.specs.Evaluation.Key as K;
 ghost use Rattle.gl_value.specs.View.{value_tree};
 ghost use Rattle.gl_demand.specs.View.{outcome_tree};
 ghost use Rattle.gl_core.specs.State.{state_of};

@@ -1,7 +1,7 @@
 //! What a calculator holds and remembers from one calculation to the next.
 ghost use Rattle.std.specs.Prelude.{◌≡◌, [], None, IsSome, true, if◌then◌else◌};
 ghost use Rattle.std.specs.Prelude.{option_copied};
-ghost use Rattle.gl_calculus.specs.Memory as M;
+ghost use Rattle.gl_calculus.specs.Calculation.Memory as M;
 ghost use Rattle.gl_ast.specs.View.{version_tree};
 ghost use Rattle.gl_calc.specs.Held.{table_of, Parts, held_by};
 

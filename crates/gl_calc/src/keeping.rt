@@ -1,7 +1,8 @@
 //! What of a table holds for a round.
 ghost use Rattle.std.specs.Prelude.{◌≡◌, ◌||◌, [], List, IfOk};
-ghost use Rattle.gl_calculus.specs.{Grid.Addr as PlainAddr, Differences.AreApart};
-ghost use Rattle.gl_calculus.specs.{Memory.differs_at};
+ghost use Rattle.gl_calculus.specs.Grid.Grid.{Addr as PlainAddr};
+ghost use Rattle.gl_calculus.specs.Calculation.Differences.{AreApart};
+ghost use Rattle.gl_calculus.specs.Calculation.Memory.{differs_at};
 ghost use Rattle.gl_plane.specs.Changes.{is_covered};
 ghost use Rattle.gl_calc.specs.Kept.{AreRanges, AreKept, IsTaken};
 ghost use Rattle.gl_calc.specs.Progress.{next_base, since};

@@ -1,7 +1,7 @@
 //! Marks of the addresses that were touched.
 ghost use Rattle.std.specs.Prelude.{◌≡◌, ◌≤◌, ◌+◌, ◌++◌, length, map, vec_len, vec_capacity, IfOk};
-ghost use Rattle.gl_calculus.specs.Formula.{IsSheet};
-ghost use Rattle.gl_protocol.specs.Commands.{places_in};
+ghost use Rattle.gl_calculus.specs.Formulas.Formula.{IsSheet};
+ghost use Rattle.gl_calculus.specs.Edits.Sheets.{places_in};
 ghost use Rattle.gl_cells.specs.Sheet.{sheet};
 
 use gl_cells::{Cells, Content};

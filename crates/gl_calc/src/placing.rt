@@ -2,10 +2,10 @@
 ghost use Rattle.std.specs.Prelude.{◌≡◌, ◌<◌, ◌≤◌, not, length, filter, IfOk, IfSome};
 ghost use Rattle.std.specs.Prelude.{if◌then◌else◌};
 ghost use Rattle.std.specs.List.{insert, remove};
-ghost use Rattle.gl_calculus.specs.Grid.{covers};
-ghost use Rattle.gl_calculus.specs.Formula.{Cells as Sheet, Content as Plain};
-ghost use Rattle.gl_calculus.specs.Formula.{IsSheet, formula_addresses};
-ghost use Rattle.gl_protocol.specs.Commands.{with_content, with_contents, without};
+ghost use Rattle.gl_calculus.specs.Grid.Grid.{covers};
+ghost use Rattle.gl_calculus.specs.Formulas.Formula.{Cells as Sheet, Content as Plain};
+ghost use Rattle.gl_calculus.specs.Formulas.Formula.{IsSheet, formula_addresses};
+ghost use Rattle.gl_calculus.specs.Edits.Sheets.{with_content, with_contents, without};
 ghost use Rattle.gl_cells.specs.{Content.is_formula, Sheet.sheet};
 ghost use Rattle.gl_calc.specs.Places.{ArePlaces};
 

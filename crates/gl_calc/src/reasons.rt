@@ -1,7 +1,8 @@
 //! Why roots have their permits.
 ghost use Rattle.std.specs.Prelude.{◌≡◌};
-ghost use Rattle.gl_calculus.specs.{Calculation.has_content, Calculation.why, Grid.grid};
-ghost use Rattle.gl_calculus.specs.{Oracle.ArePermits};
+ghost use Rattle.gl_calculus.specs.Calculation.Calculation.{has_content, why};
+ghost use Rattle.gl_calculus.specs.Grid.Grid.{grid};
+ghost use Rattle.gl_calculus.specs.Evaluation.Oracle.{ArePermits};
 ghost use Rattle.gl_cells.specs.Sheet.{sheet};
 ghost use Rattle.gl_calc.specs.Why.{why_tree};
 

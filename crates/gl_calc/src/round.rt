@@ -1,9 +1,10 @@
 //! One round over the whole sheet.
 ghost use Rattle.std.specs.Prelude.{◌≡◌, [], IfOk, IfErr, Err, ◌⊎◌};
-ghost use Rattle.gl_query.specs.InOrder.{AreOrdered};
-ghost use Rattle.gl_calculus.specs.Formula.{Version as PlainVersion, Cells as Sheet};
-ghost use Rattle.gl_calculus.specs.Formula.{formula_addresses};
-ghost use Rattle.gl_calculus.specs.{Value.Oracle as Permits, Grid.AreInOrder};
+ghost use Rattle.gl_machine.specs.InOrder.{AreOrdered};
+ghost use Rattle.gl_calculus.specs.Formulas.Formula.{Version as PlainVersion, Cells as Sheet};
+ghost use Rattle.gl_calculus.specs.Formulas.Formula.{formula_addresses};
+ghost use Rattle.gl_calculus.specs.Values.Value.{Oracle as Permits};
+ghost use Rattle.gl_calculus.specs.Grid.Grid.{AreInOrder};
 ghost use Rattle.gl_core.specs.State.{notes_in, IsFor};
 ghost use Rattle.gl_calc.specs.{Kept.IsKeptBy, Starting.IsEvaluated, Round.Gives, Round.Fails};
 ghost use Rattle.gl_calc.specs.{Engine.rule_in};
@@ -93,8 +94,9 @@ impl<F: Fn(u8, u64, u64) -> u64, L: Watch> Round for TopRound<'_, F, L> {
     ghost use Rattle.std.specs.Prelude.{◌≡◌};
     ghost use Rattle.gl_ast.specs.View.{version_tree};
     ghost use Rattle.gl_cells.specs.Sheet.{sheet};
-    ghost use Rattle.gl_calculus.specs.{Formula.formula_addresses, Differences.AreApart};
-    ghost use Rattle.gl_order.specs.Rule.{PicksBelow};
+    ghost use Rattle.gl_calculus.specs.Formulas.Formula.{formula_addresses};
+    ghost use Rattle.gl_calculus.specs.Calculation.Differences.{AreApart};
+    ghost use Rattle.gl_calculus.specs.Steps.Rule.{PicksBelow};
     ghost use Rattle.gl_calc.specs.Round.{Gives, Fails, Calls};
     ghost use Rattle.gl_calc.specs.{Kept.IsSet, Single.one_arrays};
 

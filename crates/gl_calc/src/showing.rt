@@ -1,13 +1,16 @@
 //! What an address of the top sheet shows after a round.
 ghost use Rattle.std.specs.Prelude.{◌≡◌, Some, None, IsTrue, IfOk, option_map};
-ghost use Rattle.gl_language.specs.Content.{IsProperContent};
-ghost use Rattle.gl_calculus.specs.Calculation.{IsShown, IsUnspent, TopHas};
-ghost use Rattle.gl_calculus.specs.Formula.{Version, Formula, Form, Cells as Sheet, content};
-ghost use Rattle.gl_calculus.specs.{Oracle.Cover, Oracle.cover, Reference.shown, Reference.spilled};
-ghost use Rattle.gl_calculus.specs.{Sound.is_sound_outcome, Memory.IsTableOf};
-ghost use Rattle.gl_calculus.specs.Calculation as C;
-ghost use Rattle.gl_calculus.specs.Key as K;
-ghost use Rattle.gl_calculus.specs.Value as V;
+ghost use Rattle.gl_language.specs.Reading.Content.{IsProperContent};
+ghost use Rattle.gl_calculus.specs.Calculation.Calculation.{IsShown, IsUnspent, TopHas};
+ghost use Rattle.gl_calculus.specs.Formulas.Formula.{Version, Formula, Form, Cells as Sheet};
+ghost use Rattle.gl_calculus.specs.Formulas.Formula.{content};
+ghost use Rattle.gl_calculus.specs.Evaluation.Oracle.{Cover, cover};
+ghost use Rattle.gl_calculus.specs.Evaluation.Reference.{shown, spilled};
+ghost use Rattle.gl_calculus.specs.Evaluation.Sound.{is_sound_outcome};
+ghost use Rattle.gl_calculus.specs.Calculation.Memory.{IsTableOf};
+ghost use Rattle.gl_calculus.specs.Calculation.Calculation as C;
+ghost use Rattle.gl_calculus.specs.Evaluation.Key as K;
+ghost use Rattle.gl_calculus.specs.Values.Value as V;
 ghost use Rattle.gl_cells.specs.{Content.content_tree, Sheet.sheet};
 ghost use Rattle.gl_plane.specs.Permit.{permit_tree};
 ghost use Rattle.gl_value.specs.{Made.shown_tree, View.scalar_tree};

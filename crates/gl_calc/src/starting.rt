@@ -1,13 +1,15 @@
 //! The evaluation of all that the formulas demand.
 ghost use Rattle.std.specs.Prelude.{◌≡◌, ◌≤◌, ℕ, List, IfOk, IfErr, length};
-ghost use Rattle.gl_query.specs.{Remembered.AreTrue};
-ghost use Rattle.gl_calculus.specs.{Grid.Addr as PlainAddr, Key.same_key};
-ghost use Rattle.gl_calculus.specs.{Memory.Table as Plain, Costs.Finishes};
-ghost use Rattle.gl_calculus.specs.{Formula.IsSheet, Formula.formula_addresses};
-ghost use Rattle.gl_calculus.specs.{Limits.max_formulas};
+ghost use Rattle.gl_machine.specs.Remembered.{AreTrue};
+ghost use Rattle.gl_calculus.specs.Grid.Grid.{Addr as PlainAddr};
+ghost use Rattle.gl_calculus.specs.Evaluation.Key.{same_key};
+ghost use Rattle.gl_calculus.specs.Calculation.Memory.{Table as Plain};
+ghost use Rattle.gl_calculus.specs.Steps.Costs.{Finishes};
+ghost use Rattle.gl_calculus.specs.Formulas.Formula.{IsSheet, formula_addresses};
+ghost use Rattle.gl_calculus.specs.Grid.Limits.{max_formulas};
 ghost use Rattle.gl_ast.specs.View.{version_tree};
 ghost use Rattle.gl_cells.specs.Sheet.{sheet};
-ghost use Rattle.gl_order.specs.Rule.{PicksBelow};
+ghost use Rattle.gl_calculus.specs.Steps.Rule.{PicksBelow};
 ghost use Rattle.gl_core.specs.State.{notes_in};
 ghost use Rattle.gl_calc.specs.{Kept.AreKept, Round.Stops, Starting.IsStarted, Engine.rule_in};
 ghost use Rattle.gl_calc.specs.{Starting.IsEvaluated};

@@ -1,6 +1,6 @@
 //! What is kept of a round.
 ghost use Rattle.std.specs.Prelude.{◌≡◌, IfOk};
-ghost use Rattle.gl_calculus.specs.Memory.{no_table};
+ghost use Rattle.gl_calculus.specs.Calculation.Memory.{no_table};
 
 use gl_core::Results;
 use gl_plane::{NoMemory, Oracle};
@@ -17,7 +17,8 @@ pub struct Table {
 impl Model for Table {
     ghost use Rattle.std.specs.Prelude.{refl};
     ghost use Rattle.std.specs.Coded.{codes};
-    ghost use Rattle.gl_calculus.specs.{Codes.coded_table, Memory.Table as Plain};
+    ghost use Rattle.gl_machine.specs.Codes.{coded_table};
+    ghost use Rattle.gl_calculus.specs.Calculation.Memory.{Table as Plain};
 
     ghost Value = { Plain };
 

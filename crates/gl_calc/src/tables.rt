@@ -1,6 +1,6 @@
 //! The tables of the rounds of a calculation: those from before, and those that it makes.
 ghost use Rattle.std.specs.Prelude.{◌≡◌, [], None, List, IfOk};
-ghost use Rattle.gl_calculus.specs.Grid.{Addr as PlainAddr};
+ghost use Rattle.gl_calculus.specs.Grid.Grid.{Addr as PlainAddr};
 ghost use Rattle.gl_calc.specs.Progress.{next_base, since, made_with, beyond_with};
 ghost use Rattle.gl_calc.specs.Kept.{IsTaken};
 
@@ -32,7 +32,8 @@ pub struct Base {
 impl Model for Tables {
     ghost use Rattle.std.specs.Prelude.{◌≤◌, vec_capacity};
     ghost use Rattle.std.specs.{Coded.codes, Vec.Iter.into_iter_items};
-    ghost use Rattle.gl_calculus.specs.{Codes.coded_table, Limits.kept_rounds};
+    ghost use Rattle.gl_machine.specs.Codes.{coded_table};
+    ghost use Rattle.gl_calculus.specs.Grid.Limits.{kept_rounds};
     ghost use Rattle.gl_calc.specs.Progress.{Progress};
 
     ghost Value = { Progress };

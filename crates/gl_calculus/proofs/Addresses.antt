@@ -3,8 +3,8 @@ use Rattle.std.proofs.Common.{◌≡◌, ◌⊎◌, inl, inr, ℕ, ◌≤◌, �
 use Rattle.std.specs.Prelude.{nat_le}
 use Rattle.std.specs.List.{list_any, list_all}
 use Rattle.std.proofs.lemmas.Bool.{cases_order, leb-true}
-use Rattle.gl_calculus.specs.Grid.{Addr, addr, Range, addresses, covers, meets}
-use Rattle.gl_calculus.specs.Laws.{MeetsAtAddresses}
+use Rattle.gl_calculus.specs.Grid.Grid.{Addr, addr, Range, addresses, covers, meets}
+use Rattle.gl_calculus.specs.Calculation.Telling.{MeetsAtAddresses}
 use Rattle.gl_calculus.proofs.Tests.{both}
 use Rattle.gl_calculus.proofs.Grants.{all_covered, not_all, not_false, split}
 use Rattle.gl_calculus.proofs.Tells.{same_bools, within, covered, meeting}

@@ -3,17 +3,17 @@ use Rattle.std.proofs.Common.{◌≡◌, ◌⊎◌, inl, inr, ◌+◌, ◌-◌, 
 use Rattle.std.specs.Prelude.{nat_lt, nat_le, flat_map}
 use Rattle.std.specs.List.{list_any}
 use Rattle.std.proofs.lemmas.Bool.{cases_order, eq-eqb, leb-true, le-leb, lt-ltb}
-use Rattle.gl_query.specs.Lists.{Member}
-use Rattle.gl_query.proofs.Members.{either, left, right}
-use Rattle.gl_calculus.specs.Grid.{Addr, addr, same_addr, AreInOrder, Range, range, single, area, covers, meets, Size}
-use Rattle.gl_calculus.specs.Value.{Permit, Entry, Oracle}
-use Rattle.gl_calculus.specs.Same.{is_permitted, same_permit}
-use Rattle.gl_calculus.specs.Oracle.{IsInOrder, entry_at, permit_of, status, Cover, cover, spills_over, area_of}
-use Rattle.gl_calculus.specs.Memory.{same_status, same_cover, differs_at}
+use Rattle.gl_calculus.specs.Computation.Lists.{Member}
+use Rattle.gl_calculus.proofs.Members.{either, left, right}
+use Rattle.gl_calculus.specs.Grid.Grid.{Addr, addr, same_addr, AreInOrder, Range, range, single, area, covers, meets, Size}
+use Rattle.gl_calculus.specs.Values.Value.{Permit, Entry, Oracle}
+use Rattle.gl_calculus.specs.Values.Same.{is_permitted, same_permit}
+use Rattle.gl_calculus.specs.Evaluation.Oracle.{IsInOrder, entry_at, permit_of, status, Cover, cover, spills_over, area_of}
+use Rattle.gl_calculus.specs.Calculation.Memory.{same_status, same_cover, differs_at}
 use Rattle.gl_calculus.proofs.Tests.{both, and_true, addr_exact, addr_same, bool_same, status_exact, cover_exact}
 use Rattle.gl_calculus.proofs.Grants.{Before, before_of, before_trans, not_same, clash}
-use Rattle.gl_calculus.specs.Differences.{spills, AreApart, minus, areas_apart, own_places, by_both, by_entry, by_new, differences}
-use Rattle.gl_calculus.specs.Laws.{DifferencesTell}
+use Rattle.gl_calculus.specs.Calculation.Differences.{spills, AreApart, minus, areas_apart, own_places, by_both, by_entry, by_new, differences}
+use Rattle.gl_calculus.specs.Calculation.Telling.{DifferencesTell}
 
 -- ---- tests
 

@@ -6,7 +6,7 @@ use Rattle.std.proofs.lemmas.Map.Keys.{sorted_head, sorted_tail}
 use Rattle.std.specs.List.{AllByRecursion}
 use Rattle.std.specs.List.Sorted.{IsStrictlySortedBy}
 use Rattle.std.specs.Map.{keys_of, lookup, remove_entry}
-use Rattle.gl_calculus.specs.Grid.{Addr, Range, covers, is_before}
+use Rattle.gl_calculus.specs.Grid.Grid.{Addr, Range, covers, is_before}
 use Rattle.gl_cells.specs.declared.content.Content.{Content}
 use Rattle.gl_cells.specs.Search.{Covers, AtOrAfter, Before, InPlay, is_in_play}
 use Rattle.gl_cells.specs.Sheet.{Table, sheet, addr_cmp}

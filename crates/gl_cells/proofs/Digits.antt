@@ -4,8 +4,8 @@ use Rattle.std.specs.List.{list_all}
 use Rattle.std.proofs.lemmas.Bool.Decides.{nat_tests}
 use Rattle.std.proofs.lemmas.List.{drop_more}
 use Rattle.std.proofs.Math.Seq.{drop-length}
-use Rattle.gl_language.specs.Text.{Bytes}
-use Rattle.gl_language.specs.Token.{is_digit, digits_value}
+use Rattle.gl_language.specs.Texts.Text.{Bytes}
+use Rattle.gl_language.specs.Reading.Token.{is_digit, digits_value}
 use Rattle.gl_cells.specs.Plain.{digits_number}
 
 abbrev pub more : ℕ → ℕ → ℕ

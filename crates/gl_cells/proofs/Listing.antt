@@ -13,8 +13,8 @@ use Rattle.std.specs.Ordering.{match_ordering, is_eq}
 use Rattle.std.specs.Set.{remove_key}
 use Rattle.std.specs.declared.cmp.Ordering.{Ordering}
 use Rattle.std.specs.declared.cmp.Ordering.TheVariants.{Less, Equal, Greater}
-use Rattle.gl_calculus.specs.Formula.{formula_addresses}
-use Rattle.gl_calculus.specs.Grid.{Addr, same_addr}
+use Rattle.gl_calculus.specs.Formulas.Formula.{formula_addresses}
+use Rattle.gl_calculus.specs.Grid.Grid.{Addr, same_addr}
 use Rattle.gl_cells.specs.declared.content.Content.{Content}
 use Rattle.gl_cells.specs.declared.content.Content.TheVariants.{Const, Form}
 use Rattle.gl_cells.specs.Content.{content_tree, is_formula}

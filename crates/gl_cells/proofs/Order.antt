@@ -2,7 +2,7 @@
 use Rattle.std.proofs.Common.{IfSome, IfNone, MatchOption, Option, None, Some, ◌+◌, ◌-◌, ◌*◌, ℕ, arith}
 use Rattle.std.proofs.lemmas.Grind.{common_steps}
 use Rattle.std.specs.BTreeMap.Range.{IsLeBy}
-use Rattle.gl_calculus.specs.Grid.{Addr}
+use Rattle.gl_calculus.specs.Grid.Grid.{Addr}
 use Rattle.gl_cells.specs.Search.{After, AtOrAfter, Before, Covers, InPlay}
 use Rattle.gl_cells.specs.Sheet.{addr_cmp}
 

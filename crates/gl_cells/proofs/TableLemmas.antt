@@ -15,13 +15,13 @@ use Rattle.std.specs.Map.{keys_of, values_of, lookup, remove_entry}
 use Rattle.std.specs.Ordering.{nat_cmp, match_ordering}
 use Rattle.std.specs.declared.cmp.Ordering.{Ordering}
 use Rattle.std.specs.declared.cmp.Ordering.TheVariants.{Less, Equal, Greater}
-use Rattle.gl_calculus.specs.Grid.{Addr, same_addr, is_before, Range, covers}
-use Rattle.gl_calculus.specs.Formula as F
-use Rattle.gl_calculus.specs.Formula.{IsSheet, content, formula_addresses}
-use Rattle.gl_calculus.specs.Limits.{max_formulas, max_contents}
-use Rattle.gl_language.specs.Content.{IsProperContent}
+use Rattle.gl_calculus.specs.Grid.Grid.{Addr, same_addr, is_before, Range, covers}
+use Rattle.gl_calculus.specs.Formulas.Formula as F
+use Rattle.gl_calculus.specs.Formulas.Formula.{IsSheet, content, formula_addresses}
+use Rattle.gl_calculus.specs.Grid.Limits.{max_formulas, max_contents}
+use Rattle.gl_language.specs.Reading.Content.{IsProperContent}
 use Rattle.gl_plane.specs.Parts.{IsAddr}
-use Rattle.gl_protocol.specs.Commands.{with_content, with_contents, without}
+use Rattle.gl_calculus.specs.Edits.Sheets.{with_content, with_contents, without}
 use Rattle.gl_cells.specs.declared.content.Content.{Content}
 use Rattle.gl_cells.specs.declared.content.Content.TheVariants.{Const, Form}
 use Rattle.gl_cells.specs.declared.fault.PutFault.{PutFault}

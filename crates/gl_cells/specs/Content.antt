@@ -1,7 +1,7 @@
 -- The content of the calculus that a content of the code stands for.
 use Rattle.std.specs.Prelude.{ℕ, Bool, true, false, if◌then◌else◌}
 use Rattle.std.specs.Rc.{rc_value}
-use Rattle.gl_calculus.specs.Formula as F
+use Rattle.gl_calculus.specs.Formulas.Formula as F
 use Rattle.gl_ast.specs.View.{formula_tree}
 use Rattle.gl_value.specs.View.{scalar_tree}
 use Rattle.gl_cells.specs.declared.content.Content.{Content}

@@ -1,7 +1,7 @@
 -- Contents are equal where their trees are.
 use Rattle.std.specs.Prelude.{◌≡◌, true}
 use Rattle.std.specs.Rc.{rc_value}
-use Rattle.gl_calculus.specs.Formula as F
+use Rattle.gl_calculus.specs.Formulas.Formula as F
 use Rattle.gl_ast.specs.Equal.{formula_equal}
 use Rattle.gl_ast.specs.View.{formula_tree}
 use Rattle.gl_value.proofs.Equal.{scalar_equal}

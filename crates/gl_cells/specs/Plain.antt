@@ -1,11 +1,11 @@
 -- The number of a text.
 use Rattle.std.specs.Prelude.{ℕ, ◌^◌, nat_lt, ◌&&◌, ℤ, length, Option, Some, None, if◌then◌else◌}
 use Rattle.std.specs.List.{list_all}
-use Rattle.gl_calculus.specs.Operators.{exact}
-use Rattle.gl_calculus.specs.Value as V
-use Rattle.gl_language.specs.Text.{Bytes}
-use Rattle.gl_language.specs.Token.{is_digit, digits_value}
-use Rattle.gl_protocol.specs.Commands.{signed_value}
+use Rattle.gl_calculus.specs.Values.Operators.{exact}
+use Rattle.gl_calculus.specs.Values.Value as V
+use Rattle.gl_language.specs.Texts.Text.{Bytes}
+use Rattle.gl_language.specs.Reading.Token.{is_digit, digits_value}
+use Rattle.gl_language.specs.Texts.Plain.{signed_value}
 
 abbrev pub int_of : V.Scalar → Option ℤ
 int_of (V.Scalar.Int n) = Some n

@@ -1,6 +1,6 @@
 -- The row-major order and ranges, as facts on rows and columns.
 use Rattle.std.specs.Prelude.{◌≡◌, ◌<◌, ◌≤◌, ◌⊎◌, Bool, true, Option, None, Some, ◌&&◌}
-use Rattle.gl_calculus.specs.Grid.{Addr, Range, covers, is_before}
+use Rattle.gl_calculus.specs.Grid.Grid.{Addr, Range, covers, is_before}
 
 -- the address is in the range with these corners
 abbrev pub Covers : Addr → Addr → Addr → Type 0

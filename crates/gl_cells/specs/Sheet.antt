@@ -6,11 +6,11 @@ use Rattle.std.specs.List.Sorted.{IsStrictlySortedBy}
 use Rattle.std.specs.Map.{keys_of, values_of, lookup, remove_entry}
 use Rattle.std.specs.Ordering.{nat_cmp, ordering_then}
 use Rattle.std.specs.declared.cmp.Ordering.{Ordering}
-use Rattle.gl_calculus.specs.Grid.{Addr}
-use Rattle.gl_calculus.specs.Formula as F
-use Rattle.gl_calculus.specs.Formula.{formula_addresses}
-use Rattle.gl_calculus.specs.Limits.{max_formulas, max_contents}
-use Rattle.gl_language.specs.Content.{IsProperContent}
+use Rattle.gl_calculus.specs.Grid.Grid.{Addr}
+use Rattle.gl_calculus.specs.Formulas.Formula as F
+use Rattle.gl_calculus.specs.Formulas.Formula.{formula_addresses}
+use Rattle.gl_calculus.specs.Grid.Limits.{max_formulas, max_contents}
+use Rattle.gl_language.specs.Reading.Content.{IsProperContent}
 use Rattle.gl_plane.specs.Parts.{IsAddr}
 use Rattle.gl_cells.specs.Content.{content_tree, form_weight}
 use Rattle.gl_cells.specs.declared.content.Content.{Content}

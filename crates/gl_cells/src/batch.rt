@@ -1,7 +1,7 @@
 //! Many contents at once, all or none of them.
 ghost use Rattle.std.specs.Prelude.{◌≡◌, ◌≤◌, ◌+◌, OnOk, vec_len, vec_capacity};
-ghost use Rattle.gl_language.specs.Content.{IsProperContent};
-ghost use Rattle.gl_protocol.specs.Commands.{with_content, with_contents};
+ghost use Rattle.gl_language.specs.Reading.Content.{IsProperContent};
+ghost use Rattle.gl_calculus.specs.Edits.Sheets.{with_content, with_contents};
 ghost use Rattle.gl_cells.specs.Sheet.{sheet, put_each, undo_all, CanUndo, AreProper, IsTable};
 ghost use Rattle.gl_cells.specs.Sheet.{Answers};
 ghost use Rattle.gl_cells.specs.Content.{content_tree};

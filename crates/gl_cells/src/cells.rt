@@ -1,10 +1,10 @@
 //! The sheet.
 ghost use Rattle.std.specs.Prelude.{◌≡◌, ◌≤◌, ◌+◌, [], length, find, map, IfOk, IfSome, option_map};
 ghost use Rattle.std.specs.Option.{option_copied};
-ghost use Rattle.gl_calculus.specs.Formula.{IsSheet, content, formula_addresses};
-ghost use Rattle.gl_calculus.specs.Limits.{max_formulas, max_contents};
-ghost use Rattle.gl_language.specs.Content.{IsProperContent};
-ghost use Rattle.gl_protocol.specs.Commands.{with_content, with_contents, without};
+ghost use Rattle.gl_calculus.specs.Formulas.Formula.{IsSheet, content, formula_addresses};
+ghost use Rattle.gl_calculus.specs.Grid.Limits.{max_formulas, max_contents};
+ghost use Rattle.gl_language.specs.Reading.Content.{IsProperContent};
+ghost use Rattle.gl_calculus.specs.Edits.Sheets.{with_content, with_contents, without};
 ghost use Rattle.gl_cells.specs.Sheet.{sheet, AreProper, ArePlaced, Answers};
 ghost use Rattle.gl_cells.specs.{Content.content_tree, Search.is_in_play};
 

@@ -1,6 +1,6 @@
 //! Removal of a range.
 ghost use Rattle.std.specs.Prelude.{◌≡◌, ◌≤◌, ◌+◌, not, filter, length};
-ghost use Rattle.gl_calculus.specs.Grid.{covers};
+ghost use Rattle.gl_calculus.specs.Grid.Grid.{covers};
 ghost use Rattle.gl_cells.specs.Sheet.{IsTable};
 
 use crate::contents::Contents;

@@ -6,9 +6,9 @@ ghost use Rattle.std.specs.BTreeMap.{insert_entry, is_at, keys};
 ghost use Rattle.std.specs.List.Sorted.{IsStrictlySortedBy};
 ghost use Rattle.std.specs.Map.{keys_of, lookup, remove_entry};
 ghost use Rattle.std.specs.Option.{option_copied};
-ghost use Rattle.gl_calculus.specs.Formula.{formula_addresses};
+ghost use Rattle.gl_calculus.specs.Formulas.Formula.{formula_addresses};
 ghost use Rattle.indexmap.specs.IndexMap.{get};
-ghost use Rattle.gl_calculus.specs.Grid.{Addr as Plain, same_addr};
+ghost use Rattle.gl_calculus.specs.Grid.Grid.{Addr as Plain, same_addr};
 ghost use Rattle.gl_cells.specs.{Search.AtOrAfter};
 ghost use Rattle.gl_cells.specs.Listed.{listed, IsListed};
 ghost use Rattle.gl_cells.specs.Sheet.{addr_cmp, sheet};
@@ -40,7 +40,7 @@ impl Model for Contents {
     ghost use Rattle.indexmap.specs.IndexMap.{get};
     ghost use Rattle.gl_ast.specs.contracts.Formula as formula;
     ghost use Rattle.gl_value.specs.contracts.Scalar as scalar;
-    ghost use Rattle.gl_calculus.specs.Grid.{same_addr};
+    ghost use Rattle.gl_calculus.specs.Grid.Grid.{same_addr};
     ghost use Rattle.gl_cells.specs.{Sheet.Table, Listed.listed, Listed.IsListed};
 
     ghost Value = { Table };

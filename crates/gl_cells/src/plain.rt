@@ -1,9 +1,12 @@
 //! The scalar of a text that is neither a formula nor a literal.
 ghost use Rattle.std.specs.Prelude.{◌≡◌, pos, neg_ℤ, ◌+◌, ◌-◌, ◌*◌, ◌^◌, ◌<◌, ◌≤◌, length, IsTrue};
 ghost use Rattle.std.specs.Prelude.{IfOk, SomeIff};
-ghost use Rattle.gl_calculus.specs.{Formula.Const, Limits.max_text, Operators.exact};
-ghost use Rattle.gl_language.specs.{Content.IsProperContent, Token.is_digit};
-ghost use Rattle.gl_protocol.specs.Commands.{plain_scalar};
+ghost use Rattle.gl_calculus.specs.Formulas.Formula.{Const};
+ghost use Rattle.gl_calculus.specs.Grid.Limits.{max_text};
+ghost use Rattle.gl_calculus.specs.Values.Operators.{exact};
+ghost use Rattle.gl_language.specs.Reading.Content.{IsProperContent};
+ghost use Rattle.gl_language.specs.Reading.Token.{is_digit};
+ghost use Rattle.gl_language.specs.Texts.Plain.{plain_scalar};
 ghost use Rattle.gl_value.specs.View.{scalar_tree};
 ghost use Rattle.gl_cells.specs.Plain.{int_of, number_of, digits_number};
 

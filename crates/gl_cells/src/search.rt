@@ -2,7 +2,7 @@
 ghost use Rattle.std.specs.Prelude.{◌≡◌, None, IfSome, IfNone, IsSome, Some};
 ghost use Rattle.std.specs.BTreeMap.{is_at};
 ghost use Rattle.std.specs.Map.{lookup};
-ghost use Rattle.gl_calculus.specs.Grid.{Addr as Plain};
+ghost use Rattle.gl_calculus.specs.Grid.Grid.{Addr as Plain};
 ghost use Rattle.gl_plane.specs.Parts.{IsAddr};
 ghost use Rattle.gl_cells.specs.{Sheet.addr_cmp, Search.AtOrAfter, Search.InPlay};
 

@@ -3,8 +3,8 @@ ghost use Rattle.std.specs.Prelude.{◌≡◌, ◌≤◌, ◌<◌, None, IfSome,
 ghost use Rattle.std.specs.Prelude.{option_map, unwrap_or, is_some, length, ◌+◌, if◌then◌else◌};
 ghost use Rattle.std.specs.BTreeMap.{insert_entry, is_at};
 ghost use Rattle.std.specs.Map.{lookup, remove_entry};
-ghost use Rattle.gl_calculus.specs.Grid.{Addr as Plain};
-ghost use Rattle.gl_language.specs.Content.{IsProperContent};
+ghost use Rattle.gl_calculus.specs.Grid.Grid.{Addr as Plain};
+ghost use Rattle.gl_language.specs.Reading.Content.{IsProperContent};
 ghost use Rattle.gl_cells.specs.Sheet.{addr_cmp, IsTable, HasPlace, restored};
 ghost use Rattle.gl_cells.specs.Content.{content_tree, form_weight};
 

@@ -1,17 +1,17 @@
 -- What a check over a set of the loops finds is what the definition says of their list.
 use Rattle.std.proofs.Common.{◌≡◌, ℕ, List, Option, sym, ap, ◌∙◌}
-use Rattle.gl_query.specs.Lists.{has_member}
-use Rattle.gl_calculus.specs.Grid.{Addr}
-use Rattle.gl_calculus.specs.Value.{Oracle}
-use Rattle.gl_calculus.specs.Formula.{Version, Cells}
-use Rattle.gl_calculus.specs.Key.{Key, Outcome, same_key}
-use Rattle.gl_calculus.specs.SameOutcome.{same_outcome}
-use Rattle.gl_calculus.specs.Evaluation.{program}
+use Rattle.gl_calculus.specs.Computation.Lists.{has_member}
+use Rattle.gl_calculus.specs.Grid.Grid.{Addr}
+use Rattle.gl_calculus.specs.Values.Value.{Oracle}
+use Rattle.gl_calculus.specs.Formulas.Formula.{Version, Cells}
+use Rattle.gl_calculus.specs.Evaluation.Key.{Key, Outcome, same_key}
+use Rattle.gl_calculus.specs.Evaluation.SameOutcome.{same_outcome}
+use Rattle.gl_calculus.specs.Evaluation.Evaluation.{program}
 use Rattle.gl_calculus.proofs.Tests.{key_equality}
-use Rattle.gl_explanation.specs.Walk.{Claim, first_free}
-use Rattle.gl_explanation.specs.Certificate.{is_proper, says}
-use Rattle.gl_explanation.proofs.Checking.{free_same}
-use Rattle.gl_explanation.proofs.Judging.{says_same}
+use Rattle.gl_calculus.specs.Explanation.Walk.{Claim, first_free}
+use Rattle.gl_calculus.specs.Explanation.Certificate.{is_proper, says}
+use Rattle.laws_calculus.proofs.Explanation.Checking.{free_same}
+use Rattle.laws_calculus.proofs.Explanation.Judging.{says_same}
 
 module _ (version : Version) (S : Cells) (w : Oracle) (ns ms : List (Claim Key Outcome)) (set ls : List Key) (same : ns ≡ ms) (alike : (j : Key) → has_member same_key j set ≡ has_member same_key j ls) where
   abbrev free : List (Claim Key Outcome) → List Key → List Key → Option ℕ

@@ -1,8 +1,8 @@
 -- What is shown, compared by the code's equality.
 use Rattle.std.proofs.Common.{◌≡◌, Bool, true, false, Some, None, refl, sym, ap, subst, ◌∙◌}
-use Rattle.gl_explanation.specs.Certificate as E
-use Rattle.gl_explanation.specs.Certificate.{same_shown, judged, says_so}
-use Rattle.gl_explanation.proofs.Explaining.{shown_exact, shown_same}
+use Rattle.gl_calculus.specs.Explanation.Certificate as E
+use Rattle.gl_calculus.specs.Explanation.Certificate.{same_shown, judged, says_so}
+use Rattle.laws_calculus.proofs.Explanation.Explaining.{shown_exact, shown_same}
 use Rattle.gl_value.proofs.Equal.{shown_equal}
 use Rattle.gl_value.specs.Made.{shown_tree}
 use Rattle.gl_value.specs.declared.Shown.{Shown}

@@ -2,14 +2,14 @@
 use Rattle.std.proofs.Common.{◌≡◌, Bool, true, false, cond, List, [], ◌∷◌, ◌++◌, Some, None, option_map, map, ℕ, zero, suc, ◌+◌, ◌<◌, length, get_or, drop, arith, Result, Ok, Err, OnOk, OnErr, inl, inr, IsTrue, refl, ap, sym, subst, ◌∙◌}
 use Rattle.std.proofs.lemmas.List.{at_drop_more}
 use Rattle.std.specs.Map.{lookup}
-use Rattle.gl_query.specs.Lists.{Member}
+use Rattle.gl_calculus.specs.Computation.Lists.{Member}
 use Rattle.indexmap.specs.IndexMap.{insert_entry}
-use Rattle.gl_calculus.specs.Key as K
-use Rattle.gl_calculus.specs.Key.{same_key}
-use Rattle.gl_calculus.specs.Sound.{is_sound_key, is_sound_outcome, is_outcome_of}
+use Rattle.gl_calculus.specs.Evaluation.Key as K
+use Rattle.gl_calculus.specs.Evaluation.Key.{same_key}
+use Rattle.gl_calculus.specs.Evaluation.Sound.{is_sound_key, is_sound_outcome, is_outcome_of}
 use Rattle.gl_calculus.proofs.Tests.{key_equality}
-use Rattle.gl_explanation.specs.Walk.{Claim, noted}
-use Rattle.gl_explanation.proofs.Checking.{last_first}
+use Rattle.gl_calculus.specs.Explanation.Walk.{Claim, noted}
+use Rattle.laws_calculus.proofs.Explanation.Checking.{last_first}
 use Rattle.gl_demand.specs.Equal.{eq_is_key}
 use Rattle.gl_demand.specs.Sound.{AreSoundKeys, IsSoundTable}
 use Rattle.gl_demand.specs.View.{key_tree, outcome_tree}

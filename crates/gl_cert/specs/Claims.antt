@@ -1,7 +1,7 @@
 -- Keys with their outcomes as claims.
 use Rattle.std.specs.Prelude.{List, map}
-use Rattle.gl_calculus.specs.Key as K
-use Rattle.gl_explanation.specs.Walk.{Claim}
+use Rattle.gl_calculus.specs.Evaluation.Key as K
+use Rattle.gl_calculus.specs.Explanation.Walk.{Claim}
 use Rattle.gl_demand.specs.View.{key_tree, outcome_tree}
 use Rattle.gl_demand.specs.declared.key.Key.{Key}
 use Rattle.gl_demand.specs.declared.outcome.Outcome.{Outcome}

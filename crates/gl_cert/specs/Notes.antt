@@ -1,7 +1,7 @@
 -- A table of notes as a list of claims.
 use Rattle.std.specs.Prelude.{List}
-use Rattle.gl_calculus.specs.Key as K
-use Rattle.gl_explanation.specs.Walk.{Claim}
+use Rattle.gl_calculus.specs.Evaluation.Key as K
+use Rattle.gl_calculus.specs.Explanation.Walk.{Claim}
 use Rattle.gl_cert.specs.Claims.{claim_trees}
 use Rattle.gl_cert.specs.declared.notes.Notes.{Notes}
 

@@ -1,7 +1,7 @@
 -- The certificates and the verdicts that those of the code stand for.
 use Rattle.std.specs.Prelude.{map}
-use Rattle.gl_explanation.specs.Certificate as E
-use Rattle.gl_explanation.specs.Certificate.{Certificate}
+use Rattle.gl_calculus.specs.Explanation.Certificate as E
+use Rattle.gl_calculus.specs.Explanation.Certificate.{Certificate}
 use Rattle.gl_value.specs.Made.{shown_tree}
 use Rattle.gl_demand.specs.View.{key_tree}
 use Rattle.gl_cert.specs.Claims.{claim_trees}

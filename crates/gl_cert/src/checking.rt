@@ -1,10 +1,12 @@
 //! The check of a certificate.
 ghost use Rattle.std.specs.Prelude.{◌≡◌, ◌≤◌, ◌+◌, None, length, map, option_map, IfOk};
-ghost use Rattle.gl_calculus.specs.{Calculation.IsShown, Key.same_key};
-ghost use Rattle.gl_calculus.specs.{SameOutcome.same_outcome};
-ghost use Rattle.gl_explanation.specs.Certificate.{verdict, judged, says_so, says, is_proper};
-ghost use Rattle.gl_explanation.specs.Walk.{first_free};
-ghost use Rattle.gl_explanation.specs.Certificate as E;
+ghost use Rattle.gl_calculus.specs.Calculation.Calculation.{IsShown};
+ghost use Rattle.gl_calculus.specs.Evaluation.Key.{same_key};
+ghost use Rattle.gl_calculus.specs.Evaluation.SameOutcome.{same_outcome};
+ghost use Rattle.gl_calculus.specs.Explanation.Certificate.{verdict, judged, says_so, says};
+ghost use Rattle.gl_calculus.specs.Explanation.Certificate.{is_proper};
+ghost use Rattle.gl_calculus.specs.Explanation.Walk.{first_free};
+ghost use Rattle.gl_calculus.specs.Explanation.Certificate as E;
 ghost use Rattle.gl_value.specs.Made.{shown_tree};
 ghost use Rattle.gl_ast.specs.View.{version_tree};
 ghost use Rattle.gl_cells.specs.Sheet.{sheet};

@@ -1,11 +1,12 @@
 //! Which loops of a certificate wait for one of them.
 ghost use Rattle.std.specs.Prelude.{◌≡◌, ◌≤◌, ◌<◌, ◌+◌, ◌^◌, true, cond, length, map, IsTrue, IfOk};
-ghost use Rattle.gl_query.specs.Lists.{has_member};
-ghost use Rattle.gl_calculus.specs.{Key.same_key, SameOutcome.same_outcome};
-ghost use Rattle.gl_calculus.specs.{Sound.is_sound_key};
-ghost use Rattle.gl_calculus.specs.Key as K;
-ghost use Rattle.gl_explanation.specs.Walk.{waits_among, waits, first_free};
-ghost use Rattle.gl_explanation.specs.Certificate.{is_proper};
+ghost use Rattle.gl_calculus.specs.Computation.Lists.{has_member};
+ghost use Rattle.gl_calculus.specs.Evaluation.Key.{same_key};
+ghost use Rattle.gl_calculus.specs.Evaluation.SameOutcome.{same_outcome};
+ghost use Rattle.gl_calculus.specs.Evaluation.Sound.{is_sound_key};
+ghost use Rattle.gl_calculus.specs.Evaluation.Key as K;
+ghost use Rattle.gl_calculus.specs.Explanation.Walk.{waits_among, waits, first_free};
+ghost use Rattle.gl_calculus.specs.Explanation.Certificate.{is_proper};
 ghost use Rattle.gl_cells.specs.Sheet.{sheet};
 ghost use Rattle.gl_demand.specs.{Sound.AreSoundKeys, View.key_tree, View.found_tree};
 ghost use Rattle.gl_demand.specs.{Evaluators.program_of};

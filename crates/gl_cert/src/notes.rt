@@ -1,7 +1,7 @@
 //! Outcomes that are noted of keys.
 ghost use Rattle.std.specs.Prelude.{◌≡◌, map};
-ghost use Rattle.gl_calculus.specs.Key.{same_key};
-ghost use Rattle.gl_explanation.specs.Walk.{noted};
+ghost use Rattle.gl_calculus.specs.Evaluation.Key.{same_key};
+ghost use Rattle.gl_calculus.specs.Explanation.Walk.{noted};
 ghost use Rattle.gl_demand.specs.Sound.{AreSoundKeys, IsSoundTable};
 ghost use Rattle.gl_cert.specs.Claims.{claim_trees};
 

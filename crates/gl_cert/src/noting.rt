@@ -2,9 +2,10 @@
 ghost use Rattle.std.specs.Prelude.{◌≡◌, ◌<◌, ◌^◌, [], ◌∷◌, ◌++◌, None, map, option_map, length};
 ghost use Rattle.std.specs.Prelude.{IsTrue, OnOk, OnErr, IfOk, IfSome};
 ghost use Rattle.std.specs.Option.{option_copied};
-ghost use Rattle.gl_query.specs.Query.{Ready};
-ghost use Rattle.gl_calculus.specs.{Key.same_key, Sound.is_sound_key};
-ghost use Rattle.gl_explanation.specs.Walk.{noted};
+ghost use Rattle.gl_calculus.specs.Computation.Query.{Ready};
+ghost use Rattle.gl_calculus.specs.Evaluation.Key.{same_key};
+ghost use Rattle.gl_calculus.specs.Evaluation.Sound.{is_sound_key};
+ghost use Rattle.gl_calculus.specs.Explanation.Walk.{noted};
 ghost use Rattle.gl_demand.specs.{Sound.AreSoundKeys, Sound.IsSoundFound, View.key_tree};
 ghost use Rattle.gl_demand.specs.{View.outcome_tree};
 ghost use Rattle.gl_cert.specs.{Claims.claim_trees, Notes.claims};
@@ -90,8 +91,8 @@ impl Notes {
 }
 
 impl Known for Notes {
-    ghost use Rattle.gl_calculus.specs.Key.{same_key};
-    ghost use Rattle.gl_explanation.specs.Walk.{noted};
+    ghost use Rattle.gl_calculus.specs.Evaluation.Key.{same_key};
+    ghost use Rattle.gl_calculus.specs.Explanation.Walk.{noted};
     ghost use Rattle.gl_cert.specs.Notes.{claims};
 
     ghost outcomes = { λ n. noted same_key (claims n) };

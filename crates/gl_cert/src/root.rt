@@ -1,7 +1,8 @@
 //! The key that decides what an address shows.
 ghost use Rattle.std.specs.Prelude.{◌≡◌, option_map};
-ghost use Rattle.gl_calculus.specs.{Formula.content, Oracle.cover};
-ghost use Rattle.gl_explanation.specs.Certificate.{formula_key, covering_key, key_at};
+ghost use Rattle.gl_calculus.specs.Formulas.Formula.{content};
+ghost use Rattle.gl_calculus.specs.Evaluation.Oracle.{cover};
+ghost use Rattle.gl_calculus.specs.Explanation.Certificate.{formula_key, covering_key, key_at};
 ghost use Rattle.gl_cells.specs.Sheet.{sheet};
 ghost use Rattle.gl_demand.specs.View.{key_tree};
 

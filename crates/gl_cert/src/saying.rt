@@ -1,10 +1,13 @@
 //! What notes and loops say that an address shows.
 ghost use Rattle.std.specs.Prelude.{◌≡◌, Some, None, map, option_map, IsTrue, IfOk};
-ghost use Rattle.gl_calculus.specs.{Formula.content, Oracle.cover};
-ghost use Rattle.gl_calculus.specs.{Sound.is_sound_value, Sound.is_sound_outcome};
-ghost use Rattle.gl_calculus.specs.Value as V;
-ghost use Rattle.gl_explanation.specs.Certificate.{says, constant_shown, loop_shown, element_shown};
-ghost use Rattle.gl_explanation.specs.Certificate.{value_shown, shown_by_note, shown_by_key};
+ghost use Rattle.gl_calculus.specs.Formulas.Formula.{content};
+ghost use Rattle.gl_calculus.specs.Evaluation.Oracle.{cover};
+ghost use Rattle.gl_calculus.specs.Evaluation.Sound.{is_sound_value, is_sound_outcome};
+ghost use Rattle.gl_calculus.specs.Values.Value as V;
+ghost use Rattle.gl_calculus.specs.Explanation.Certificate.{says, constant_shown, loop_shown};
+ghost use Rattle.gl_calculus.specs.Explanation.Certificate.{element_shown};
+ghost use Rattle.gl_calculus.specs.Explanation.Certificate.{value_shown, shown_by_note};
+ghost use Rattle.gl_calculus.specs.Explanation.Certificate.{shown_by_key};
 ghost use Rattle.gl_cells.specs.Sheet.{sheet};
 ghost use Rattle.gl_value.specs.{Made.shown_tree, View.scalar_tree, View.value_tree};
 ghost use Rattle.gl_demand.specs.View.{key_tree, outcome_tree};

@@ -1,9 +1,11 @@
 //! Keys that may be evaluated, and one level of evaluation over notes.
 ghost use Rattle.std.specs.Prelude.{◌≡◌, IsTrue, IfOk};
-ghost use Rattle.gl_query.specs.Query.{found};
-ghost use Rattle.gl_calculus.specs.{Key.same_key, Sound.is_sound_key};
-ghost use Rattle.gl_calculus.specs.{Sound.IsProperKey};
-ghost use Rattle.gl_explanation.specs.{Certificate.is_proper, Walk.noted};
+ghost use Rattle.gl_calculus.specs.Computation.Query.{found};
+ghost use Rattle.gl_calculus.specs.Evaluation.Key.{same_key};
+ghost use Rattle.gl_calculus.specs.Evaluation.Sound.{is_sound_key};
+ghost use Rattle.gl_calculus.specs.Evaluation.Sound.{IsProperKey};
+ghost use Rattle.gl_calculus.specs.Explanation.Certificate.{is_proper};
+ghost use Rattle.gl_calculus.specs.Explanation.Walk.{noted};
 ghost use Rattle.gl_cells.specs.Sheet.{sheet};
 ghost use Rattle.gl_demand.specs.{Sound.IsSoundFound, Steps.one_more, View.key_tree};
 ghost use Rattle.gl_demand.specs.{View.found_tree, Evaluators.program_of};

@@ -1,11 +1,12 @@
 //! Which notes of a certificate follow from those before them.
 ghost use Rattle.std.specs.Prelude.{◌≡◌, ◌≤◌, ◌<◌, ◌+◌, ◌^◌, [], ◌∷◌, ◌++◌, true, None, length};
 ghost use Rattle.std.specs.Prelude.{map, IsTrue, IfOk};
-ghost use Rattle.gl_query.specs.Query.{Ready};
-ghost use Rattle.gl_calculus.specs.{Key.same_key, SameOutcome.same_outcome};
-ghost use Rattle.gl_calculus.specs.{Sound.is_sound_key};
-ghost use Rattle.gl_explanation.specs.Walk.{noted, comes_to, follows, first_stray};
-ghost use Rattle.gl_explanation.specs.Certificate.{is_proper};
+ghost use Rattle.gl_calculus.specs.Computation.Query.{Ready};
+ghost use Rattle.gl_calculus.specs.Evaluation.Key.{same_key};
+ghost use Rattle.gl_calculus.specs.Evaluation.SameOutcome.{same_outcome};
+ghost use Rattle.gl_calculus.specs.Evaluation.Sound.{is_sound_key};
+ghost use Rattle.gl_calculus.specs.Explanation.Walk.{noted, comes_to, follows, first_stray};
+ghost use Rattle.gl_calculus.specs.Explanation.Certificate.{is_proper};
 ghost use Rattle.gl_cells.specs.Sheet.{sheet};
 ghost use Rattle.gl_demand.specs.View.{key_tree, outcome_tree, found_tree};
 ghost use Rattle.gl_demand.specs.Sound.{IsSoundFound, AreSoundKeys};

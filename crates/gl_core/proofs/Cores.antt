@@ -1,14 +1,14 @@
 -- What a core says of its keys, and what changes do to it.
 use Rattle.std.proofs.Common.{◌≡◌, ℕ, suc, ◌<◌, ◌≤◌, Bool, true, false, cond, List, [], ◌∷◌, ◌++◌, length, set, slice_get, slice_index, Option, Some, None, refl, sym, ap, ◌∙◌, subst, arith, inl, inr, IsTrue, IfSome, length-append}
 use Rattle.std.specs.Prelude.{option_map}
-use Rattle.gl_query.specs.Lists.{Member, AreDistinct}
-use Rattle.gl_query.specs.Machine as Machine
-use Rattle.gl_query.specs.Machine.{at, table, idle_keys}
-use Rattle.gl_calculus.specs.Limits.{max_demanded}
-use Rattle.gl_calculus.specs.Grid.{Range}
-use Rattle.gl_calculus.specs.Key as K
-use Rattle.gl_calculus.specs.Key.{same_key}
-use Rattle.gl_calculus.specs.Sound.{is_sound_outcome, is_outcome_of}
+use Rattle.gl_calculus.specs.Computation.Lists.{Member, AreDistinct}
+use Rattle.gl_machine.specs.Machine as Machine
+use Rattle.gl_machine.specs.Machine.{at, table, idle_keys}
+use Rattle.gl_calculus.specs.Grid.Limits.{max_demanded}
+use Rattle.gl_calculus.specs.Grid.Grid.{Range}
+use Rattle.gl_calculus.specs.Evaluation.Key as K
+use Rattle.gl_calculus.specs.Evaluation.Key.{same_key}
+use Rattle.gl_calculus.specs.Evaluation.Sound.{is_sound_outcome, is_outcome_of}
 use Rattle.gl_calculus.proofs.Tests.{key_equality}
 use Rattle.gl_support.specs.declared.row.Row.{Row}
 use Rattle.gl_demand.specs.View.{outcome_tree}

@@ -1,13 +1,14 @@
 -- What one pass over numbers drops, by keys.
 use Rattle.std.proofs.Common.{◌≡◌, ℕ, ◌<◌, ◌||◌, nat_eq, not, Bool, true, false, cond, if◌then◌else◌, List, [], ◌∷◌, length, map, filter, refl, sym, ap, ◌∙◌, subst, eqb-true, eq-eqb}
 use Rattle.std.specs.List.{list_any}
-use Rattle.gl_query.specs.Lists.{AreDistinct, has_member}
-use Rattle.gl_query.specs.Remembered.{Note}
-use Rattle.gl_query.specs.InOrder.{must_go, kept_after, note_keys}
-use Rattle.gl_query.proofs.Orders.{kept_by_gone}
-use Rattle.gl_calculus.specs.Grid.{Range}
-use Rattle.gl_calculus.specs.Key as K
-use Rattle.gl_calculus.specs.Key.{same_key}
+use Rattle.gl_calculus.specs.Computation.Lists.{AreDistinct, has_member}
+use Rattle.gl_calculus.specs.Computation.Notes.{Note}
+use Rattle.gl_machine.specs.InOrder.{must_go, kept_after}
+use Rattle.gl_calculus.specs.Computation.Notes.{note_keys}
+use Rattle.laws_calculus.proofs.Query.Orders.{kept_by_gone}
+use Rattle.gl_calculus.specs.Grid.Grid.{Range}
+use Rattle.gl_calculus.specs.Evaluation.Key as K
+use Rattle.gl_calculus.specs.Evaluation.Key.{same_key}
 use Rattle.gl_support.specs.Reach.{is_marked}
 use Rattle.gl_support.specs.Rows.{notes_of, AreMarked, gone_numbers}
 use Rattle.gl_support.specs.declared.row.Row.{Row}

@@ -1,35 +1,38 @@
 -- A run of picks: what each of them keeps, and what the end says.
 use Rattle.std.proofs.Common.{◌≡◌, ℕ, zero, suc, ◌+◌, ◌-◌, ◌<◌, ◌≤◌, ◌^◌, List, [], ◌∷◌, ◌++◌, ◌⊎◌, ◌||◌, Bool, true, false, cond, if◌then◌else◌, Option, Some, None, length, nat_lt, refl, sym, ap, ◌∙◌, subst, arith, inl, inr}
 use Rattle.std.specs.List.{list_any}
-use Rattle.gl_query.specs.Lists.{Member, AreDistinct, MoreThan}
-use Rattle.gl_query.specs.Query.{Query, Found, Ready, Need, found}
-use Rattle.gl_query.specs.Laws.{IsQuiet}
-use Rattle.gl_query.specs.Machine.{Status, Idle, Waiting, Resolved, Demanded, at, table, change, need_answer, woken, wait, add_idle, need, turn, idle_keys, keys, nth, picked, pick, Picked, turn_answer, answer, left}
-use Rattle.gl_query.specs.Costs.{answer_at, total, settled, Counted, counted_keys, unnoted, AreReads, sum_reads, allowed}
-use Rattle.gl_query.proofs.Lookups.{mapped, at-change, nth_member, at-idle}
-use Rattle.gl_query.proofs.Steps.{true_table}
-use Rattle.gl_query.proofs.Quiet.{quiet}
-use Rattle.gl_query.proofs.Counts.{full_demands, pick_less}
-use Rattle.gl_query.proofs.Credit.{credit_allowed, full_allowed}
-use Rattle.gl_query.proofs.Bound.{allowed_within}
-use Rattle.gl_query.proofs.Tables.{quiet_counted}
-use Rattle.gl_query.proofs.Proved.{no_idle}
-use Rattle.gl_calculus.specs.Limits.{max_demanded}
-use Rattle.gl_calculus.specs.Grid.{Range}
-use Rattle.gl_calculus.specs.Formula.{Version, Cells}
-use Rattle.gl_calculus.specs.Value.{Oracle}
-use Rattle.gl_calculus.specs.Key as K
-use Rattle.gl_calculus.specs.Key.{same_key}
-use Rattle.gl_calculus.specs.Evaluation.{program}
-use Rattle.gl_calculus.specs.Memory.{Notes}
+use Rattle.gl_calculus.specs.Computation.Lists.{Member, AreDistinct, MoreThan}
+use Rattle.gl_calculus.specs.Computation.Query.{Query, Found, Ready, Need, found}
+use Rattle.gl_machine.specs.Quiet.{IsQuiet}
+use Rattle.gl_machine.specs.Machine.{Status, Idle, Waiting, Resolved, at, table, change, need_answer, woken, wait, add_idle, need, turn, idle_keys, keys, nth, picked, pick, Picked, turn_answer, answer, left}
+use Rattle.gl_calculus.specs.Computation.Demanded.{Demanded}
+use Rattle.gl_machine.specs.Costs.{answer_at, total, settled, unnoted, allowed}
+use Rattle.gl_calculus.specs.Steps.Counted.{Counted, counted_keys, AreReads, sum_reads}
+use Rattle.laws_calculus.proofs.Query.Lookups.{mapped, at-change, nth_member, at-idle}
+use Rattle.laws_calculus.proofs.Query.Steps.{true_table}
+use Rattle.laws_calculus.proofs.Query.Quiet.{quiet}
+use Rattle.laws_calculus.proofs.Query.Counts.{full_demands, pick_less}
+use Rattle.laws_calculus.proofs.Query.Credit.{credit_allowed, full_allowed}
+use Rattle.laws_calculus.proofs.Query.Bound.{allowed_within}
+use Rattle.laws_calculus.proofs.Query.Tables.{quiet_counted}
+use Rattle.laws_calculus.proofs.Query.Proved.{no_idle}
+use Rattle.gl_calculus.specs.Grid.Limits.{max_demanded}
+use Rattle.gl_calculus.specs.Grid.Grid.{Range}
+use Rattle.gl_calculus.specs.Formulas.Formula.{Version, Cells}
+use Rattle.gl_calculus.specs.Values.Value.{Oracle}
+use Rattle.gl_calculus.specs.Evaluation.Key as K
+use Rattle.gl_calculus.specs.Evaluation.Key.{same_key}
+use Rattle.gl_calculus.specs.Evaluation.Evaluation.{program}
+use Rattle.gl_calculus.specs.Calculation.Memory.{Notes}
 use Rattle.gl_calculus.proofs.Tests.{key_equality}
-use Rattle.gl_ahead.specs.Spent as Spent
-use Rattle.gl_ahead.proofs.Spending.{bounds_stay}
+use Rattle.gl_machine.specs.Ahead.Spent as Spent
+use Rattle.laws_calculus.proofs.Ahead.Spending.{bounds_stay}
 use Rattle.gl_demand.specs.Steps.{one_more}
 use Rattle.gl_core.specs.Held.{Held}
 use Rattle.gl_core.specs.State.{State, state_of, seeds_of, notes_in, is_noted, newly_noted, noted_after, IsFor}
-use Rattle.gl_query.specs.InOrder.{AreOrdered, note_keys}
-use Rattle.gl_demand.specs.Steps.{AllowsDemanded}
+use Rattle.gl_machine.specs.InOrder.{AreOrdered}
+use Rattle.gl_calculus.specs.Computation.Notes.{note_keys}
+use Rattle.gl_calculus.specs.Steps.Demanded.{AllowsDemanded}
 use Rattle.gl_core.specs.Answers.{counted, AtMostCounted, AllowsKnown}
 use Rattle.gl_core.proofs.Seeing.{none_of}
 

@@ -1,15 +1,15 @@
 -- A core is for a sheet, an oracle and a version exactly where it says what is true there.
 use Rattle.std.proofs.Common.{◌≡◌, ℕ, zero, suc, List, [], ◌∷◌, take, inl, inr, Bool, Option, Some, None, refl, ap, ◌∙◌}
-use Rattle.gl_query.specs.Lists.{Member, AreDistinct}
-use Rattle.gl_query.specs.Query.{Query, Return, Look, Ask, next, run, val, Has, IsTrueTable, IsAsked}
-use Rattle.gl_query.specs.Machine.{Resolved, Entry, at, outcome_of, table, keys, IsKnown, IsSound}
-use Rattle.gl_query.specs.Laws.{IsRight}
-use Rattle.gl_query.proofs.Levels.{Has-one}
-use Rattle.gl_query.proofs.Steps.{outcome_back}
-use Rattle.gl_query.proofs.Lookups.{member_known}
-use Rattle.gl_query.proofs.Quiet.{right}
-use Rattle.gl_calculus.specs.Key.{same_key}
-use Rattle.gl_calculus.specs.Evaluation.{program}
+use Rattle.gl_calculus.specs.Computation.Lists.{Member, AreDistinct}
+use Rattle.gl_calculus.specs.Computation.Query.{Query, Return, Look, Ask, next, run, val, Has, IsTrueTable, IsAsked}
+use Rattle.gl_machine.specs.Machine.{Resolved, Entry, at, outcome_of, table, keys, IsKnown, IsSound}
+use Rattle.gl_machine.specs.Quiet.{IsRight}
+use Rattle.laws_calculus.proofs.Query.Levels.{Has-one}
+use Rattle.laws_calculus.proofs.Query.Steps.{outcome_back}
+use Rattle.laws_calculus.proofs.Query.Lookups.{member_known}
+use Rattle.laws_calculus.proofs.Query.Quiet.{right}
+use Rattle.gl_calculus.specs.Evaluation.Key.{same_key}
+use Rattle.gl_calculus.specs.Evaluation.Evaluation.{program}
 use Rattle.gl_calculus.proofs.Tests.{key_equality}
 use Rattle.gl_core.specs.State.{state_of, seeds_of}
 use Rattle.gl_core.specs.Facts.{CoresByFacts}

@@ -1,10 +1,10 @@
 -- Some of the rows of a ledger.
 use Rattle.std.proofs.Common.{◌≡◌, ℕ, zero, suc, All, ◌<◌, ◌≤◌, Bool, true, false, if◌then◌else◌, List, [], ◌∷◌, ◌++◌, length-append, length, filter, slice_index, Option, Some, None, refl, sym, ap, ◌∙◌, subst, arith, inl, inr}
-use Rattle.gl_query.specs.Lists.{Member, AreDistinct}
-use Rattle.gl_query.specs.Remembered.{Note}
-use Rattle.gl_query.specs.InOrder.{note_keys}
-use Rattle.gl_calculus.specs.Grid.{Range}
-use Rattle.gl_calculus.specs.Key as K
+use Rattle.gl_calculus.specs.Computation.Lists.{Member, AreDistinct}
+use Rattle.gl_calculus.specs.Computation.Notes.{Note}
+use Rattle.gl_calculus.specs.Computation.Notes.{note_keys}
+use Rattle.gl_calculus.specs.Grid.Grid.{Range}
+use Rattle.gl_calculus.specs.Evaluation.Key as K
 use Rattle.gl_support.specs.Rows.{AreBelow}
 use Rattle.gl_support.specs.declared.row.Row.{Row}
 use Rattle.gl_demand.specs.declared.outcome.Outcome.{Outcome}

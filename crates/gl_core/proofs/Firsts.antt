@@ -1,14 +1,15 @@
 -- The first of some keys that is not resolved, and picks by notes.
 use Rattle.std.proofs.Common.{◌≡◌, ℕ, zero, suc, ◌<◌, arith, List, [], ◌∷◌, length, slice_get, Option, Some, None, refl, sym, ap, ◌∙◌}
 use Rattle.std.specs.Prelude.{option_map}
-use Rattle.gl_query.specs.Lists.{Member}
-use Rattle.gl_query.specs.Query.{Query, found, next, IsTrueTable}
-use Rattle.gl_query.specs.Reads.{first_without, end_by_note}
-use Rattle.gl_query.specs.Remembered.{Note, AreTrue}
-use Rattle.gl_query.specs.Machine.{table}
-use Rattle.gl_calculus.specs.Grid.{Range}
-use Rattle.gl_calculus.specs.Key as K
-use Rattle.gl_calculus.specs.Key.{same_key}
+use Rattle.gl_calculus.specs.Computation.Lists.{Member}
+use Rattle.gl_calculus.specs.Computation.Query.{Query, found, next, IsTrueTable}
+use Rattle.gl_machine.specs.Reads.{first_without, end_by_note}
+use Rattle.gl_calculus.specs.Computation.Notes.{Note}
+use Rattle.gl_machine.specs.Remembered.{AreTrue}
+use Rattle.gl_machine.specs.Machine.{table}
+use Rattle.gl_calculus.specs.Grid.Grid.{Range}
+use Rattle.gl_calculus.specs.Evaluation.Key as K
+use Rattle.gl_calculus.specs.Evaluation.Key.{same_key}
 use Rattle.gl_support.specs.declared.row.Row.{Row}
 use Rattle.gl_demand.specs.View.{outcome_tree}
 use Rattle.gl_demand.specs.declared.outcome.Outcome.{Outcome}

@@ -1,14 +1,15 @@
 -- What one pass over results leaves.
 use Rattle.std.proofs.Common.{◌≡◌, Bool, [], Result, Ok, Err, OnOk, OnErr, sym, subst}
-use Rattle.gl_query.specs.Lists.{AreDistinct}
-use Rattle.gl_query.specs.Remembered.{AreTheKept}
-use Rattle.gl_query.specs.InOrder.{AreOrdered, note_keys, kept_after}
-use Rattle.gl_query.proofs.Ordered.{drops}
-use Rattle.gl_query.proofs.Orders.{kept_stay_ordered}
-use Rattle.gl_calculus.specs.Grid.{Range}
-use Rattle.gl_calculus.specs.Key as K
-use Rattle.gl_calculus.specs.Key.{same_key}
-use Rattle.gl_calculus.specs.Memory.{Notes}
+use Rattle.gl_calculus.specs.Computation.Lists.{AreDistinct}
+use Rattle.gl_machine.specs.Remembered.{AreTheKept}
+use Rattle.gl_machine.specs.InOrder.{AreOrdered, kept_after}
+use Rattle.gl_calculus.specs.Computation.Notes.{note_keys}
+use Rattle.laws_calculus.proofs.Query.Ordered.{drops}
+use Rattle.laws_calculus.proofs.Query.Orders.{kept_stay_ordered}
+use Rattle.gl_calculus.specs.Grid.Grid.{Range}
+use Rattle.gl_calculus.specs.Evaluation.Key as K
+use Rattle.gl_calculus.specs.Evaluation.Key.{same_key}
+use Rattle.gl_calculus.specs.Calculation.Memory.{Notes}
 use Rattle.gl_calculus.proofs.Tests.{key_equality}
 use Rattle.gl_core.specs.Results.{AreResults}
 

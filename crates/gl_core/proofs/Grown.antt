@@ -1,8 +1,8 @@
 -- Ledgers that grow.
 use Rattle.std.proofs.Common.{◌≡◌, ℕ, ◌<◌, List, [], ◌∷◌, ◌++◌, length, slice_get, Some, sym, ap, ◌∙◌, subst, arith, length-append, append-nil, append_assoc}
-use Rattle.gl_query.specs.Lists.{Member}
-use Rattle.gl_calculus.specs.Grid.{Range}
-use Rattle.gl_calculus.specs.Key as K
+use Rattle.gl_calculus.specs.Computation.Lists.{Member}
+use Rattle.gl_calculus.specs.Grid.Grid.{Range}
+use Rattle.gl_calculus.specs.Evaluation.Key as K
 use Rattle.gl_support.specs.declared.row.Row.{Row}
 use Rattle.gl_demand.specs.declared.outcome.Outcome.{Outcome}
 use Rattle.gl_core.specs.State.{AreSoundNotes}

@@ -1,6 +1,6 @@
 -- Numbers and the places at which they are known.
 use Rattle.std.proofs.Common.{◌≡◌, ℕ, suc, ◌<◌, length, slice_get, slice_index, Some, None, sym, ap, ◌∙◌, arith}
-use Rattle.gl_query.specs.Lists.{Member}
+use Rattle.gl_calculus.specs.Computation.Lists.{Member}
 use Rattle.gl_core.specs.Numbers.{IsPlace}
 use Rattle.gl_core.specs.Table.{IsIndexed}
 use Rattle.gl_core.specs.declared.entries.Entries.{Entries}

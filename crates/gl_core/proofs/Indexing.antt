@@ -1,6 +1,6 @@
 -- Lists of numbers, and their places, one after the other.
 use Rattle.std.proofs.Common.{◌≡◌, ℕ, zero, suc, ◌+◌, ◌<◌, ◌≤◌, ◌⊎◌, List, [], ◌∷◌, ◌++◌, length, take, drop, set, slice_get, slice_index, Some, replicate, refl, sym, ap, ◌∙◌, subst, arith, inl, inr}
-use Rattle.gl_query.specs.Lists.{Member, AreDistinct}
+use Rattle.gl_calculus.specs.Computation.Lists.{Member, AreDistinct}
 use Rattle.gl_core.specs.Numbers.{IsIndex}
 use Rattle.gl_core.proofs.Trees.{same_or_other}
 use Rattle.gl_core.proofs.Places.{member_at}

@@ -1,7 +1,7 @@
 -- What a key needs, by places.
 use Rattle.std.proofs.Common.{◌≡◌, ℕ, ◌<◌, ◌++◌, ◌∷◌, [], List, length, set, slice_get, Some, sym, subst}
-use Rattle.gl_query.specs.Lists.{Member}
-use Rattle.gl_calculus.specs.Limits.{max_demanded}
+use Rattle.gl_calculus.specs.Computation.Lists.{Member}
+use Rattle.gl_calculus.specs.Grid.Limits.{max_demanded}
 use Rattle.gl_core.specs.Table.{IsNeed, for_known, for_new}
 use Rattle.gl_core.specs.declared.answers.Picked.{Picked}
 use Rattle.gl_core.specs.declared.answers.Picked.TheVariants as Answer

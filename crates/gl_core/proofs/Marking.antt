@@ -1,17 +1,17 @@
 -- Picks that go by what a key was reading.
 use Rattle.std.proofs.Common.{◌≡◌, ◌<◌, ◌+◌, ℕ, List, true, false, Bool, cond, length, slice_get, slice_index, Some, None, Option, nat_lt, sym, ap, ◌∙◌, subst, arith, length-append}
-use Rattle.gl_query.specs.Query.{Query, Need, found}
-use Rattle.gl_query.specs.Machine as Machine
-use Rattle.gl_query.specs.Machine.{at, table, keys, need, turn}
-use Rattle.gl_query.proofs.Quiet.{length-keys}
-use Rattle.gl_calculus.specs.Limits.{max_demanded}
-use Rattle.gl_calculus.specs.Grid.{Range}
-use Rattle.gl_calculus.specs.Formula.{Cells}
-use Rattle.gl_calculus.specs.Value.{Oracle}
-use Rattle.gl_calculus.specs.Key as K
-use Rattle.gl_calculus.specs.Key.{same_key}
-use Rattle.gl_calculus.specs.Memory.{Notes}
-use Rattle.gl_ahead.specs.Reading.{keys_from}
+use Rattle.gl_calculus.specs.Computation.Query.{Query, Need, found}
+use Rattle.gl_machine.specs.Machine as Machine
+use Rattle.gl_machine.specs.Machine.{at, table, keys, need, turn}
+use Rattle.laws_calculus.proofs.Query.Quiet.{length-keys}
+use Rattle.gl_calculus.specs.Grid.Limits.{max_demanded}
+use Rattle.gl_calculus.specs.Grid.Grid.{Range}
+use Rattle.gl_calculus.specs.Formulas.Formula.{Cells}
+use Rattle.gl_calculus.specs.Values.Value.{Oracle}
+use Rattle.gl_calculus.specs.Evaluation.Key as K
+use Rattle.gl_calculus.specs.Evaluation.Key.{same_key}
+use Rattle.gl_calculus.specs.Calculation.Memory.{Notes}
+use Rattle.gl_machine.specs.Ahead.Reading.{keys_from}
 use Rattle.gl_demand.specs.View.{key_tree}
 use Rattle.gl_demand.specs.Lacking.{IsNext}
 use Rattle.gl_demand.specs.declared.lacking.Lacked.{Lacked}

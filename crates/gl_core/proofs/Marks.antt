@@ -1,11 +1,11 @@
 -- Marked numbers, and what seeds reach through rows.
 use Rattle.std.proofs.Common.{◌≡◌, ◌⊎◌, ◌≢◌, ℕ, zero, suc, ◌+◌, ◌<◌, Bool, true, false, not, ◌&&◌, ◌||◌, nat_eq, if◌then◌else◌, List, [], ◌∷◌, ◌++◌, length, take, filter, set, slice_get, Some, refl, sym, ap, ◌∙◌, subst, inl, inr, eqb-true, eq-eqb}
-use Rattle.gl_query.specs.Lists.{Member, AreDistinct}
-use Rattle.gl_query.specs.Remembered.{Note}
-use Rattle.gl_query.specs.InOrder.{AreOrdered}
-use Rattle.gl_query.proofs.Orders.{ordered_closed}
-use Rattle.gl_calculus.specs.Grid.{Range}
-use Rattle.gl_calculus.specs.Key as K
+use Rattle.gl_calculus.specs.Computation.Lists.{Member, AreDistinct}
+use Rattle.gl_calculus.specs.Computation.Notes.{Note}
+use Rattle.gl_machine.specs.InOrder.{AreOrdered}
+use Rattle.laws_calculus.proofs.Query.Orders.{ordered_closed}
+use Rattle.gl_calculus.specs.Grid.Grid.{Range}
+use Rattle.gl_calculus.specs.Evaluation.Key as K
 use Rattle.gl_support.specs.Reach.{is_marked, has}
 use Rattle.gl_support.specs.Rows.{notes_of, AreFollowed, AreReached}
 use Rattle.gl_support.specs.declared.row.Row.{Row}

@@ -1,14 +1,14 @@
 -- What keys that wait were reading.
 use Rattle.std.proofs.Common.{◌≡◌, ◌⊎◌, ◌++◌, ◌∷◌, [], ℕ, zero, suc, List, map, set, slice_get, Option, Some, inl, inr, refl, sym, ap, ◌∙◌, subst}
-use Rattle.gl_query.specs.Query.{Query, Need, found}
-use Rattle.gl_calculus.specs.Grid.{Range}
-use Rattle.gl_calculus.specs.Formula.{Cells}
-use Rattle.gl_calculus.specs.Value.{Oracle}
-use Rattle.gl_calculus.specs.Key as K
-use Rattle.gl_ahead.specs.Ahead.{first_lacked, IsAhead, LackSame}
-use Rattle.gl_ahead.specs.Demands.{is_value}
-use Rattle.gl_ahead.specs.Reading.{Ahead, Nothing, keys_from}
-use Rattle.gl_ahead.proofs.Onward.{ahead_onward}
+use Rattle.gl_calculus.specs.Computation.Query.{Query, Need, found}
+use Rattle.gl_calculus.specs.Grid.Grid.{Range}
+use Rattle.gl_calculus.specs.Formulas.Formula.{Cells}
+use Rattle.gl_calculus.specs.Values.Value.{Oracle}
+use Rattle.gl_calculus.specs.Evaluation.Key as K
+use Rattle.gl_machine.specs.Ahead.Ahead.{first_lacked, IsAhead, LackSame}
+use Rattle.gl_machine.specs.Ahead.Demands.{is_value}
+use Rattle.gl_machine.specs.Ahead.Reading.{Ahead, Nothing, keys_from}
+use Rattle.laws_calculus.proofs.Ahead.Onward.{ahead_onward}
 use Rattle.gl_demand.specs.Marks.{PlainMark, mark_tree, mark_trees}
 use Rattle.gl_core.specs.Marks.{IsMark, MarksStay, MarksBy, TellNothing}
 use Rattle.gl_demand.specs.declared.mark.Mark.{Mark}

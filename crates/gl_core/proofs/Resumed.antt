@@ -1,20 +1,22 @@
 -- A core that begins with kept notes.
 use Rattle.std.proofs.Common.{◌≡◌, ◌⊎◌, ℕ, ◌<◌, Bool, true, List, [], ◌∷◌, ◌++◌, ◌||◌, cond, false, length, take, slice_get, Some, refl, sym, ap, ◌∙◌, subst, inl, inr, arith, length-append}
-use Rattle.gl_query.specs.Lists.{Member, AreDistinct, MoreThan}
-use Rattle.gl_query.specs.Remembered.{Note, AreTrue, IsReached, Here, Through}
-use Rattle.gl_query.specs.Machine as Machine
-use Rattle.gl_query.specs.Machine.{at, table, keys, Demanded, Seed, IsKnown, IsSound}
-use Rattle.gl_query.proofs.Started.{sound}
-use Rattle.gl_query.proofs.Reached.{reached}
-use Rattle.gl_calculus.specs.Limits.{max_demanded}
-use Rattle.gl_calculus.specs.Grid.{Range}
-use Rattle.gl_calculus.specs.Formula.{Version, Cells}
-use Rattle.gl_calculus.specs.Value.{Oracle}
-use Rattle.gl_calculus.specs.Key as K
-use Rattle.gl_calculus.specs.Key.{same_key}
-use Rattle.gl_calculus.specs.Evaluation.{program}
-use Rattle.gl_calculus.specs.Sound.{IsProperKey}
-use Rattle.gl_calculus.specs.Memory.{Notes}
+use Rattle.gl_calculus.specs.Computation.Lists.{Member, AreDistinct, MoreThan}
+use Rattle.gl_calculus.specs.Computation.Notes.{Note, IsReached, Here, Through}
+use Rattle.gl_machine.specs.Remembered.{AreTrue}
+use Rattle.gl_machine.specs.Machine as Machine
+use Rattle.gl_machine.specs.Machine.{at, table, keys, IsKnown, IsSound}
+use Rattle.gl_calculus.specs.Computation.Demanded.{Demanded, Seed}
+use Rattle.laws_calculus.proofs.Query.Started.{sound}
+use Rattle.laws_calculus.proofs.Query.Reached.{reached}
+use Rattle.gl_calculus.specs.Grid.Limits.{max_demanded}
+use Rattle.gl_calculus.specs.Grid.Grid.{Range}
+use Rattle.gl_calculus.specs.Formulas.Formula.{Version, Cells}
+use Rattle.gl_calculus.specs.Values.Value.{Oracle}
+use Rattle.gl_calculus.specs.Evaluation.Key as K
+use Rattle.gl_calculus.specs.Evaluation.Key.{same_key}
+use Rattle.gl_calculus.specs.Evaluation.Evaluation.{program}
+use Rattle.gl_calculus.specs.Evaluation.Sound.{IsProperKey}
+use Rattle.gl_calculus.specs.Calculation.Memory.{Notes}
 use Rattle.gl_calculus.proofs.Tests.{key_equality}
 use Rattle.gl_support.specs.Rows.{notes_of}
 use Rattle.gl_support.specs.declared.row.Row.{Row}

@@ -1,8 +1,8 @@
 -- A core that begins with its seeds alone.
 use Rattle.std.proofs.Common.{slice_index, ◌≡◌, ℕ, zero, suc, ◌<◌, List, [], ◌∷◌, ◌++◌, length, refl, sym, ap, ◌∙◌, subst, arith}
-use Rattle.gl_query.specs.Lists.{AreDistinct}
-use Rattle.gl_query.specs.Machine as Machine
-use Rattle.gl_calculus.specs.Key as K
+use Rattle.gl_calculus.specs.Computation.Lists.{AreDistinct}
+use Rattle.gl_machine.specs.Machine as Machine
+use Rattle.gl_calculus.specs.Evaluation.Key as K
 use Rattle.gl_core.specs.State.{entries, status_tree}
 use Rattle.gl_core.specs.Numbers.{Each, key_at, keys_at, outcome_at, AreNumbers}
 use Rattle.gl_core.specs.Ledger.{IsLedger}

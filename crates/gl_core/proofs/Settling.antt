@@ -1,14 +1,14 @@
 -- Picks of keys without a note.
 use Rattle.std.proofs.Common.{◌≡◌, ℕ, ◌<◌, List, [], ◌∷◌, ◌++◌, length, set, slice_get, slice_index, Some, refl, sym, ap, ◌∙◌, subst, IsTrue}
-use Rattle.gl_query.specs.Lists.{Member}
-use Rattle.gl_query.specs.Query.{Ready}
-use Rattle.gl_query.specs.Machine as Machine
-use Rattle.gl_query.specs.Machine.{at}
-use Rattle.gl_calculus.specs.Limits.{max_demanded}
-use Rattle.gl_calculus.specs.Grid.{Range}
-use Rattle.gl_calculus.specs.Key as K
-use Rattle.gl_calculus.specs.Key.{same_key}
-use Rattle.gl_calculus.specs.Sound.{is_outcome_of}
+use Rattle.gl_calculus.specs.Computation.Lists.{Member}
+use Rattle.gl_calculus.specs.Computation.Query.{Ready}
+use Rattle.gl_machine.specs.Machine as Machine
+use Rattle.gl_machine.specs.Machine.{at}
+use Rattle.gl_calculus.specs.Grid.Limits.{max_demanded}
+use Rattle.gl_calculus.specs.Grid.Grid.{Range}
+use Rattle.gl_calculus.specs.Evaluation.Key as K
+use Rattle.gl_calculus.specs.Evaluation.Key.{same_key}
+use Rattle.gl_calculus.specs.Evaluation.Sound.{is_outcome_of}
 use Rattle.gl_support.specs.declared.row.Row.{Row}
 use Rattle.gl_demand.specs.View.{outcome_tree}
 use Rattle.gl_demand.specs.Sound.{AreSoundKeys, IsSoundFound}

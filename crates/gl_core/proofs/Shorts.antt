@@ -2,13 +2,13 @@
 use Rattle.std.proofs.Common.{◌≡◌, ℕ, zero, suc, eqb, ◌<◌, ◌^◌, Bool, true, false, cond, List, [], ◌∷◌, ◌++◌, length, slice_get, position, Option, Some, None, option_map, Result, Ok, Err, OnOk, OnErr, IsTrue, ◌⊎◌, inl, inr, refl, sym, ap, subst, ◌∙◌}
 use Rattle.std.specs.List.{list_any}
 use Rattle.std.proofs.lemmas.Bool.{eqb-true, eq-eqb}
-use Rattle.gl_query.specs.Lists.{IsEquality, Member, AreDistinct}
-use Rattle.gl_calculus.specs.Grid.{Addr, same_addr}
-use Rattle.gl_calculus.specs.Value as V
-use Rattle.gl_calculus.specs.Key as K
-use Rattle.gl_calculus.specs.Key.{same_key}
-use Rattle.gl_calculus.specs.Same.{same_sheet, same_frame}
-use Rattle.gl_calculus.specs.Sound.{is_sound_key}
+use Rattle.gl_calculus.specs.Computation.Lists.{IsEquality, Member, AreDistinct}
+use Rattle.gl_calculus.specs.Grid.Grid.{Addr, same_addr}
+use Rattle.gl_calculus.specs.Values.Value as V
+use Rattle.gl_calculus.specs.Evaluation.Key as K
+use Rattle.gl_calculus.specs.Evaluation.Key.{same_key}
+use Rattle.gl_calculus.specs.Values.Same.{same_sheet, same_frame}
+use Rattle.gl_calculus.specs.Evaluation.Sound.{is_sound_key}
 use Rattle.gl_calculus.proofs.Tests.{both, and_true, addr_exact, addr_same, sheet_equality, frame_equality, key_equality}
 use Rattle.gl_intern.specs.Growth.{IsLonger}
 use Rattle.gl_intern.specs.Numbered.{Numbered, insert_key, firsts, seconds, put_pair}

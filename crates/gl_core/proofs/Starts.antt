@@ -1,6 +1,6 @@
 -- A core in which each key is resolved by its row, or idle.
 use Rattle.std.proofs.Common.{◌≡◌, ℕ, ◌<◌, ◌≤◌, length, slice_get, slice_index, Some, sym, ap, ◌∙◌, arith}
-use Rattle.gl_calculus.specs.Limits.{max_demanded}
+use Rattle.gl_calculus.specs.Grid.Limits.{max_demanded}
 use Rattle.gl_core.specs.Statuses.{AreCounted}
 use Rattle.gl_core.specs.Numbers.{Each, IsIndex}
 use Rattle.gl_core.specs.Ledger.{IsLedger}

@@ -1,15 +1,15 @@
 -- Picks of keys with notes, and what they keep.
 use Rattle.std.proofs.Common.{◌≡◌, ℕ, zero, suc, get_or, ◌<◌, ◌≤◌, true, false, List, [], ◌∷◌, length, set, slice_get, slice_index, Option, Some, None, Result, Ok, Err, OnOk, OnErr, IfOk, IfSome, inl, inr, refl, sym, ap, ◌∙◌, subst}
-use Rattle.gl_query.specs.Lists.{Member}
-use Rattle.gl_query.specs.Query.{Query, found, IsTrueTable}
-use Rattle.gl_query.specs.Reads.{first_without, end_by_note}
-use Rattle.gl_query.specs.Remembered.{AreTrue}
-use Rattle.gl_query.specs.Machine as Machine
-use Rattle.gl_query.specs.Machine.{at, table}
-use Rattle.gl_calculus.specs.Limits.{max_demanded}
-use Rattle.gl_calculus.specs.Grid.{Range}
-use Rattle.gl_calculus.specs.Key as K
-use Rattle.gl_calculus.specs.Key.{same_key}
+use Rattle.gl_calculus.specs.Computation.Lists.{Member}
+use Rattle.gl_calculus.specs.Computation.Query.{Query, found, IsTrueTable}
+use Rattle.gl_machine.specs.Reads.{first_without, end_by_note}
+use Rattle.gl_machine.specs.Remembered.{AreTrue}
+use Rattle.gl_machine.specs.Machine as Machine
+use Rattle.gl_machine.specs.Machine.{at, table}
+use Rattle.gl_calculus.specs.Grid.Limits.{max_demanded}
+use Rattle.gl_calculus.specs.Grid.Grid.{Range}
+use Rattle.gl_calculus.specs.Evaluation.Key as K
+use Rattle.gl_calculus.specs.Evaluation.Key.{same_key}
 use Rattle.gl_support.specs.declared.row.Row.{Row}
 use Rattle.gl_demand.specs.View.{outcome_tree}
 use Rattle.gl_demand.specs.declared.outcome.Outcome.{Outcome}

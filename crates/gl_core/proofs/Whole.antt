@@ -1,11 +1,11 @@
 -- Lists that have all there is: as many seeds as keys, or as many notes as keys that have outcomes.
 use Rattle.std.proofs.Common.{◌≡◌, ◌⊎◌, ◌≢◌, ℕ, zero, suc, ◌<◌, ◌≤◌, Bool, true, false, nat_eq, if◌then◌else◌, List, [], ◌∷◌, length, filter, slice_get, Some, refl, sym, ap, ◌∙◌, subst, inl, inr, arith, append-nil, eqb-true}
 use Rattle.std.specs.List.{list_all}
-use Rattle.gl_query.specs.Lists.{Member, AreDistinct}
-use Rattle.gl_query.specs.Remembered.{Note, Here}
-use Rattle.gl_query.specs.InOrder.{AreOrdered}
-use Rattle.gl_query.proofs.Quiet.{distinct_within}
-use Rattle.gl_calculus.specs.Grid.{Range}
+use Rattle.gl_calculus.specs.Computation.Lists.{Member, AreDistinct}
+use Rattle.gl_calculus.specs.Computation.Notes.{Note, Here}
+use Rattle.gl_machine.specs.InOrder.{AreOrdered}
+use Rattle.laws_calculus.proofs.Query.Quiet.{distinct_within}
+use Rattle.gl_calculus.specs.Grid.Grid.{Range}
 use Rattle.gl_calculus.proofs.Tests.{both}
 use Rattle.gl_support.specs.Reach.{has}
 use Rattle.gl_support.specs.Rows.{notes_of}

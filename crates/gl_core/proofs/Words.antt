@@ -3,8 +3,8 @@ use Rattle.std.proofs.Common.{◌≡◌, ℕ, eqb, Bool, true, false, cond, List
 use Rattle.std.proofs.lemmas.Bool.{eqb-true, eq-eqb}
 use Rattle.std.specs.Map.{lookup}
 use Rattle.indexmap.specs.IndexMap.{insert_entry}
-use Rattle.gl_query.specs.Lists.{Member}
-use Rattle.gl_calculus.specs.Key as K
+use Rattle.gl_calculus.specs.Computation.Lists.{Member}
+use Rattle.gl_calculus.specs.Evaluation.Key as K
 use Rattle.gl_intern.specs.Numbered.{Numbered, seconds}
 use Rattle.gl_core.specs.Shorts.{IsShort}
 use Rattle.gl_core.specs.declared.short.Short.{Short}

@@ -1,12 +1,13 @@
 -- What picks and runs answer, and the steps that they take.
 use Rattle.std.specs.Prelude.{◌≡◌, ◌⊎◌, ℕ, ◌+◌, ◌≤◌, List, slice_get, Option, Some, None, Bool, cond, IsTrue, IfSome, IsSome}
-use Rattle.gl_query.specs.Query.{Query}
-use Rattle.gl_query.specs.Machine as Machine
-use Rattle.gl_query.specs.Costs.{Counted, counted_keys, unnoted, AreReads, sum_reads}
-use Rattle.gl_calculus.specs.Grid.{Range}
-use Rattle.gl_calculus.specs.Key as K
-use Rattle.gl_calculus.specs.Key.{same_key}
-use Rattle.gl_calculus.specs.Sound.{is_sound_outcome, is_outcome_of}
+use Rattle.gl_calculus.specs.Computation.Query.{Query}
+use Rattle.gl_machine.specs.Machine as Machine
+use Rattle.gl_calculus.specs.Steps.Counted.{Counted, counted_keys, AreReads, sum_reads}
+use Rattle.gl_machine.specs.Costs.{unnoted}
+use Rattle.gl_calculus.specs.Grid.Grid.{Range}
+use Rattle.gl_calculus.specs.Evaluation.Key as K
+use Rattle.gl_calculus.specs.Evaluation.Key.{same_key}
+use Rattle.gl_calculus.specs.Evaluation.Sound.{is_sound_outcome, is_outcome_of}
 use Rattle.gl_demand.specs.View.{outcome_tree}
 use Rattle.gl_demand.specs.Steps.{one_more}
 use Rattle.gl_core.specs.declared.answers.Picked.{Picked}

@@ -1,16 +1,16 @@
 -- What holds of each core, and what makes it one for a sheet, an oracle and a version.
 use Rattle.std.specs.Prelude.{◌≡◌, ℕ, ◌≤◌, length, slice_get, Some, true}
-use Rattle.gl_query.specs.Lists.{Member, AreDistinct}
-use Rattle.gl_query.specs.Machine as Machine
-use Rattle.gl_query.specs.Laws.{IsRight}
-use Rattle.gl_query.specs.Remembered.{AreTrue}
-use Rattle.gl_calculus.specs.Limits.{max_demanded}
-use Rattle.gl_calculus.specs.Formula.{Version, Cells}
-use Rattle.gl_calculus.specs.Value.{Oracle}
-use Rattle.gl_calculus.specs.Key as K
-use Rattle.gl_calculus.specs.Key.{same_key}
-use Rattle.gl_calculus.specs.Evaluation.{program}
-use Rattle.gl_calculus.specs.Sound.{IsProperKey}
+use Rattle.gl_calculus.specs.Computation.Lists.{Member, AreDistinct}
+use Rattle.gl_machine.specs.Machine as Machine
+use Rattle.gl_machine.specs.Quiet.{IsRight}
+use Rattle.gl_machine.specs.Remembered.{AreTrue}
+use Rattle.gl_calculus.specs.Grid.Limits.{max_demanded}
+use Rattle.gl_calculus.specs.Formulas.Formula.{Version, Cells}
+use Rattle.gl_calculus.specs.Values.Value.{Oracle}
+use Rattle.gl_calculus.specs.Evaluation.Key as K
+use Rattle.gl_calculus.specs.Evaluation.Key.{same_key}
+use Rattle.gl_calculus.specs.Evaluation.Evaluation.{program}
+use Rattle.gl_calculus.specs.Evaluation.Sound.{IsProperKey}
 use Rattle.gl_demand.specs.Marks.{PlainMark}
 use Rattle.gl_core.specs.Held.{Held}
 use Rattle.gl_core.specs.Marks.{IsMark}

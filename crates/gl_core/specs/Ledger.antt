@@ -1,6 +1,6 @@
 -- Notes in a ledger, and what it keeps.
 use Rattle.std.specs.Prelude.{◌<◌, ◌-◌, ◌^◌, length}
-use Rattle.gl_calculus.specs.Memory.{Notes}
+use Rattle.gl_calculus.specs.Calculation.Memory.{Notes}
 use Rattle.gl_core.specs.Numbers.{Each, row_notes, AreBooked, IsBelow, IsIndex, numbers_of}
 use Rattle.gl_core.specs.State.{AreSoundNotes}
 use Rattle.gl_core.specs.declared.ledger.Ledger.{Ledger}

@@ -3,15 +3,15 @@ use Rattle.std.specs.Prelude.{◌≡◌, ◌⊎◌, ℕ, List, slice_get, Option
 use Rattle.std.proofs.Common.{inl, inr, refl}
 use base.Stored.{Coded, coded_unit, coded⊎, coded×, coded_ℕ}
 use Rattle.std.specs.Coded.{code_by}
-use Rattle.gl_query.specs.Query.{Query}
-use Rattle.gl_calculus.specs.Grid.{Addr, Range}
-use Rattle.gl_calculus.specs.Formula.{Cells}
-use Rattle.gl_calculus.specs.Value.{Oracle, Frame}
-use Rattle.gl_calculus.specs.Codes.{coded_frame, coded_range, coded_addr}
-use Rattle.gl_calculus.specs.Key as K
-use Rattle.gl_ahead.specs.Ahead.{IsAhead}
-use Rattle.gl_ahead.specs.Demands.{is_value}
-use Rattle.gl_ahead.specs.Reading.{Ahead, Nothing, Area, Round, Own, keys_from}
+use Rattle.gl_calculus.specs.Computation.Query.{Query}
+use Rattle.gl_calculus.specs.Grid.Grid.{Addr, Range}
+use Rattle.gl_calculus.specs.Formulas.Formula.{Cells}
+use Rattle.gl_calculus.specs.Values.Value.{Oracle, Frame}
+use Rattle.gl_machine.specs.Codes.{coded_frame, coded_range, coded_addr}
+use Rattle.gl_calculus.specs.Evaluation.Key as K
+use Rattle.gl_machine.specs.Ahead.Ahead.{IsAhead}
+use Rattle.gl_machine.specs.Ahead.Demands.{is_value}
+use Rattle.gl_machine.specs.Ahead.Reading.{Ahead, Nothing, Area, Round, Own, keys_from}
 use Rattle.gl_demand.specs.Marks.{PlainMark}
 
 -- the keys from there on are ahead of the query, over these outcomes

@@ -1,18 +1,18 @@
 -- What picks of the key at a place need, and what they do.
 use Rattle.std.specs.Prelude.{◌≡◌, ℕ, ◌<◌, length, slice_get, Option, Some, Result, OnOk, OnErr, IfOk}
-use Rattle.gl_query.specs.Lists.{Member}
-use Rattle.gl_query.specs.Query.{Query, Found, Need, found, IsTrueTable}
-use Rattle.gl_query.specs.Remembered.{AreTrue}
-use Rattle.gl_query.specs.Machine as Machine
-use Rattle.gl_query.specs.Machine.{table}
-use Rattle.gl_calculus.specs.Limits.{max_demanded}
-use Rattle.gl_calculus.specs.Grid.{Range}
-use Rattle.gl_calculus.specs.Formula.{Version, Cells}
-use Rattle.gl_calculus.specs.Value.{Oracle}
-use Rattle.gl_calculus.specs.Key as K
-use Rattle.gl_calculus.specs.Key.{same_key}
-use Rattle.gl_calculus.specs.Evaluation.{program}
-use Rattle.gl_calculus.specs.Sound.{IsProperKey}
+use Rattle.gl_calculus.specs.Computation.Lists.{Member}
+use Rattle.gl_calculus.specs.Computation.Query.{Query, Found, Need, found, IsTrueTable}
+use Rattle.gl_machine.specs.Remembered.{AreTrue}
+use Rattle.gl_machine.specs.Machine as Machine
+use Rattle.gl_machine.specs.Machine.{table}
+use Rattle.gl_calculus.specs.Grid.Limits.{max_demanded}
+use Rattle.gl_calculus.specs.Grid.Grid.{Range}
+use Rattle.gl_calculus.specs.Formulas.Formula.{Version, Cells}
+use Rattle.gl_calculus.specs.Values.Value.{Oracle}
+use Rattle.gl_calculus.specs.Evaluation.Key as K
+use Rattle.gl_calculus.specs.Evaluation.Key.{same_key}
+use Rattle.gl_calculus.specs.Evaluation.Evaluation.{program}
+use Rattle.gl_calculus.specs.Evaluation.Sound.{IsProperKey}
 use Rattle.gl_plane.specs.declared.NoMemory.{NoMemory}
 use Rattle.gl_support.specs.declared.row.Row.{Row}
 use Rattle.gl_demand.specs.Marks.{PlainMark}

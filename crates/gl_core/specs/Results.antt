@@ -1,9 +1,9 @@
 -- What a table of a round keeps.
 use Rattle.std.specs.Prelude.{[], Option, Some, None, ◌∷◌, if◌then◌else◌}
-use Rattle.gl_query.specs.InOrder.{AreOrdered}
-use Rattle.gl_calculus.specs.Key as K
-use Rattle.gl_calculus.specs.Key.{same_key}
-use Rattle.gl_calculus.specs.Memory.{Notes}
+use Rattle.gl_machine.specs.InOrder.{AreOrdered}
+use Rattle.gl_calculus.specs.Evaluation.Key as K
+use Rattle.gl_calculus.specs.Evaluation.Key.{same_key}
+use Rattle.gl_calculus.specs.Calculation.Memory.{Notes}
 use Rattle.gl_core.specs.State.{AreSoundNotes}
 
 -- the outcome that the notes have of the key

@@ -1,9 +1,9 @@
 -- What a round knows at its start.
 use Rattle.std.specs.Prelude.{◌≡◌, ℕ, ◌<◌, ◌++◌, List, length}
-use Rattle.gl_query.specs.Lists.{Member, AreDistinct}
-use Rattle.gl_query.specs.Remembered.{Note, IsReached}
-use Rattle.gl_calculus.specs.Grid.{Range}
-use Rattle.gl_calculus.specs.Key as K
+use Rattle.gl_calculus.specs.Computation.Lists.{Member, AreDistinct}
+use Rattle.gl_calculus.specs.Computation.Notes.{Note, IsReached}
+use Rattle.gl_calculus.specs.Grid.Grid.{Range}
+use Rattle.gl_calculus.specs.Evaluation.Key as K
 use Rattle.gl_support.specs.Rows.{notes_of}
 use Rattle.gl_demand.specs.declared.outcome.Outcome.{Outcome}
 use Rattle.gl_core.specs.Numbers.{Each, keys_at, numbers_of}

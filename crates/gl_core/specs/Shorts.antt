@@ -1,9 +1,9 @@
 -- The short forms of keys, by the numbers of frames and sheet values.
 use Rattle.std.specs.Prelude.{List, Option, Some, option_map, position}
-use Rattle.gl_calculus.specs.Grid.{Addr}
-use Rattle.gl_calculus.specs.Value as V
-use Rattle.gl_calculus.specs.Key as K
-use Rattle.gl_calculus.specs.Same.{same_sheet, same_frame}
+use Rattle.gl_calculus.specs.Grid.Grid.{Addr}
+use Rattle.gl_calculus.specs.Values.Value as V
+use Rattle.gl_calculus.specs.Evaluation.Key as K
+use Rattle.gl_calculus.specs.Values.Same.{same_sheet, same_frame}
 use Rattle.gl_intern.specs.Growth.{IsLonger}
 use Rattle.gl_intern.specs.Numbered.{Numbered, pairs, seconds, AreAt}
 use Rattle.gl_demand.specs.View.{key_tree}

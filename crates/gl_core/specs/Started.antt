@@ -1,8 +1,8 @@
 -- What a core holds that was just started.
 use Rattle.std.specs.Prelude.{◌≡◌, List, length}
-use Rattle.gl_query.specs.Machine as Machine
-use Rattle.gl_calculus.specs.Key as K
-use Rattle.gl_calculus.specs.Memory.{Notes}
+use Rattle.gl_machine.specs.Machine as Machine
+use Rattle.gl_calculus.specs.Evaluation.Key as K
+use Rattle.gl_calculus.specs.Calculation.Memory.{Notes}
 use Rattle.gl_core.specs.Held.{Held}
 use Rattle.gl_core.specs.State.{state_of, notes_in}
 use Rattle.gl_core.specs.Marks.{TellNothing}

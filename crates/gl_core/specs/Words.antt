@@ -1,9 +1,9 @@
 -- The words of keys in copies, by which their numbers are guessed. Equal keys have equal words.
 use Rattle.std.specs.Prelude.{ℕ, ◌≡◌, List, map, Option, Some, None}
-use Rattle.gl_query.specs.Lists.{Member}
-use Rattle.gl_calculus.specs.Grid.{Addr}
-use Rattle.gl_calculus.specs.Value as V
-use Rattle.gl_calculus.specs.Key as K
+use Rattle.gl_calculus.specs.Computation.Lists.{Member}
+use Rattle.gl_calculus.specs.Grid.Grid.{Addr}
+use Rattle.gl_calculus.specs.Values.Value as V
+use Rattle.gl_calculus.specs.Evaluation.Key as K
 use Rattle.gl_plane.specs.Digest.{mixed, address_word}
 use Rattle.gl_demand.specs.Outline.{listed, level_word, oracle_word}
 

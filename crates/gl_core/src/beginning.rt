@@ -1,8 +1,8 @@
 //! A state in which keys with notes are resolved.
 ghost use Rattle.std.specs.Prelude.{◌≡◌, ◌+◌, ◌^◌, ◌<◌, ◌≤◌, ◌++◌, ◌∷◌, [], ℕ, length, vec_len};
 ghost use Rattle.std.specs.Prelude.{vec_capacity, IfOk};
-ghost use Rattle.gl_query.specs.Lists.{AreDistinct};
-ghost use Rattle.gl_calculus.specs.Limits.{max_demanded};
+ghost use Rattle.gl_calculus.specs.Computation.Lists.{AreDistinct};
+ghost use Rattle.gl_calculus.specs.Grid.Limits.{max_demanded};
 ghost use Rattle.gl_core.specs.Table.{IsCore, AreBegun, status_by};
 ghost use Rattle.gl_core.specs.{Numbers.Each, Numbers.IsIndex, Ledger.IsLedger, Tree.HasPlace};
 ghost use Rattle.gl_core.specs.{Marks.TellNothing, Statuses.AreCounted};

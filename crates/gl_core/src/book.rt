@@ -1,10 +1,11 @@
 //! Keys by numbers.
 ghost use Rattle.std.specs.Prelude.{◌≡◌, ◌<◌, ◌^◌, ◌⊎◌, [], Some, None, IsTrue, List, length};
 ghost use Rattle.std.specs.Prelude.{slice_get, OnErr, IfOk};
-ghost use Rattle.gl_query.specs.Lists.{Member};
+ghost use Rattle.gl_calculus.specs.Computation.Lists.{Member};
 ghost use Rattle.std.specs.Coded.{codes};
-ghost use Rattle.gl_calculus.specs.{Codes.coded_key, Sound.is_sound_key};
-ghost use Rattle.gl_calculus.specs.Key as K;
+ghost use Rattle.gl_machine.specs.Codes.{coded_key};
+ghost use Rattle.gl_calculus.specs.Evaluation.Sound.{is_sound_key};
+ghost use Rattle.gl_calculus.specs.Evaluation.Key as K;
 ghost use Rattle.gl_intern.specs.Numbered.{seconds};
 ghost use Rattle.gl_demand.specs.View.{key_tree};
 ghost use Rattle.gl_core.specs.Numbers.{IsNumber, AreBooked, GetsNumber, Grows};

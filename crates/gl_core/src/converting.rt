@@ -1,7 +1,7 @@
 //! Ledgers from tables of notes, and back.
 ghost use Rattle.std.specs.Prelude.{◌≡◌, ◌<◌, ◌++◌, ◌∷◌, [], false, Some, length, map, slice_get};
 ghost use Rattle.std.specs.Prelude.{OnOk, IfOk};
-ghost use Rattle.gl_calculus.specs.Grid.{Range};
+ghost use Rattle.gl_calculus.specs.Grid.Grid.{Range};
 ghost use Rattle.gl_memo.specs.{Notes.notes_of, declared.memo.Noted.Noted};
 ghost use Rattle.gl_support.specs.Rows.{note_of};
 ghost use Rattle.gl_demand.specs.{View.key_tree, declared.key.Key.Key};

@@ -1,8 +1,10 @@
 //! Notes by numbers.
 ghost use Rattle.std.specs.Prelude.{◌≡◌, ◌<◌, ◌-◌, ◌^◌, ◌++◌, ◌∷◌, [], Some, IsTrue, length, map};
 ghost use Rattle.std.specs.Prelude.{slice_get, OnOk, OnErr, IfOk};
-ghost use Rattle.gl_query.specs.{Lists.Member, Lists.AreDistinct, InOrder.kept_after};
-ghost use Rattle.gl_calculus.specs.{Key.same_key, Sound.is_sound_key};
+ghost use Rattle.gl_calculus.specs.Computation.Lists.{Member, AreDistinct};
+ghost use Rattle.gl_machine.specs.InOrder.{kept_after};
+ghost use Rattle.gl_calculus.specs.Evaluation.Key.{same_key};
+ghost use Rattle.gl_calculus.specs.Evaluation.Sound.{is_sound_key};
 ghost use Rattle.gl_plane.specs.Changes.{reaches};
 ghost use Rattle.gl_demand.specs.{View.key_tree, Sound.AreSoundKeys};
 ghost use Rattle.gl_core.specs.Numbers.{Each, named, numbers_of, AreNumbers, Grows, IsIndex};

@@ -1,9 +1,9 @@
 //! The places of keys by their short forms.
 ghost use Rattle.std.specs.Prelude.{◌≡◌, ◌<◌, ◌^◌, ◌⊎◌, Some, None, IsTrue, length, position};
 ghost use Rattle.std.specs.Prelude.{slice_get, OnOk, OnErr, IfOk};
-ghost use Rattle.gl_query.specs.Lists.{Member};
-ghost use Rattle.gl_calculus.specs.Sound.{is_sound_key};
-ghost use Rattle.gl_calculus.specs.Key as K;
+ghost use Rattle.gl_calculus.specs.Computation.Lists.{Member};
+ghost use Rattle.gl_calculus.specs.Evaluation.Sound.{is_sound_key};
+ghost use Rattle.gl_calculus.specs.Evaluation.Key as K;
 ghost use Rattle.gl_demand.specs.View.{key_tree};
 ghost use Rattle.gl_intern.specs.Numbered.{firsts, seconds, put_pair};
 ghost use Rattle.gl_core.specs.{Numbers.Grows, Shorts.key_pairs, Shorts.IsShort};

@@ -1,10 +1,13 @@
 //! The results of a round that are kept for the next one.
 ghost use Rattle.std.specs.Prelude.{◌≡◌, [], length, option_map, OnOk, OnErr, IfOk, IfSome};
 ghost use Rattle.std.specs.Option.{option_copied};
-ghost use Rattle.gl_query.specs.InOrder.{AreOrdered, note_keys, kept_after};
-ghost use Rattle.gl_query.specs.{Lists.AreDistinct, Query.Ready, Remembered.AreClosed};
-ghost use Rattle.gl_query.specs.{Remembered.AreTheKept};
-ghost use Rattle.gl_calculus.specs.Key.{same_key};
+ghost use Rattle.gl_machine.specs.InOrder.{AreOrdered, kept_after};
+ghost use Rattle.gl_calculus.specs.Computation.Notes.{note_keys};
+ghost use Rattle.gl_calculus.specs.Computation.Lists.{AreDistinct};
+ghost use Rattle.gl_calculus.specs.Computation.Query.{Ready};
+ghost use Rattle.gl_machine.specs.Remembered.{AreClosed};
+ghost use Rattle.gl_machine.specs.Remembered.{AreTheKept};
+ghost use Rattle.gl_calculus.specs.Evaluation.Key.{same_key};
 ghost use Rattle.gl_plane.specs.Changes.{reaches};
 ghost use Rattle.gl_demand.specs.{View.key_tree, View.outcome_tree, Sound.IsSoundFound};
 ghost use Rattle.gl_core.specs.{Ledger.written, Ledger.IsLedger, Results.outcome_in};
@@ -39,7 +42,8 @@ impl Drop for Results {
 
 impl Model for Results {
     ghost use Rattle.std.specs.Coded.{codes};
-    ghost use Rattle.gl_calculus.specs.{Codes.coded_note, Memory.Notes};
+    ghost use Rattle.gl_machine.specs.Codes.{coded_note};
+    ghost use Rattle.gl_calculus.specs.Calculation.Memory.{Notes};
     ghost use Rattle.gl_core.specs.{Ledger.written, Ledger.IsLedger, Results.AreResults};
 
     ghost Value = { Notes };

@@ -2,10 +2,12 @@
 ghost use Rattle.std.specs.Prelude.{◌≡◌, ◌<◌, ◌++◌, ◌&&◌, ◌∷◌, [], ℕ, List, All, Some, not};
 ghost use Rattle.std.specs.Prelude.{if◌then◌else◌, length, map, filter, slice_get, IfOk, OnOk};
 ghost use Rattle.std.specs.Prelude.{IfErr, IfSome, vec_len};
-ghost use Rattle.gl_query.specs.{Lists.AreDistinct, InOrder.AreOrdered};
-ghost use Rattle.gl_calculus.specs.{Limits.max_demanded, Grid.Range};
-ghost use Rattle.gl_calculus.specs.Key as K;
-ghost use Rattle.gl_calculus.specs.Value as V;
+ghost use Rattle.gl_calculus.specs.Computation.Lists.{AreDistinct};
+ghost use Rattle.gl_machine.specs.InOrder.{AreOrdered};
+ghost use Rattle.gl_calculus.specs.Grid.Limits.{max_demanded};
+ghost use Rattle.gl_calculus.specs.Grid.Grid.{Range};
+ghost use Rattle.gl_calculus.specs.Evaluation.Key as K;
+ghost use Rattle.gl_calculus.specs.Values.Value as V;
 ghost use Rattle.gl_support.specs.{declared.row.Row.Row, Reach.is_marked, Reach.has, Rows.notes_of};
 ghost use Rattle.gl_demand.specs.{declared.outcome.Outcome.Outcome, Marks.mark_trees};
 ghost use Rattle.gl_demand.specs.View.{key_tree};

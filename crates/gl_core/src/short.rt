@@ -1,6 +1,6 @@
 //! Short forms of keys, by which they are told apart in one step each.
 ghost use Rattle.std.specs.Prelude.{◌≡◌, Some, option_map, IfOk};
-ghost use Rattle.gl_calculus.specs.Key as K;
+ghost use Rattle.gl_calculus.specs.Evaluation.Key as K;
 ghost use Rattle.gl_value.specs.View.{frame_tree};
 ghost use Rattle.gl_demand.specs.View.{key_tree};
 ghost use Rattle.gl_core.specs.{Shorts.short_in, Shorts.IsGrown};

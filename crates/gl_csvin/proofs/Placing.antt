@@ -1,10 +1,10 @@
 -- The contents of fields, one field after the other.
 use Rattle.std.proofs.Common.{◌≡◌, ◌∙◌, ℕ, ◌+◌, List, [], ◌∷◌, ◌++◌, Err, refl, ap, arith, append-nil}
-use Rattle.gl_calculus.specs.Formula as F
-use Rattle.gl_calculus.specs.Grid.{Addr, addr, shifted}
-use Rattle.gl_language.specs.Text.{Bytes}
-use Rattle.gl_protocol.specs.Commands.{Read, Is, Not, Word, FieldWord, GridWord, fields_of_record, contents}
-use Rattle.gl_protocol.proofs.Rising.{Fields}
+use Rattle.gl_calculus.specs.Formulas.Formula as F
+use Rattle.gl_calculus.specs.Grid.Grid.{Addr, addr, shifted}
+use Rattle.gl_language.specs.Texts.Text.{Bytes}
+use Rattle.gl_protocol.specs.Scripts.Commands.{Read, Is, Not, Word, FieldWord, GridWord, fields_of_record, contents}
+use Rattle.laws_protocol.proofs.Scripts.Rising.{Fields}
 use Rattle.gl_cells.specs.Sheet.{Table, sheet}
 use Rattle.gl_csvin.specs.declared.fault.CsvFault.{CsvFault}
 use Rattle.gl_csvin.specs.declared.fault.CsvFault.TheVariants as f

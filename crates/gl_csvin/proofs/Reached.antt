@@ -9,7 +9,7 @@ use Rattle.csv.specs.declared.parser.State.{State}
 use Rattle.csv.specs.declared.parser.State.TheVariants as st
 use Rattle.csv.specs.declared.parser.Terminator.TheVariants as term
 use Rattle.csv.specs.declared.parser.Action.{Action}
-use Rattle.gl_protocol.specs.Commands.{without_mark}
+use Rattle.gl_protocol.specs.Scripts.Commands.{without_mark}
 
 -- a step that ends a record leaves the machine between records
 abbrev Restarts : State × Action → Type 0

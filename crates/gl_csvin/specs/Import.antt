@@ -1,23 +1,14 @@
 -- What an import makes of a payload.
 use Rattle.std.specs.Prelude.{◌≡◌, List, ◌++◌, Result, Ok, Err, Vec}
 use Rattle.std.specs.declared.alloc.Global.{Global}
-use Rattle.csv.specs.Reading.{default_config, records, strip_bom}
-use Rattle.gl_calculus.specs.Formula.{Cells}
-use Rattle.gl_calculus.specs.Grid.{Addr}
-use Rattle.gl_language.specs.Text.{Bytes}
-use Rattle.gl_protocol.specs.Commands.{Read, Is, Not, Utf8Word, FieldWord, GridWord, contents, without_mark}
+use Rattle.gl_calculus.specs.Formulas.Formula.{Cells}
+use Rattle.gl_calculus.specs.Grid.Grid.{Addr}
+use Rattle.gl_language.specs.Texts.Text.{Bytes}
+use Rattle.gl_protocol.specs.Scripts.Commands.{Read, Is, Not, Utf8Word, FieldWord, GridWord, contents}
 use Rattle.gl_cells.specs.Sheet.{Table, sheet}
 use Rattle.gl_cells.specs.declared.content.Content.{Content}
 use Rattle.gl_csvin.specs.declared.fault.CsvFault.{CsvFault}
 use Rattle.gl_csvin.specs.declared.fault.CsvFault.TheVariants as f
-
--- the records of a text as the crate `csv` reads them, which drops one byte order mark of its own
-abbrev pub csv_records : Bytes → List (List Bytes)
-csv_records text = records default_config (strip_bom text)
-
--- the records of a payload, whose byte order mark is dropped
-abbrev pub records_of : Bytes → List (List Bytes)
-records_of payload = csv_records (without_mark payload)
 
 -- what is answered where these contents, or this refusal, are what an import reads
 abbrev pub Imports : Read Cells → Result (Vec (Addr × Content) Global) CsvFault → Type 0

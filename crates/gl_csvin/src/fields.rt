@@ -3,9 +3,9 @@ ghost use Rattle.std.specs.Prelude.{◌+◌, ◌<◌, ◌^◌, ◌∷◌, [], ma
 ghost use Rattle.std.specs.Prelude.{OnOk, SomeIff};
 ghost use Rattle.std.specs.{List.list_all, Str.is_utf8};
 ghost use Rattle.csv.specs.Records.{fields_of};
-ghost use Rattle.gl_calculus.specs.Grid.{addr, covers, grid};
-ghost use Rattle.gl_calculus.specs.Formula.{IsSheet};
-ghost use Rattle.gl_protocol.specs.Commands.{contents, fields, fields_of_record};
+ghost use Rattle.gl_calculus.specs.Grid.Grid.{addr, covers, grid};
+ghost use Rattle.gl_calculus.specs.Formulas.Formula.{IsSheet};
+ghost use Rattle.gl_protocol.specs.Scripts.Commands.{contents, fields, fields_of_record};
 ghost use Rattle.gl_cells.specs.Sheet.{sheet, AreProper};
 ghost use Rattle.gl_csvin.specs.Import.{Adds, Imports};
 

@@ -6,10 +6,11 @@ mod fields;
 mod records;
 
 ghost use Rattle.std.specs.Prelude.{IfOk};
-ghost use Rattle.gl_calculus.specs.Formula.{IsSheet};
-ghost use Rattle.gl_protocol.specs.Commands.{imported};
+ghost use Rattle.gl_calculus.specs.Formulas.Formula.{IsSheet};
+ghost use Rattle.gl_protocol.specs.Scripts.Commands.{imported};
 ghost use Rattle.gl_cells.specs.Sheet.{sheet, AreProper};
-ghost use Rattle.gl_csvin.specs.Import.{Imports, records_of};
+ghost use Rattle.gl_csvin.specs.Import.{Imports};
+ghost use Rattle.gl_protocol.specs.Run.Records.{records_of};
 
 pub use fault::CsvFault;
 use gl_cells::Content;

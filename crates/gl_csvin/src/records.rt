@@ -2,8 +2,8 @@
 ghost use Rattle.std.specs.Prelude.{◌≡◌, IfOk, OnErr, IsErrOf, map};
 ghost use Rattle.std.specs.{List.list_all, Str.is_utf8};
 ghost use Rattle.csv.specs.Records.{fields_of};
-ghost use Rattle.gl_protocol.specs.Commands.{without_mark};
-ghost use Rattle.gl_csvin.specs.Import.{csv_records};
+ghost use Rattle.gl_protocol.specs.Scripts.Commands.{without_mark};
+ghost use Rattle.gl_protocol.specs.Run.Records.{csv_records};
 
 use crate::CsvFault;
 use csv::{ByteRecord, ReaderBuilder};

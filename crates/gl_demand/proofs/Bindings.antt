@@ -8,12 +8,12 @@ use Rattle.std.specs.Rc.{rc_str_bytes}
 use Rattle.std.specs.declared.alloc.Global.{Global}
 use Rattle.std.specs.declared.boxed.Box.{Box}
 use Rattle.std.specs.declared.rc.RcStr.{RcStr}
-use Rattle.gl_calculus.specs.Value as V
-use Rattle.gl_calculus.specs.Formula as F
-use Rattle.gl_calculus.specs.Formula.{Version}
-use Rattle.gl_calculus.specs.Key.{give, ◌>>=◌}
-use Rattle.gl_calculus.specs.Evaluation as E
-use Rattle.gl_calculus.specs.Sound.{is_sound_value}
+use Rattle.gl_calculus.specs.Values.Value as V
+use Rattle.gl_calculus.specs.Formulas.Formula as F
+use Rattle.gl_calculus.specs.Formulas.Formula.{Version}
+use Rattle.gl_calculus.specs.Evaluation.Key.{give, ◌>>=◌}
+use Rattle.gl_calculus.specs.Evaluation.Evaluation as E
+use Rattle.gl_calculus.specs.Evaluation.Sound.{is_sound_value}
 use Rattle.gl_ast.specs.View.{formula_tree}
 use Rattle.gl_ast.specs.Forms.{formula_tree-Var, formula_tree-Let}
 use Rattle.gl_ast.specs.declared.Formula.{Formula}

@@ -3,17 +3,17 @@ use Rattle.std.proofs.Common.{◌≡◌, zero, suc, List, [], ◌∷◌, ◌++�
 use Rattle.std.proofs.lemmas.List.{append-nil, map-append}
 use Rattle.std.specs.declared.alloc.Global.{Global}
 use Rattle.std.specs.declared.vec.Vec.{Vec}
-use Rattle.gl_query.specs.Query.{Ready, Need}
-use Rattle.gl_query.specs.Evaluation.{Demand}
-use Rattle.gl_calculus.specs.Sound.{is_sound_value}
-use Rattle.gl_calculus.specs.Value as V
-use Rattle.gl_calculus.specs.Value.{Frame, In}
-use Rattle.gl_calculus.specs.Formula as F
-use Rattle.gl_calculus.specs.Formula.{Version}
-use Rattle.gl_calculus.specs.Functions as A
-use Rattle.gl_calculus.specs.Sheet as S
-use Rattle.gl_calculus.specs.Key.{Settle, Budget, Eval, give, on_result, settled_oracle, ◌>>=◌}
-use Rattle.gl_calculus.specs.Evaluation as E
+use Rattle.gl_calculus.specs.Computation.Query.{Ready, Need}
+use Rattle.gl_calculus.specs.Computation.Evaluation.{Demand}
+use Rattle.gl_calculus.specs.Evaluation.Sound.{is_sound_value}
+use Rattle.gl_calculus.specs.Values.Value as V
+use Rattle.gl_calculus.specs.Values.Value.{Frame, In}
+use Rattle.gl_calculus.specs.Formulas.Formula as F
+use Rattle.gl_calculus.specs.Formulas.Formula.{Version}
+use Rattle.gl_calculus.specs.Values.Functions as A
+use Rattle.gl_calculus.specs.Values.Sheet as S
+use Rattle.gl_calculus.specs.Evaluation.Key.{Settle, Budget, Eval, give, on_result, settled_oracle, ◌>>=◌}
+use Rattle.gl_calculus.specs.Evaluation.Evaluation as E
 use Rattle.gl_ast.specs.View.{formula_tree, argument_trees, fun_tree}
 use Rattle.gl_ast.specs.Forms.{formula_tree-Call}
 use Rattle.gl_ast.specs.declared.Fun.{Fun}

@@ -1,13 +1,13 @@
 -- The value of a cell, which looks at its own address first, and answers without memory.
 use Rattle.std.proofs.Common.{◌≡◌, Option, None, Result, Ok, ap, sym, subst, ◌∙◌, refl, IsTrue}
-use Rattle.gl_query.specs.Query.{Ready}
-use Rattle.gl_calculus.specs.Grid.{Addr, single}
-use Rattle.gl_calculus.specs.Value as V
-use Rattle.gl_calculus.specs.Value.{Frame}
-use Rattle.gl_calculus.specs.Formula.{Version}
-use Rattle.gl_calculus.specs.Reference.{Held}
-use Rattle.gl_calculus.specs.Evaluation.{cell_value}
-use Rattle.gl_calculus.specs.Sound.{is_sound_value}
+use Rattle.gl_calculus.specs.Computation.Query.{Ready}
+use Rattle.gl_calculus.specs.Grid.Grid.{Addr, single}
+use Rattle.gl_calculus.specs.Values.Value as V
+use Rattle.gl_calculus.specs.Values.Value.{Frame}
+use Rattle.gl_calculus.specs.Formulas.Formula.{Version}
+use Rattle.gl_calculus.specs.Evaluation.Reference.{Held}
+use Rattle.gl_calculus.specs.Evaluation.Evaluation.{cell_value}
+use Rattle.gl_calculus.specs.Evaluation.Sound.{is_sound_value}
 use Rattle.gl_value.specs.View.{value_tree}
 use Rattle.gl_value.specs.Forms.{value_tree-One, scalar_tree-Blank}
 use Rattle.gl_value.specs.declared.Scalar.{Blank}

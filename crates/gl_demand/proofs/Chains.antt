@@ -3,15 +3,15 @@ use Rattle.std.proofs.Common.{◌≡◌, List, [], ◌∷◌, Ok, Err, ap, sym, 
 use Rattle.std.specs.declared.alloc.Global.{Global}
 use Rattle.std.specs.declared.boxed.Box.{Box}
 use Rattle.std.specs.declared.vec.Vec.{Vec}
-use Rattle.gl_query.specs.Query.{Ready}
-use Rattle.gl_calculus.specs.Value as V
-use Rattle.gl_calculus.specs.Value.{Frame}
-use Rattle.gl_calculus.specs.Formula as F
-use Rattle.gl_calculus.specs.Formula.{Version}
-use Rattle.gl_calculus.specs.Lift.{lift2}
-use Rattle.gl_calculus.specs.Operators.{operate}
-use Rattle.gl_calculus.specs.Key.{Eval, ◌>>=◌}
-use Rattle.gl_calculus.specs.Evaluation as E
+use Rattle.gl_calculus.specs.Computation.Query.{Ready}
+use Rattle.gl_calculus.specs.Values.Value as V
+use Rattle.gl_calculus.specs.Values.Value.{Frame}
+use Rattle.gl_calculus.specs.Formulas.Formula as F
+use Rattle.gl_calculus.specs.Formulas.Formula.{Version}
+use Rattle.gl_calculus.specs.Values.Lift.{lift2}
+use Rattle.gl_calculus.specs.Values.Operators.{operate}
+use Rattle.gl_calculus.specs.Evaluation.Key.{Eval, ◌>>=◌}
+use Rattle.gl_calculus.specs.Evaluation.Evaluation as E
 use Rattle.gl_ast.specs.View.{formula_tree, op_tree, level_tree, operand_trees}
 use Rattle.gl_ast.specs.Forms.{formula_tree-Chain}
 use Rattle.gl_ast.specs.declared.Op.{Op}

@@ -1,15 +1,15 @@
 -- The first address with content in a frame, by the contents of the sheet and the overrides of each frame outward.
 use Rattle.std.proofs.Common.{◌≡◌, ◌⊎◌, inl, inr, ℕ, suc, ◌≤◌, Bool, true, false, ◌&&◌, ◌||◌, not, cond, is_some, List, [], ◌∷◌, ◌++◌, map, filter, length, slice_get, Option, Some, None, refl, ap, sym, subst, ◌∙◌, arith, append_assoc, zero, ◌+◌, ◌<◌}
 use Rattle.std.specs.List.{find}
-use Rattle.gl_query.specs.Lists.{Member}
-use Rattle.gl_calculus.specs.Grid.{Addr, Range, same_addr, is_before, AreInOrder, addresses, covers}
-use Rattle.gl_calculus.specs.Value.{Overrides, SheetValue, sheet_value, region, Frame, Top, In}
-use Rattle.gl_calculus.specs.Value as V
-use Rattle.gl_calculus.specs.Sheet.{override_at}
-use Rattle.gl_calculus.specs.Formula.{Content, Const, Form, Cells, IsSheet, content}
-use Rattle.gl_calculus.specs.Facts.{fact}
-use Rattle.gl_ahead.specs.Demands.{own_keys, held_keys}
-use Rattle.gl_calculus.specs.Reference.{Held, override_or, held_top, content_in, own_content}
+use Rattle.gl_calculus.specs.Computation.Lists.{Member}
+use Rattle.gl_calculus.specs.Grid.Grid.{Addr, Range, same_addr, is_before, AreInOrder, addresses, covers}
+use Rattle.gl_calculus.specs.Values.Value.{Overrides, SheetValue, sheet_value, region, Frame, Top, In}
+use Rattle.gl_calculus.specs.Values.Value as V
+use Rattle.gl_calculus.specs.Values.Sheet.{override_at}
+use Rattle.gl_calculus.specs.Formulas.Formula.{Content, Const, Form, Cells, IsSheet, content}
+use Rattle.gl_calculus.specs.Evaluation.Facts.{fact}
+use Rattle.gl_machine.specs.Ahead.Demands.{own_keys, held_keys}
+use Rattle.gl_calculus.specs.Evaluation.Reference.{Held, override_or, held_top, content_in, own_content}
 use Rattle.gl_calculus.proofs.Tests.{both, and_true, addr_exact, addr_same}
 use Rattle.gl_calculus.proofs.Grants.{Before, before_of, of_before, before_trans, not_same, clash}
 use Rattle.gl_cells.specs.Search.{is_in_play, comes_after}

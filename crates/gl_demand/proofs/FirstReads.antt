@@ -4,9 +4,9 @@ use Rattle.std.specs.declared.alloc.Global.{Global}
 use Rattle.std.specs.declared.boxed.Box.{Box}
 use Rattle.std.specs.declared.rc.RcStr.{RcStr}
 use Rattle.std.specs.declared.vec.Vec.{Vec}
-use Rattle.gl_calculus.specs.Grid.{Addr, Range, addresses, single}
-use Rattle.gl_calculus.specs.Value.{Frame}
-use Rattle.gl_calculus.proofs.Proper.{addresses_single}
+use Rattle.gl_calculus.specs.Grid.Grid.{Addr, Range, addresses, single}
+use Rattle.gl_calculus.specs.Values.Value.{Frame}
+use Rattle.laws_calculus.proofs.Calculus.Proper.{addresses_single}
 use Rattle.gl_plane.specs.declared.NoMemory.{NoMemory}
 use Rattle.gl_ast.specs.View.{formula_tree, argument_trees, operand_trees, fun_tree}
 use Rattle.gl_ast.specs.Forms.{formula_tree-At, formula_tree-Spill, formula_tree-Area, formula_tree-Neg, formula_tree-Chain, formula_tree-Compare, formula_tree-Call, formula_tree-Let}
@@ -16,7 +16,7 @@ use Rattle.gl_ast.specs.declared.Level.{Level}
 use Rattle.gl_ast.specs.declared.Op.{Op}
 use Rattle.gl_ast.specs.declared.Formula.{Formula}
 use Rattle.gl_ast.specs.declared.Formula.TheVariants as form
-use Rattle.gl_ahead.specs.Demands.{first_reads, call_reads, begun_reads, argument_reads, operand_reads}
+use Rattle.gl_machine.specs.Ahead.Demands.{first_reads, call_reads, begun_reads, argument_reads, operand_reads}
 use Rattle.gl_demand.specs.Passing.{Stands, Passes}
 use Rattle.gl_demand.specs.Walk.{World}
 use Rattle.gl_demand.specs.declared.lacking.Passing.{Passing}

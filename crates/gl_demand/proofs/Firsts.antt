@@ -2,9 +2,9 @@
 use Rattle.std.proofs.Common.{◌≡◌, ◌⊎◌, inl, inr, ℕ, zero, suc, ◌+◌, ◌≤◌, ◌<◌, nat_le, Bool, true, false, cond, ◌&&◌, not, is_some, List, [], ◌∷◌, ◌++◌, map, length, Option, Some, None, if◌then◌else◌, refl, ap, sym, subst, ◌∙◌, arith}
 use Rattle.std.specs.List.{find, flat_map, range_with_len}
 use Rattle.std.proofs.lemmas.Bool.{cases_order, leb-true, le-leb}
-use Rattle.gl_query.specs.Lists.{Member}
-use Rattle.gl_calculus.specs.Grid.{Addr, addr, same_addr, is_before, AreInOrder, Range, extents, addresses, covers}
-use Rattle.gl_calculus.specs.Formula.{Content, Cells, IsSheet, content}
+use Rattle.gl_calculus.specs.Computation.Lists.{Member}
+use Rattle.gl_calculus.specs.Grid.Grid.{Addr, addr, same_addr, is_before, AreInOrder, Range, extents, addresses, covers}
+use Rattle.gl_calculus.specs.Formulas.Formula.{Content, Cells, IsSheet, content}
 use Rattle.gl_calculus.proofs.Tests.{both, and_true, addr_exact, addr_same}
 use Rattle.gl_calculus.proofs.Grants.{Before, before_of, of_before, before_trans, not_same, clash}
 use Rattle.gl_cells.specs.Search.{is_in_play}

@@ -1,12 +1,12 @@
 -- Frames outward: their soundness, and what an address holds.
 use Rattle.std.proofs.Common.{◌≡◌, Bool, true, false, IsTrue, cond, Option, Some, None, IfSome, option_map, refl, ap, sym, subst, ◌∙◌}
 use Rattle.std.proofs.lemmas.Bool.{and_parts}
-use Rattle.gl_calculus.specs.Grid.{Addr, same_addr, covers}
-use Rattle.gl_calculus.specs.Value.{Value, Overrides, no_override, override_and, sheet_value, Frame, Top, In}
-use Rattle.gl_calculus.specs.Sheet.{override_at}
-use Rattle.gl_calculus.specs.Formula.{Content}
-use Rattle.gl_calculus.specs.Reference.{Held, Given, held_top, override_or, content_in, own_content, in_region, home}
-use Rattle.gl_calculus.specs.Sound.{is_sound_value, are_sound_overrides, is_sound_sheet, is_sound_frame}
+use Rattle.gl_calculus.specs.Grid.Grid.{Addr, same_addr, covers}
+use Rattle.gl_calculus.specs.Values.Value.{Value, Overrides, no_override, override_and, sheet_value, Frame, Top, In}
+use Rattle.gl_calculus.specs.Values.Sheet.{override_at}
+use Rattle.gl_calculus.specs.Formulas.Formula.{Content}
+use Rattle.gl_calculus.specs.Evaluation.Reference.{Held, Given, held_top, override_or, content_in, own_content, in_region, home}
+use Rattle.gl_calculus.specs.Evaluation.Sound.{is_sound_value, are_sound_overrides, is_sound_sheet, is_sound_frame}
 use Rattle.gl_value.specs.Sound.{facts_of, sheet_facts}
 use Rattle.std.specs.Borrow.{Bor}
 use Rattle.std.specs.Option.{option_copied}

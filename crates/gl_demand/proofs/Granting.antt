@@ -2,14 +2,14 @@
 use Rattle.std.proofs.Common.{◌≡◌, ◌⊎◌, inl, inr, ◌+◌, Bool, true, false, ◌&&◌, ◌||◌, not, is_some, List, [], ◌∷◌, map, filter, cond, count_by, Option, Some, None, if◌then◌else◌, refl, ap, sym, subst, ◌∙◌, arith}
 use Rattle.std.specs.List.{list_all, list_any}
 use Rattle.std.proofs.lemmas.List.Sums.{sum_by-cons}
-use Rattle.gl_query.specs.Lists.{Member}
-use Rattle.gl_calculus.specs.Grid.{Addr, same_addr, Range, area, addresses, covers, lies_in, meets}
-use Rattle.gl_calculus.specs.Value.{Permitted, Refused, Oracle, SheetValue, In, region}
-use Rattle.gl_calculus.specs.Formula.{Content, Cells, content}
-use Rattle.gl_calculus.specs.Oracle.{Sizes, is_free, grant_beside, grant}
-use Rattle.gl_calculus.specs.Facts.{Fact, fact, facts, find_fact, or_nothing, fact_at}
-use Rattle.gl_calculus.specs.Reference.{Held, own_content}
-use Rattle.gl_calculus.specs.Evaluation.{held_by, next_in, takes_a_round, copy_budget}
+use Rattle.gl_calculus.specs.Computation.Lists.{Member}
+use Rattle.gl_calculus.specs.Grid.Grid.{Addr, same_addr, Range, area, addresses, covers, lies_in, meets}
+use Rattle.gl_calculus.specs.Values.Value.{Permitted, Refused, Oracle, SheetValue, In, region}
+use Rattle.gl_calculus.specs.Formulas.Formula.{Content, Cells, content}
+use Rattle.gl_calculus.specs.Evaluation.Oracle.{Sizes, is_free, grant_beside, grant}
+use Rattle.gl_calculus.specs.Evaluation.Facts.{Fact, fact, facts, find_fact, or_nothing, fact_at}
+use Rattle.gl_calculus.specs.Evaluation.Reference.{Held, own_content}
+use Rattle.gl_calculus.specs.Evaluation.Evaluation.{held_by, next_in, takes_a_round, copy_budget}
 use Rattle.gl_calculus.proofs.Tests.{addr_exact, addr_same}
 use Rattle.gl_demand.specs.Blocks.{has_content_in}
 use Rattle.gl_demand.specs.Places.{filled_places}

@@ -1,13 +1,13 @@
 -- A sheet value with updates one after another.
 use Rattle.std.proofs.Common.{◌≡◌, ℕ, zero, suc, ◌<◌, ◌≤◌, drop, List, [], ◌∷◌, length, Result, Ok, Err, refl, ap, sym, subst, ◌∙◌, arith}
 use denote.Param.Weighed.{most}
-use Rattle.gl_calculus.specs.Value as V
-use Rattle.gl_calculus.specs.Value.{Frame}
-use Rattle.gl_calculus.specs.Formula as F
-use Rattle.gl_calculus.specs.Formula.{Version}
-use Rattle.gl_calculus.specs.Sheet as S
-use Rattle.gl_calculus.specs.Key.{Eval, give, ◌>>=◌}
-use Rattle.gl_calculus.specs.Evaluation as E
+use Rattle.gl_calculus.specs.Values.Value as V
+use Rattle.gl_calculus.specs.Values.Value.{Frame}
+use Rattle.gl_calculus.specs.Formulas.Formula as F
+use Rattle.gl_calculus.specs.Formulas.Formula.{Version}
+use Rattle.gl_calculus.specs.Values.Sheet as S
+use Rattle.gl_calculus.specs.Evaluation.Key.{Eval, give, ◌>>=◌}
+use Rattle.gl_calculus.specs.Evaluation.Evaluation as E
 use Rattle.gl_ast.specs.View.{formula_tree}
 use Rattle.gl_ast.specs.declared.Formula.{Formula}
 use Rattle.gl_value.specs.View.{value_tree}

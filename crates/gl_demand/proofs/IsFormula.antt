@@ -1,8 +1,8 @@
 -- A cell key is proper exactly where its address holds a formula.
 use Rattle.std.proofs.Common.{◌≡◌, false, Option, Some, None, IsTrue, IsFalse, refl, subst}
-use Rattle.gl_calculus.specs.Formula.{Formula}
-use Rattle.gl_calculus.specs.Reference.{Held, Given, Computed}
-use Rattle.gl_calculus.specs.Reference.{is_computed}
+use Rattle.gl_calculus.specs.Formulas.Formula.{Formula}
+use Rattle.gl_calculus.specs.Evaluation.Reference.{Held, Given, Computed}
+use Rattle.gl_calculus.specs.Evaluation.Reference.{is_computed}
 
 pub is_formula : (h : Option Held) → IsTrue (is_computed h) → (f : Formula) × (h ≡ Some (Computed f))
 is_formula None e = absurd (cc e)

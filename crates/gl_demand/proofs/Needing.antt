@@ -1,18 +1,18 @@
 -- Which key is needed next: the parts put together.
 use Rattle.std.proofs.Common.{◌≡◌, ℕ, ◌+◌, ◌≤◌, List, [], ◌∷◌, ◌++◌, map, length, slice_get, Option, Some, None, option_map, true, false, cond, refl, ap, sym, subst, ◌∙◌}
 use Rattle.std.proofs.Math.ListN.{drop_of_length-le}
-use Rattle.gl_query.specs.Query.{next}
-use Rattle.gl_calculus.specs.Grid.{Addr, Range, addresses}
-use Rattle.gl_calculus.specs.Formula.{Cells}
-use Rattle.gl_calculus.specs.Value.{Oracle, Frame}
-use Rattle.gl_calculus.specs.Oracle.{Cover}
-use Rattle.gl_calculus.specs.Facts.{fact}
+use Rattle.gl_calculus.specs.Computation.Query.{next}
+use Rattle.gl_calculus.specs.Grid.Grid.{Addr, Range, addresses}
+use Rattle.gl_calculus.specs.Formulas.Formula.{Cells}
+use Rattle.gl_calculus.specs.Values.Value.{Oracle, Frame}
+use Rattle.gl_calculus.specs.Evaluation.Oracle.{Cover}
+use Rattle.gl_calculus.specs.Evaluation.Facts.{fact}
 use Rattle.gl_plane.specs.Entries.{offsets}
-use Rattle.gl_calculus.specs.Key as K
-use Rattle.gl_ahead.specs.Ahead.{first_lacked, AreThrough, LackSame}
-use Rattle.gl_ahead.specs.Demands.{is_value, own_keys, address_keys, range_keys, round_keys}
-use Rattle.gl_ahead.specs.Reading.{Area, Round, keys_from}
-use Rattle.gl_ahead.proofs.Onward.{past}
+use Rattle.gl_calculus.specs.Evaluation.Key as K
+use Rattle.gl_machine.specs.Ahead.Ahead.{first_lacked, AreThrough, LackSame}
+use Rattle.gl_machine.specs.Ahead.Demands.{is_value, own_keys, address_keys, range_keys, round_keys}
+use Rattle.gl_machine.specs.Ahead.Reading.{Area, Round, keys_from}
+use Rattle.laws_calculus.proofs.Ahead.Onward.{past}
 use Rattle.gl_demand.specs.View.{key_tree}
 use Rattle.gl_demand.specs.Lacking.{IsPassing, IsNext}
 use Rattle.gl_demand.specs.declared.lacking.Lacked.{Lacked}

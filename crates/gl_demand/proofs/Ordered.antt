@@ -1,8 +1,8 @@
 -- Lists of addresses in row-major order, and the first address of one that passes a test.
 use Rattle.std.proofs.Common.{◌≡◌, ◌⊎◌, inl, inr, ℕ, zero, suc, ◌+◌, ◌≤◌, Bool, true, false, cond, List, [], ◌∷◌, ◌++◌, map, filter, refl, ap, sym, subst, arith}
 use Rattle.std.specs.List.{flat_map, range_with_len}
-use Rattle.gl_query.specs.Lists.{Member}
-use Rattle.gl_calculus.specs.Grid.{Addr, addr, AreInOrder, Range, extents, addresses}
+use Rattle.gl_calculus.specs.Computation.Lists.{Member}
+use Rattle.gl_calculus.specs.Grid.Grid.{Addr, addr, AreInOrder, Range, extents, addresses}
 use Rattle.gl_calculus.proofs.Grants.{Before, before_of, of_before, before_trans}
 
 -- ---- lists in order

@@ -1,6 +1,6 @@
 -- The words of sheet values.
 use Rattle.std.proofs.Common.{◌≡◌, List, [], ◌∷◌, map, refl, ap}
-use Rattle.gl_calculus.specs.Grid.{Addr}
+use Rattle.gl_calculus.specs.Grid.Grid.{Addr}
 use Rattle.gl_value.specs.View.{override_trees}
 use Rattle.gl_value.specs.declared.Value.{Value}
 use Rattle.gl_demand.specs.Outline.{plain_override, listed}

@@ -1,6 +1,6 @@
 -- Evaluations whose parts are walked one after another.
 use Rattle.std.proofs.Common.{◌≡◌, Result, Ok, Err, IfOk, IfErr, refl, sym, subst}
-use Rattle.gl_calculus.specs.Key.{Eval, give, ◌>>=◌}
+use Rattle.gl_calculus.specs.Evaluation.Key.{Eval, give, ◌>>=◌}
 use Rattle.gl_demand.specs.Walk.{World}
 use Rattle.gl_demand.specs.Walks.{Walks}
 use Rattle.gl_demand.specs.declared.trail.Trail.{Trail}

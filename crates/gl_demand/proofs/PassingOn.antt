@@ -3,14 +3,14 @@ use Rattle.std.proofs.Common.{◌≡◌, ℕ, zero, suc, ◌+◌, ◌≤◌, ◌
 use Rattle.std.proofs.Math.ListN.{drop_of_length-le}
 use Rattle.std.proofs.lemmas.List.{at_drop_more, at_drop_all}
 use Rattle.std.proofs.lemmas.Bool.{cases_lt}
-use Rattle.gl_calculus.specs.Grid.{Addr}
-use Rattle.gl_calculus.specs.Value.{Frame}
-use Rattle.gl_calculus.specs.Facts.{fact}
-use Rattle.gl_calculus.specs.Key as K
+use Rattle.gl_calculus.specs.Grid.Grid.{Addr}
+use Rattle.gl_calculus.specs.Values.Value.{Frame}
+use Rattle.gl_calculus.specs.Evaluation.Facts.{fact}
+use Rattle.gl_calculus.specs.Evaluation.Key as K
 use Rattle.gl_plane.specs.declared.NoMemory.{NoMemory}
-use Rattle.gl_ahead.specs.Ahead.{first_lacked, AreThrough, LackSame}
-use Rattle.gl_ahead.specs.Demands.{is_value, address_keys, reads_keys, first_reads, argument_reads, operand_reads}
-use Rattle.gl_ahead.proofs.Onward.{past}
+use Rattle.gl_machine.specs.Ahead.Ahead.{first_lacked, AreThrough, LackSame}
+use Rattle.gl_machine.specs.Ahead.Demands.{is_value, address_keys, reads_keys, first_reads, argument_reads, operand_reads}
+use Rattle.laws_calculus.proofs.Ahead.Onward.{past}
 use Rattle.gl_demand.specs.View.{key_tree}
 use Rattle.gl_demand.specs.Lacking.{IsPassing, IsNext}
 use Rattle.gl_demand.specs.Passing.{own_keys_from, Stands, Passes}

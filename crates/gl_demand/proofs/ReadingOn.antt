@@ -3,25 +3,25 @@ use Rattle.std.proofs.Common.{◌≡◌, IsTrue, List, [], ◌∷◌, ◌++◌, 
 use Rattle.std.proofs.lemmas.List.{append-nil, map-append}
 use Rattle.std.specs.declared.alloc.Global.{Global}
 use Rattle.std.specs.declared.vec.Vec.{Vec}
-use Rattle.gl_query.specs.Query.{Ready}
-use Rattle.gl_query.specs.Evaluation.{given}
-use Rattle.gl_calculus.specs.Grid.{Addr, Range, extents}
-use Rattle.gl_calculus.specs.Value as V
-use Rattle.gl_calculus.specs.Value.{Frame}
-use Rattle.gl_calculus.specs.Facts.{Fact, facts}
-use Rattle.gl_calculus.specs.Key.{Eval, give, on_result, ◌>>=◌}
-use Rattle.gl_calculus.specs.Reference.{Reading, deref, deref_all, at_range}
-use Rattle.gl_calculus.specs.Sound.{is_sound_scalar, are_sound}
+use Rattle.gl_calculus.specs.Computation.Query.{Ready}
+use Rattle.gl_calculus.specs.Computation.Evaluation.{given}
+use Rattle.gl_calculus.specs.Grid.Grid.{Addr, Range, extents}
+use Rattle.gl_calculus.specs.Values.Value as V
+use Rattle.gl_calculus.specs.Values.Value.{Frame}
+use Rattle.gl_calculus.specs.Evaluation.Facts.{Fact, facts}
+use Rattle.gl_calculus.specs.Evaluation.Key.{Eval, give, on_result, ◌>>=◌}
+use Rattle.gl_calculus.specs.Evaluation.Reference.{Reading, deref, deref_all, at_range}
+use Rattle.gl_calculus.specs.Evaluation.Sound.{is_sound_scalar, are_sound}
 use Rattle.gl_lift.proofs.Soundness.{sound_more}
 use Rattle.gl_value.specs.View.{scalar_tree, value_tree, item_trees}
 use Rattle.gl_value.specs.declared.Scalar.{Scalar}
 use Rattle.gl_value.specs.declared.Value.{Value}
 use Rattle.gl_demand.specs.Walk.{World, Trail, walk, then_walk, looking, behind}
-use Rattle.gl_ahead.specs.Ahead.{IsAhead}
-use Rattle.gl_ahead.specs.Demands.{is_value}
-use Rattle.gl_ahead.specs.Reading as A
-use Rattle.gl_ahead.specs.Reading.{keys_from}
-use Rattle.gl_ahead.proofs.Ranges.{range_demands}
+use Rattle.gl_machine.specs.Ahead.Ahead.{IsAhead}
+use Rattle.gl_machine.specs.Ahead.Demands.{is_value}
+use Rattle.gl_machine.specs.Ahead.Reading as A
+use Rattle.gl_machine.specs.Ahead.Reading.{keys_from}
+use Rattle.laws_calculus.proofs.Ahead.Ranges.{range_demands}
 use Rattle.gl_demand.specs.Stopped.{IsHaltIn}
 use Rattle.gl_demand.specs.Walks.{EndsWalk, Walks, trail_tree}
 use Rattle.gl_demand.specs.Seen.{AreSeen, ReadsOne}

@@ -1,12 +1,12 @@
 -- The rounds of a sheet value, one after another.
 use Rattle.std.proofs.Common.{◌≡◌, ◌≢◌, ◌⊎◌, inl, inr, ℕ, zero, suc, ◌-◌, ◌≤◌, ◌<◌, Bool, true, false, [], ◌∷◌, Some, None, Result, Ok, Err, refl, ap, sym, subst, ◌∙◌, arith}
-use Rattle.gl_query.specs.Query.{Ready}
-use Rattle.gl_calculus.specs.Grid.{Addr, Range}
-use Rattle.gl_calculus.specs.Value.{Oracle, SheetValue, region}
-use Rattle.gl_calculus.specs.Same.{same_oracle}
-use Rattle.gl_calculus.specs.Oracle.{Sizes, grant, first_difference}
-use Rattle.gl_calculus.specs.Key.{Eval, CopyRounds}
-use Rattle.gl_calculus.specs.Evaluation.{rounds, settled_or, next_in}
+use Rattle.gl_calculus.specs.Computation.Query.{Ready}
+use Rattle.gl_calculus.specs.Grid.Grid.{Addr, Range}
+use Rattle.gl_calculus.specs.Values.Value.{Oracle, SheetValue, region}
+use Rattle.gl_calculus.specs.Values.Same.{same_oracle}
+use Rattle.gl_calculus.specs.Evaluation.Oracle.{Sizes, grant, first_difference}
+use Rattle.gl_calculus.specs.Evaluation.Key.{Eval, CopyRounds}
+use Rattle.gl_calculus.specs.Evaluation.Evaluation.{rounds, settled_or, next_in}
 use Rattle.gl_calculus.proofs.Tests.{oracle_equality, entry_same}
 use Rattle.gl_calculus.proofs.Grants.{split}
 use Rattle.gl_rounds.specs.Rounds.{Calls, Reaches, first, later}

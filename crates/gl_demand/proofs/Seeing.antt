@@ -2,12 +2,12 @@
 use Rattle.std.proofs.Common.{◌≡◌, Bool, true, false, cond, ◌||◌, List, [], ◌∷◌, ◌++◌, Option, Some, None, Ok, refl, ap, sym, subst, ◌∙◌}
 use Rattle.std.specs.List.{list_any}
 use Rattle.std.proofs.lemmas.List.Folds.{list_any-append}
-use Rattle.gl_query.specs.Query.{Ready}
-use Rattle.gl_calculus.specs.Grid.{Addr, same_addr, single}
-use Rattle.gl_calculus.specs.Facts.{Fact, fact, find_fact}
-use Rattle.gl_calculus.specs.Reference.{seen_or_looked}
+use Rattle.gl_calculus.specs.Computation.Query.{Ready}
+use Rattle.gl_calculus.specs.Grid.Grid.{Addr, same_addr, single}
+use Rattle.gl_calculus.specs.Evaluation.Facts.{Fact, fact, find_fact}
+use Rattle.gl_calculus.specs.Evaluation.Reference.{seen_or_looked}
 use Rattle.gl_calculus.proofs.Tests.{addr_exact, addr_same}
-use Rattle.gl_calculus.proofs.Proper.{fact_at_single}
+use Rattle.laws_calculus.proofs.Calculus.Proper.{fact_at_single}
 use Rattle.gl_demand.specs.Walk.{World, Trail, walk, looking}
 use Rattle.gl_demand.specs.Seen.{AreSeen}
 

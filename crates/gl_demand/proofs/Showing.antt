@@ -1,12 +1,12 @@
 -- The elements that references show, and their soundness.
 use Rattle.std.proofs.Common.{◌≡◌, ℕ, zero, suc, ◌+◌, ◌*◌, ◌==◌, Bool, true, false, ◌&&◌, IsTrue, nat_lt, List, [], ◌∷◌, length, get_or, slice_get, if◌then◌else◌, Option, Some, None, refl, sym, subst}
 use Rattle.std.proofs.lemmas.Bool.{and_parts}
-use Rattle.gl_calculus.specs.ErrKind.{ErrKind}
-use Rattle.gl_calculus.specs.Value as V
-use Rattle.gl_calculus.specs.Value.{Permit, Permitted, Refused}
-use Rattle.gl_calculus.specs.Lift.{item_or}
-use Rattle.gl_calculus.specs.Reference.{shown}
-use Rattle.gl_calculus.specs.Sound.{is_size, is_sound_scalar, are_sound, is_sound_value}
+use Rattle.gl_calculus.specs.Values.ErrKind.{ErrKind}
+use Rattle.gl_calculus.specs.Values.Value as V
+use Rattle.gl_calculus.specs.Values.Value.{Permit, Permitted, Refused}
+use Rattle.gl_calculus.specs.Values.Lift.{item_or}
+use Rattle.gl_calculus.specs.Evaluation.Reference.{shown}
+use Rattle.gl_calculus.specs.Evaluation.Sound.{is_size, is_sound_scalar, are_sound, is_sound_value}
 use Rattle.gl_value.specs.Parts.{element_at}
 use Rattle.gl_value.specs.View.{array_tree, item_trees}
 use Rattle.gl_value.specs.Forms.{array_tree_is}

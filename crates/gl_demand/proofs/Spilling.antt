@@ -1,15 +1,15 @@
 -- How a spilled array is read: the parts put together.
 use Rattle.std.proofs.Common.{◌≡◌, Option, Some, None, Result, Ok, Err, IfSome, IsTrue, option_map, refl, ap, sym, subst, ◌∙◌}
-use Rattle.gl_query.specs.Query.{Ready}
-use Rattle.gl_calculus.specs.Grid.{Addr, single}
-use Rattle.gl_calculus.specs.Value as V
-use Rattle.gl_calculus.specs.Value.{Frame, Permitted}
-use Rattle.gl_calculus.specs.Formula.{content}
-use Rattle.gl_calculus.specs.Facts.{Fact, fact}
-use Rattle.gl_calculus.specs.Key.{Eval, give}
-use Rattle.gl_calculus.specs.Reference.{Held, home, own, own_content, status_in, whole, spilling, spill_of}
-use Rattle.gl_calculus.specs.Sound.{is_sound_value}
-use Rattle.gl_calculus.proofs.Proper.{fact_at_single}
+use Rattle.gl_calculus.specs.Computation.Query.{Ready}
+use Rattle.gl_calculus.specs.Grid.Grid.{Addr, single}
+use Rattle.gl_calculus.specs.Values.Value as V
+use Rattle.gl_calculus.specs.Values.Value.{Frame, Permitted}
+use Rattle.gl_calculus.specs.Formulas.Formula.{content}
+use Rattle.gl_calculus.specs.Evaluation.Facts.{Fact, fact}
+use Rattle.gl_calculus.specs.Evaluation.Key.{Eval, give}
+use Rattle.gl_calculus.specs.Evaluation.Reference.{Held, home, own, own_content, status_in, whole, spilling, spill_of}
+use Rattle.gl_calculus.specs.Evaluation.Sound.{is_sound_value}
+use Rattle.laws_calculus.proofs.Calculus.Proper.{fact_at_single}
 use Rattle.gl_value.specs.View.{value_tree}
 use Rattle.gl_value.specs.declared.Value.{Value}
 use Rattle.gl_demand.specs.Walk.{World, walk, looking}

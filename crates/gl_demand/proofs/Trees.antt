@@ -4,16 +4,16 @@ use Rattle.std.specs.Rc.{rc_str_bytes}
 use Rattle.std.specs.declared.alloc.Global.{Global}
 use Rattle.std.specs.declared.boxed.Box.{Box}
 use Rattle.std.specs.declared.rc.RcStr.{RcStr}
-use Rattle.gl_calculus.specs.Grid.{Addr, Range}
-use Rattle.gl_calculus.specs.Value as V
-use Rattle.gl_calculus.specs.Value.{Frame}
-use Rattle.gl_calculus.specs.Formula as F
-use Rattle.gl_calculus.specs.Formula.{Version}
-use Rattle.gl_calculus.specs.Lift.{lift1, lift2}
-use Rattle.gl_calculus.specs.Operators.{negate, compare}
-use Rattle.gl_calculus.specs.Key.{Eval, give, ◌>>=◌}
-use Rattle.gl_calculus.specs.Reference.{at_address, at_range, spill_of}
-use Rattle.gl_calculus.specs.Evaluation as E
+use Rattle.gl_calculus.specs.Grid.Grid.{Addr, Range}
+use Rattle.gl_calculus.specs.Values.Value as V
+use Rattle.gl_calculus.specs.Values.Value.{Frame}
+use Rattle.gl_calculus.specs.Formulas.Formula as F
+use Rattle.gl_calculus.specs.Formulas.Formula.{Version}
+use Rattle.gl_calculus.specs.Values.Lift.{lift1, lift2}
+use Rattle.gl_calculus.specs.Values.Operators.{negate, compare}
+use Rattle.gl_calculus.specs.Evaluation.Key.{Eval, give, ◌>>=◌}
+use Rattle.gl_calculus.specs.Evaluation.Reference.{at_address, at_range, spill_of}
+use Rattle.gl_calculus.specs.Evaluation.Evaluation as E
 use Rattle.gl_ast.specs.View.{formula_tree, op_tree}
 use Rattle.gl_ast.specs.Forms.{formula_tree-Text, formula_tree-At, formula_tree-Spill, formula_tree-Area, formula_tree-Neg, formula_tree-Compare}
 use Rattle.gl_ast.specs.declared.Op.{Op}

@@ -1,22 +1,22 @@
 -- The arrays of a round, found address by address.
 use Rattle.std.proofs.Common.{◌≡◌, Bool, true, false, cond, is_some, List, [], ◌∷◌, ◌++◌, map, filter, Option, Some, None, Result, Ok, Err, OnOk, IfErr, IfOk, refl, ap, sym, subst, ◌∙◌}
 use Rattle.std.proofs.lemmas.List.{append-nil}
-use Rattle.gl_query.specs.Query.{Ready, Need}
-use Rattle.gl_query.specs.Evaluation.{given}
-use Rattle.gl_calculus.specs.Grid.{Addr, Size, AreInOrder, Range, addresses}
-use Rattle.gl_calculus.specs.Value.{Value, One, Array, Oracle, SheetValue, sheet_value, Frame, In, region}
-use Rattle.gl_calculus.specs.Oracle.{Sizes, AreSizes}
-use Rattle.gl_calculus.specs.Formula.{Content, content}
-use Rattle.gl_calculus.specs.Facts.{Fact, fact, facts}
-use Rattle.gl_calculus.specs.Key.{Budget, Eval, give, on_result, ◌>>=◌}
-use Rattle.gl_calculus.specs.Reference.{Held, own_content, own, value_of}
-use Rattle.gl_calculus.specs.Evaluation.{array_at, arrays}
+use Rattle.gl_calculus.specs.Computation.Query.{Ready, Need}
+use Rattle.gl_calculus.specs.Computation.Evaluation.{given}
+use Rattle.gl_calculus.specs.Grid.Grid.{Addr, Size, AreInOrder, Range, addresses}
+use Rattle.gl_calculus.specs.Values.Value.{Value, One, Array, Oracle, SheetValue, sheet_value, Frame, In, region}
+use Rattle.gl_calculus.specs.Evaluation.Oracle.{Sizes, AreSizes}
+use Rattle.gl_calculus.specs.Formulas.Formula.{Content, content}
+use Rattle.gl_calculus.specs.Evaluation.Facts.{Fact, fact, facts}
+use Rattle.gl_calculus.specs.Evaluation.Key.{Budget, Eval, give, on_result, ◌>>=◌}
+use Rattle.gl_calculus.specs.Evaluation.Reference.{Held, own_content, own, value_of}
+use Rattle.gl_calculus.specs.Evaluation.Evaluation.{array_at, arrays}
 use Rattle.gl_demand.specs.Walk.{World, Trail, End, walk, then_walk, behind}
-use Rattle.gl_ahead.specs.Ahead.{IsAhead}
-use Rattle.gl_ahead.specs.Demands.{is_value}
-use Rattle.gl_ahead.specs.Reading as A
-use Rattle.gl_ahead.specs.Reading.{keys_from}
-use Rattle.gl_ahead.proofs.Ranges.{round_demands}
+use Rattle.gl_machine.specs.Ahead.Ahead.{IsAhead}
+use Rattle.gl_machine.specs.Ahead.Demands.{is_value}
+use Rattle.gl_machine.specs.Ahead.Reading as A
+use Rattle.gl_machine.specs.Ahead.Reading.{keys_from}
+use Rattle.laws_calculus.proofs.Ahead.Ranges.{round_demands}
 use Rattle.gl_demand.specs.Stopped.{IsHaltIn}
 use Rattle.gl_demand.specs.Walks.{EndsWalk, Walks, trail_tree}
 use Rattle.gl_demand.specs.Blocks.{has_content_in}

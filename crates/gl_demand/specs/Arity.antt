@@ -1,6 +1,6 @@
 -- The numbers of arguments that functions take.
 use Rattle.std.specs.Prelude.{Bool, true, false}
-use Rattle.gl_calculus.specs.Formula.{Fun, Sum, Count, Min, Max, And, Or, HStack, VStack}
+use Rattle.gl_calculus.specs.Formulas.Formula.{Fun, Sum, Count, Min, Max, And, Or, HStack, VStack}
 
 -- any number of them
 abbrev pub takes_any : Fun → Bool

@@ -1,9 +1,9 @@
 -- The addresses that have content.
 use Rattle.std.specs.Prelude.{Bool, [], is_some}
-use Rattle.gl_calculus.specs.Grid.{Addr}
-use Rattle.gl_calculus.specs.Value.{SheetValue, In}
-use Rattle.gl_calculus.specs.Formula.{Cells, content}
-use Rattle.gl_calculus.specs.Reference.{own_content}
+use Rattle.gl_calculus.specs.Grid.Grid.{Addr}
+use Rattle.gl_calculus.specs.Values.Value.{SheetValue, In}
+use Rattle.gl_calculus.specs.Formulas.Formula.{Cells, content}
+use Rattle.gl_calculus.specs.Evaluation.Reference.{own_content}
 
 -- in the sheet
 abbrev pub has_content : Cells → Addr → Bool

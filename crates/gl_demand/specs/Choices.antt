@@ -1,8 +1,8 @@
 -- What is left of IF and of IFERROR once the first argument is known.
-use Rattle.gl_calculus.specs.Value as V
-use Rattle.gl_calculus.specs.Lift.{lift2, lift3}
-use Rattle.gl_calculus.specs.Key.{Eval, give, ◌>>=◌}
-use Rattle.gl_calculus.specs.Evaluation.{chosen, in_place_of_error}
+use Rattle.gl_calculus.specs.Values.Value as V
+use Rattle.gl_calculus.specs.Values.Lift.{lift2, lift3}
+use Rattle.gl_calculus.specs.Evaluation.Key.{Eval, give, ◌>>=◌}
+use Rattle.gl_calculus.specs.Evaluation.Evaluation.{chosen, in_place_of_error}
 use Rattle.gl_value.specs.View.{error_tree}
 use Rattle.gl_demand.specs.declared.choosing.Choice.{Choice}
 use Rattle.gl_demand.specs.declared.choosing.Choice.TheVariants as choice

@@ -1,8 +1,8 @@
 -- What keys are evaluated by.
-use Rattle.gl_query.specs.Query.{Query}
-use Rattle.gl_calculus.specs.Grid.{Range}
-use Rattle.gl_calculus.specs.Key.{Key, Outcome}
-use Rattle.gl_calculus.specs.Evaluation.{program}
+use Rattle.gl_calculus.specs.Computation.Query.{Query}
+use Rattle.gl_calculus.specs.Grid.Grid.{Range}
+use Rattle.gl_calculus.specs.Evaluation.Key.{Key, Outcome}
+use Rattle.gl_calculus.specs.Evaluation.Evaluation.{program}
 use Rattle.gl_ast.specs.View.{version_tree}
 use Rattle.gl_cells.specs.Sheet.{sheet}
 use Rattle.gl_demand.specs.declared.evaluator.Evaluator.{Evaluator}

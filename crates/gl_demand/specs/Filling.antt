@@ -1,11 +1,11 @@
 -- The addresses with content in a frame, one after the other.
 use Rattle.std.specs.Prelude.{◌≡◌, Bool, true, ◌&&◌, ◌||◌, is_some, List, Option, Some, None, map}
 use Rattle.std.specs.List.{find}
-use Rattle.gl_calculus.specs.Grid.{Addr, Range, is_before}
-use Rattle.gl_calculus.specs.Value.{Overrides, SheetValue, Frame}
-use Rattle.gl_calculus.specs.Sheet.{override_at}
-use Rattle.gl_calculus.specs.Formula.{Cells, content}
-use Rattle.gl_calculus.specs.Reference.{own_content}
+use Rattle.gl_calculus.specs.Grid.Grid.{Addr, Range, is_before}
+use Rattle.gl_calculus.specs.Values.Value.{Overrides, SheetValue, Frame}
+use Rattle.gl_calculus.specs.Values.Sheet.{override_at}
+use Rattle.gl_calculus.specs.Formulas.Formula.{Cells, content}
+use Rattle.gl_calculus.specs.Evaluation.Reference.{own_content}
 use Rattle.gl_cells.specs.Search.{is_in_play}
 use Rattle.gl_value.specs.declared.Value.{Value}
 use Rattle.gl_demand.specs.Blocks.{has_content, has_content_in}

@@ -1,11 +1,11 @@
 -- What an address holds in a frame, as the code finds it.
 use Rattle.std.specs.Prelude.{Option, Some, None, IsTrue}
-use Rattle.gl_calculus.specs.Grid.{Addr}
-use Rattle.gl_calculus.specs.Value as V
-use Rattle.gl_calculus.specs.Value.{Frame, Top, In, sheet_value}
-use Rattle.gl_calculus.specs.Sheet.{override_at}
-use Rattle.gl_calculus.specs.Reference as R
-use Rattle.gl_calculus.specs.Sound.{is_sound_value}
+use Rattle.gl_calculus.specs.Grid.Grid.{Addr}
+use Rattle.gl_calculus.specs.Values.Value as V
+use Rattle.gl_calculus.specs.Values.Value.{Frame, Top, In, sheet_value}
+use Rattle.gl_calculus.specs.Values.Sheet.{override_at}
+use Rattle.gl_calculus.specs.Evaluation.Reference as R
+use Rattle.gl_calculus.specs.Evaluation.Sound.{is_sound_value}
 use Rattle.gl_ast.specs.View.{formula_tree}
 use Rattle.gl_value.specs.View.{value_tree, scalar_tree}
 use Rattle.gl_demand.specs.declared.held.Held.{Held}

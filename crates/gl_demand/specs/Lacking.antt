@@ -1,9 +1,9 @@
 -- The next key that is needed by what was being read, and what one address says of those behind it.
 use Rattle.std.specs.Prelude.{◌≡◌, ℕ, List, [], ◌∷◌, ◌++◌, Option, Some, None, IsTrue}
-use Rattle.gl_calculus.specs.Key as K
-use Rattle.gl_calculus.specs.Sound.{is_sound_key}
-use Rattle.gl_ahead.specs.Ahead.{first_lacked, AreThrough, LackSame}
-use Rattle.gl_ahead.specs.Demands.{is_value}
+use Rattle.gl_calculus.specs.Evaluation.Key as K
+use Rattle.gl_calculus.specs.Evaluation.Sound.{is_sound_key}
+use Rattle.gl_machine.specs.Ahead.Ahead.{first_lacked, AreThrough, LackSame}
+use Rattle.gl_machine.specs.Ahead.Demands.{is_value}
 use Rattle.gl_demand.specs.View.{key_tree}
 use Rattle.gl_demand.specs.declared.lacking.Lacked.{Lacked}
 use Rattle.gl_demand.specs.declared.lacking.Passing.{Passing}

@@ -1,6 +1,6 @@
 -- What a key that waits was reading, and a place in it.
 use Rattle.std.specs.Prelude.{ℕ, List, map}
-use Rattle.gl_ahead.specs.Reading.{Ahead}
+use Rattle.gl_machine.specs.Ahead.Reading.{Ahead}
 use Rattle.gl_demand.specs.Reading.{ahead_tree}
 use Rattle.gl_demand.specs.declared.mark.Mark.{Mark}
 

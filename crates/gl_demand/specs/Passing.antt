@@ -1,13 +1,13 @@
 -- How the addresses that a formula reads first are gone through.
 use Rattle.std.specs.Prelude.{◌≡◌, ℕ, ◌<◌, List, drop, Result, Ok, Err, Some, None, IsTrue}
-use Rattle.gl_calculus.specs.Grid.{Addr}
-use Rattle.gl_calculus.specs.Value.{Frame}
-use Rattle.gl_calculus.specs.Facts.{fact}
-use Rattle.gl_calculus.specs.Key as K
-use Rattle.gl_calculus.specs.Sound.{is_sound_key}
+use Rattle.gl_calculus.specs.Grid.Grid.{Addr}
+use Rattle.gl_calculus.specs.Values.Value.{Frame}
+use Rattle.gl_calculus.specs.Evaluation.Facts.{fact}
+use Rattle.gl_calculus.specs.Evaluation.Key as K
+use Rattle.gl_calculus.specs.Evaluation.Sound.{is_sound_key}
 use Rattle.gl_plane.specs.declared.NoMemory.{NoMemory}
-use Rattle.gl_ahead.specs.Ahead.{first_lacked, LackSame}
-use Rattle.gl_ahead.specs.Demands.{is_value, reads_keys}
+use Rattle.gl_machine.specs.Ahead.Ahead.{first_lacked, LackSame}
+use Rattle.gl_machine.specs.Ahead.Demands.{is_value, reads_keys}
 use Rattle.gl_demand.specs.View.{key_tree}
 use Rattle.gl_demand.specs.Walk.{World}
 use Rattle.gl_demand.specs.declared.lacking.Passing.{Passing}

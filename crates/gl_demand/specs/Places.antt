@@ -1,8 +1,8 @@
 -- The addresses of a sheet value's region that have content.
 use Rattle.std.specs.Prelude.{List, filter}
-use Rattle.gl_calculus.specs.Grid.{Addr, addresses}
-use Rattle.gl_calculus.specs.Value.{SheetValue, region}
-use Rattle.gl_calculus.specs.Formula.{Cells}
+use Rattle.gl_calculus.specs.Grid.Grid.{Addr, addresses}
+use Rattle.gl_calculus.specs.Values.Value.{SheetValue, region}
+use Rattle.gl_calculus.specs.Formulas.Formula.{Cells}
 use Rattle.gl_demand.specs.Blocks.{has_content_in}
 
 -- in row-major order

@@ -1,7 +1,7 @@
 -- What was being read, as the definitions have it, and the key that an address demands.
 use Rattle.std.specs.Prelude.{List, [], ◌∷◌, Option, Some, None}
-use Rattle.gl_calculus.specs.Key as K
-use Rattle.gl_ahead.specs.Reading as A
+use Rattle.gl_calculus.specs.Evaluation.Key as K
+use Rattle.gl_machine.specs.Ahead.Reading as A
 use Rattle.gl_value.specs.View.{frame_tree}
 use Rattle.gl_demand.specs.declared.ahead.Ahead.{Ahead}
 use Rattle.gl_demand.specs.declared.ahead.Ahead.TheVariants.{Nothing, Area, Round, Own}

@@ -1,12 +1,12 @@
 -- The rounds of a sheet value as walks: what a round sees, and what it comes to.
 use Rattle.std.specs.Prelude.{◌≡◌, List, ◌∷◌, [], Result, Ok, Err}
-use Rattle.gl_query.specs.Query.{Ready, Need, found}
-use Rattle.gl_query.specs.Evaluation.{given}
-use Rattle.gl_calculus.specs.Value.{Oracle, SheetValue, Frame, In, region}
-use Rattle.gl_calculus.specs.Oracle.{Sizes}
-use Rattle.gl_calculus.specs.Facts.{Fact, facts}
-use Rattle.gl_calculus.specs.Key.{Eval}
-use Rattle.gl_calculus.specs.Evaluation.{arrays, rounds, copy_budget}
+use Rattle.gl_calculus.specs.Computation.Query.{Ready, Need, found}
+use Rattle.gl_calculus.specs.Computation.Evaluation.{given}
+use Rattle.gl_calculus.specs.Values.Value.{Oracle, SheetValue, Frame, In, region}
+use Rattle.gl_calculus.specs.Evaluation.Oracle.{Sizes}
+use Rattle.gl_calculus.specs.Evaluation.Facts.{Fact, facts}
+use Rattle.gl_calculus.specs.Evaluation.Key.{Eval}
+use Rattle.gl_calculus.specs.Evaluation.Evaluation.{arrays, rounds, copy_budget}
 use Rattle.gl_demand.specs.View.{key_tree, budget_tree}
 use Rattle.gl_demand.specs.Walk.{World, walk, behind}
 use Rattle.gl_demand.specs.Walks.{EndsWalk, trail_tree}

@@ -1,9 +1,9 @@
 -- Sound tables of outcomes, and sound findings.
 use Rattle.std.specs.Prelude.{◌≡◌, List, Option, Some, IsTrue}
-use Rattle.gl_query.specs.Query.{Found, Ready, Need}
-use Rattle.gl_query.specs.Lists.{Member}
-use Rattle.gl_calculus.specs.Key.{Key, Outcome}
-use Rattle.gl_calculus.specs.Sound.{is_sound_key, is_sound_outcome, is_outcome_of}
+use Rattle.gl_calculus.specs.Computation.Query.{Found, Ready, Need}
+use Rattle.gl_calculus.specs.Computation.Lists.{Member}
+use Rattle.gl_calculus.specs.Evaluation.Key.{Key, Outcome}
+use Rattle.gl_calculus.specs.Evaluation.Sound.{is_sound_key, is_sound_outcome, is_outcome_of}
 
 -- each outcome is sound, and is one of its key
 abbrev pub IsSoundTable : (Key → Option Outcome) → Type 0

@@ -1,8 +1,8 @@
 -- What is found where an evaluation ends, and where it stops before its result.
 use Rattle.std.specs.Prelude.{◌≡◌, Result, Ok, Err}
-use Rattle.gl_query.specs.Query.{Ready, Need}
-use Rattle.gl_calculus.specs.Key as K
-use Rattle.gl_ahead.specs.Reading as A
+use Rattle.gl_calculus.specs.Computation.Query.{Ready, Need}
+use Rattle.gl_calculus.specs.Evaluation.Key as K
+use Rattle.gl_machine.specs.Ahead.Reading as A
 use Rattle.gl_plane.specs.declared.NoMemory.{NoMemory}
 use Rattle.gl_demand.specs.View.{key_tree, budget_tree, found_tree}
 use Rattle.gl_demand.specs.Reading.{ahead_tree}

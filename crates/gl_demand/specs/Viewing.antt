@@ -1,10 +1,10 @@
 -- The settling of a sheet value, and what is read in it.
-use Rattle.gl_query.specs.Evaluation.{Demand}
-use Rattle.gl_calculus.specs.Value as V
-use Rattle.gl_calculus.specs.Value.{Oracle, SheetValue, In}
-use Rattle.gl_calculus.specs.Formula.{Formula}
-use Rattle.gl_calculus.specs.Key.{Settle, Eval, ◌>>=◌, settled_oracle}
-use Rattle.gl_calculus.specs.Evaluation.{at_written}
+use Rattle.gl_calculus.specs.Computation.Evaluation.{Demand}
+use Rattle.gl_calculus.specs.Values.Value as V
+use Rattle.gl_calculus.specs.Values.Value.{Oracle, SheetValue, In}
+use Rattle.gl_calculus.specs.Formulas.Formula.{Formula}
+use Rattle.gl_calculus.specs.Evaluation.Key.{Settle, Eval, ◌>>=◌, settled_oracle}
+use Rattle.gl_calculus.specs.Evaluation.Evaluation.{at_written}
 
 -- the oracle to which a sheet value settles
 abbrev pub settling : SheetValue → Eval Oracle

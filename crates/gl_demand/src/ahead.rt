@@ -1,6 +1,6 @@
 //! What an evaluation was reading where it stopped at a key without known outcome.
 ghost use Rattle.std.specs.Prelude.{IsTrue};
-ghost use Rattle.gl_calculus.specs.Sound.{is_sound_frame};
+ghost use Rattle.gl_calculus.specs.Evaluation.Sound.{is_sound_frame};
 ghost use Rattle.gl_value.specs.View.{frame_tree};
 
 use gl_plane::{Addr, Range};

@@ -1,10 +1,11 @@
 //! The functions of formulas whose arguments are all evaluated.
 ghost use Rattle.std.specs.Prelude.{◌≡◌, ◌≤◌, IsTrue, IfOk, IfErr, false, [], ◌∷◌, length, map};
 ghost use Rattle.gl_ast.specs.View.{fun_tree};
-ghost use Rattle.gl_calculus.specs.{Limits.max_arguments, Sound.is_sound_value};
-ghost use Rattle.gl_calculus.specs.ErrKind as E;
-ghost use Rattle.gl_calculus.specs.Functions as F;
-ghost use Rattle.gl_calculus.specs.Value as V;
+ghost use Rattle.gl_calculus.specs.Grid.Limits.{max_arguments};
+ghost use Rattle.gl_calculus.specs.Evaluation.Sound.{is_sound_value};
+ghost use Rattle.gl_calculus.specs.Values.ErrKind as E;
+ghost use Rattle.gl_calculus.specs.Values.Functions as F;
+ghost use Rattle.gl_calculus.specs.Values.Value as V;
 ghost use Rattle.gl_funs.specs.Elements.{AreSound};
 ghost use Rattle.gl_value.specs.View.{value_tree};
 ghost use Rattle.gl_demand.specs.{Arity.takes_any, declared.trail.Halt.Halt};
@@ -47,7 +48,7 @@ pub fn apply(alloc: Global, fun: Fun, values: &[Value]) -> Eval<Value>
 }
 
 /// The value of a function on at most `MAX_ARGUMENTS` arguments.
-#[tactic(auto, using(gl_value::specs::Forms::trees), unfolding(gl_calculus::specs::Functions::apply))]
+#[tactic(auto, using(gl_value::specs::Forms::trees), unfolding(gl_calculus::specs::Values::Functions::apply))]
 fn applied(alloc: Global, fun: Fun, values: &[Value]) -> Result<Value, NoMemory>
     requires few { length values.now ≤ max_arguments }
     requires sound { AreSound values.now }
@@ -97,7 +98,7 @@ fn below(alloc: Global, values: &[Value]) -> Result<Value, NoMemory>
 }
 
 /// The value of a function that takes a number of arguments of its own.
-#[tactic(auto, using(gl_value::specs::Forms::trees), unfolding(gl_calculus::specs::Functions::apply))]
+#[tactic(auto, using(gl_value::specs::Forms::trees), unfolding(gl_calculus::specs::Values::Functions::apply))]
 fn by_number(alloc: Global, fun: Fun, values: &[Value]) -> Result<Value, NoMemory>
     requires fixed { takes_any (fun_tree fun) ≡ false }
     requires sound { AreSound values.now }
@@ -124,7 +125,7 @@ fn wrong_number() -> Value
 }
 
 /// The value of a function without arguments.
-#[tactic(auto, using(gl_value::specs::Forms::trees), unfolding(gl_calculus::specs::Functions::apply))]
+#[tactic(auto, using(gl_value::specs::Forms::trees), unfolding(gl_calculus::specs::Values::Functions::apply))]
 fn on_none(fun: Fun) -> Value
     requires fixed { takes_any (fun_tree fun) ≡ false }
     ensures value { value_tree result ≡ F.apply (fun_tree fun) [] }
@@ -137,7 +138,7 @@ fn on_none(fun: Fun) -> Value
 }
 
 /// The value of a function on one argument.
-#[tactic(auto, using(gl_value::specs::Forms::trees), unfolding(gl_calculus::specs::Functions::apply))]
+#[tactic(auto, using(gl_value::specs::Forms::trees), unfolding(gl_calculus::specs::Values::Functions::apply))]
 fn on_one(alloc: Global, fun: Fun, v: &Value) -> Result<Value, NoMemory>
     requires fixed { takes_any (fun_tree fun) ≡ false }
     requires sound { IsTrue (is_sound_value (value_tree v.now)) }
@@ -160,7 +161,7 @@ fn on_one(alloc: Global, fun: Fun, v: &Value) -> Result<Value, NoMemory>
 }
 
 /// The value of a function on two arguments.
-#[tactic(auto, using(gl_value::specs::Forms::trees), unfolding(gl_calculus::specs::Functions::apply))]
+#[tactic(auto, using(gl_value::specs::Forms::trees), unfolding(gl_calculus::specs::Values::Functions::apply))]
 fn on_two(alloc: Global, fun: Fun, u: &Value, v: &Value) -> Result<Value, NoMemory>
     requires fixed { takes_any (fun_tree fun) ≡ false }
     requires first { IsTrue (is_sound_value (value_tree u.now)) }
@@ -180,7 +181,7 @@ fn on_two(alloc: Global, fun: Fun, u: &Value, v: &Value) -> Result<Value, NoMemo
 }
 
 /// The value of a function on three arguments.
-#[tactic(auto, using(gl_value::specs::Forms::trees), unfolding(gl_calculus::specs::Functions::apply))]
+#[tactic(auto, using(gl_value::specs::Forms::trees), unfolding(gl_calculus::specs::Values::Functions::apply))]
 fn on_three(alloc: Global, fun: Fun, u: &Value, v: &Value, w: &Value) -> Result<Value, NoMemory>
     requires fixed { takes_any (fun_tree fun) ≡ false }
     requires first { IsTrue (is_sound_value (value_tree u.now)) }

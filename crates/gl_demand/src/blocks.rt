@@ -1,6 +1,6 @@
 //! What stands in the way of arrays: the contents of the sheet, or those of a sheet value's region.
 ghost use Rattle.std.specs.Prelude.{IsTrue};
-ghost use Rattle.gl_calculus.specs.Sound.{is_sound_sheet};
+ghost use Rattle.gl_calculus.specs.Evaluation.Sound.{is_sound_sheet};
 ghost use Rattle.gl_cells.specs.Sheet.{sheet};
 ghost use Rattle.gl_value.specs.View.{sheet_tree};
 

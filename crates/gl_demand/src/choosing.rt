@@ -1,10 +1,12 @@
 //! What IF and IFERROR do at their first argument.
 ghost use Rattle.std.specs.Prelude.{◌≡◌, IsTrue, IfOk, IfErr};
 ghost use Rattle.gl_ast.specs.View.{version_tree};
-ghost use Rattle.gl_calculus.specs.{Key.Eval, Lift.lift2, Lift.lift3, Sound.is_sound_scalar};
-ghost use Rattle.gl_calculus.specs.{Sound.is_sound_value};
-ghost use Rattle.gl_calculus.specs.Evaluation as E;
-ghost use Rattle.gl_calculus.specs.Value as V;
+ghost use Rattle.gl_calculus.specs.Evaluation.Key.{Eval};
+ghost use Rattle.gl_calculus.specs.Values.Lift.{lift2, lift3};
+ghost use Rattle.gl_calculus.specs.Evaluation.Sound.{is_sound_scalar};
+ghost use Rattle.gl_calculus.specs.Evaluation.Sound.{is_sound_value};
+ghost use Rattle.gl_calculus.specs.Evaluation.Evaluation as E;
+ghost use Rattle.gl_calculus.specs.Values.Value as V;
 ghost use Rattle.gl_value.specs.View.{scalar_tree, value_tree};
 ghost use Rattle.gl_demand.specs.{Choices.by_choice, Choices.by_replacement};
 ghost use Rattle.gl_demand.specs.{declared.trail.Halt.Halt};

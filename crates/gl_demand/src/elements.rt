@@ -1,7 +1,7 @@
 //! The elements that references show.
 ghost use Rattle.std.specs.Prelude.{◌≡◌, Some, IsTrue, IfOk, IfErr, IfSome, option_map};
-ghost use Rattle.gl_calculus.specs.Reference.{shown, spilled, spilling};
-ghost use Rattle.gl_calculus.specs.Sound.{is_sound_scalar, is_sound_value};
+ghost use Rattle.gl_calculus.specs.Evaluation.Reference.{shown, spilled, spilling};
+ghost use Rattle.gl_calculus.specs.Evaluation.Sound.{is_sound_scalar, is_sound_value};
 ghost use Rattle.gl_plane.specs.Permit.{permit_tree};
 ghost use Rattle.gl_value.specs.View.{scalar_tree, value_tree};
 ghost use Rattle.gl_demand.specs.declared.trail.Halt.{Halt};

@@ -2,9 +2,9 @@
 ghost use Rattle.std.specs.Prelude.{◌≡◌, ◌&&◌, ◌||◌, not, ◌≤◌, Bool, true, false, IsTrue, IfSome};
 ghost use Rattle.std.specs.Prelude.{length};
 ghost use Rattle.std.specs.{List.AllWithin, Option.IfNone};
-ghost use Rattle.gl_calculus.specs.Grid.{Addr as Plain, covers, is_before};
-ghost use Rattle.gl_calculus.specs.Value.{Oracle, In, region};
-ghost use Rattle.gl_calculus.specs.Sound.{is_sound_sheet, is_sound_frame};
+ghost use Rattle.gl_calculus.specs.Grid.Grid.{Addr as Plain, covers, is_before};
+ghost use Rattle.gl_calculus.specs.Values.Value.{Oracle, In, region};
+ghost use Rattle.gl_calculus.specs.Evaluation.Sound.{is_sound_sheet, is_sound_frame};
 ghost use Rattle.gl_cells.specs.{Search.comes_after, Sheet.sheet};
 ghost use Rattle.gl_value.specs.View.{frame_tree, sheet_tree, override_trees};
 ghost use Rattle.gl_value.specs.declared.Value.{Value as Given};

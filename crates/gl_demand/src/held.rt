@@ -1,16 +1,18 @@
 //! What an address holds in a frame.
 ghost use Rattle.std.specs.Prelude.{◌≡◌, IsTrue, None, Some, IfSome, option_map};
 ghost use Rattle.std.specs.Option.{option_copied};
-ghost use Rattle.gl_language.specs.Content.{IsProperContent};
-ghost use Rattle.gl_calculus.specs.Reference.{own_content, content_in, held_top, home, in_region};
-ghost use Rattle.gl_calculus.specs.Reference.{status_in, cover_in};
-ghost use Rattle.gl_calculus.specs.{Formula.content, Formula.Cells as Sheet, Facts.fact};
-ghost use Rattle.gl_calculus.specs.{Sound.is_sound_frame, Sound.is_sound_value};
+ghost use Rattle.gl_language.specs.Reading.Content.{IsProperContent};
+ghost use Rattle.gl_calculus.specs.Evaluation.Reference.{own_content, content_in, held_top, home};
+ghost use Rattle.gl_calculus.specs.Evaluation.Reference.{in_region};
+ghost use Rattle.gl_calculus.specs.Evaluation.Reference.{status_in, cover_in};
+ghost use Rattle.gl_calculus.specs.Formulas.Formula.{content, Cells as Sheet};
+ghost use Rattle.gl_calculus.specs.Evaluation.Facts.{fact};
+ghost use Rattle.gl_calculus.specs.Evaluation.Sound.{is_sound_frame, is_sound_value};
 ghost use Rattle.gl_cells.specs.{Sheet.sheet, Content.content_tree};
 ghost use Rattle.gl_plane.specs.{Entries.offsets, Permit.permit_tree};
 ghost use Rattle.gl_ast.specs.View.{formula_tree};
-ghost use Rattle.gl_calculus.specs.Reference as R;
-ghost use Rattle.gl_calculus.specs.Value as V;
+ghost use Rattle.gl_calculus.specs.Evaluation.Reference as R;
+ghost use Rattle.gl_calculus.specs.Values.Value as V;
 ghost use Rattle.gl_value.specs.View.{scalar_tree, value_tree, frame_tree};
 ghost use Rattle.gl_demand.specs.Held.{held_tree, IsSoundHeld, override_in};
 

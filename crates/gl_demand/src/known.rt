@@ -1,6 +1,6 @@
 //! The results that are known, and what one evaluation finds.
 ghost use Rattle.std.specs.Prelude.{◌≡◌, Option};
-ghost use Rattle.gl_calculus.specs.Key as K;
+ghost use Rattle.gl_calculus.specs.Evaluation.Key as K;
 
 use crate::{Ahead, Key, Outcome};
 use gl_cells::Hint;
@@ -10,7 +10,7 @@ use gl_plane::Range;
 pub trait Known {
     ghost use Rattle.std.specs.Prelude.{◌≡◌, Option, option_map};
     ghost use Rattle.std.specs.Option.{option_copied};
-    ghost use Rattle.gl_calculus.specs.Key as K;
+    ghost use Rattle.gl_calculus.specs.Evaluation.Key as K;
     ghost use Rattle.gl_demand.specs.View.{key_tree, outcome_tree};
 
     /// The known outcome of each key.

@@ -1,6 +1,6 @@
 //! What a key that waits will need next.
 ghost use Rattle.std.specs.Prelude.{◌≡◌};
-ghost use Rattle.gl_ahead.specs.Reading.{Nothing};
+ghost use Rattle.gl_machine.specs.Ahead.Reading.{Nothing};
 ghost use Rattle.gl_demand.specs.{Reading.ahead_tree, Marks.mark_tree};
 
 use crate::ahead::Ahead;

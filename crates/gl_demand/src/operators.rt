@@ -2,10 +2,11 @@
 ghost use Rattle.std.specs.Prelude.{◌≡◌, IsTrue, IfOk, IfErr};
 ghost use Rattle.std.specs.Rc.{rc_str_bytes};
 ghost use Rattle.gl_ast.specs.View.{op_tree};
-ghost use Rattle.gl_calculus.specs.{Lift.lift1, Lift.lift2, Sound.is_sound_scalar};
-ghost use Rattle.gl_calculus.specs.{Sound.is_sound_value};
-ghost use Rattle.gl_calculus.specs.Value as V;
-ghost use Rattle.gl_calculus.specs.Operators as O;
+ghost use Rattle.gl_calculus.specs.Values.Lift.{lift1, lift2};
+ghost use Rattle.gl_calculus.specs.Evaluation.Sound.{is_sound_scalar};
+ghost use Rattle.gl_calculus.specs.Evaluation.Sound.{is_sound_value};
+ghost use Rattle.gl_calculus.specs.Values.Value as V;
+ghost use Rattle.gl_calculus.specs.Values.Operators as O;
 ghost use Rattle.gl_value.specs.View.{scalar_tree, value_tree};
 ghost use Rattle.gl_demand.specs.declared.trail.Halt.{Halt};
 

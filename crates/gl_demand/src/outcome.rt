@@ -1,6 +1,6 @@
 //! What keys come to.
 ghost use Rattle.std.specs.Prelude.{◌≡◌};
-ghost use Rattle.gl_calculus.specs.Sound.{is_sound_outcome};
+ghost use Rattle.gl_calculus.specs.Evaluation.Sound.{is_sound_outcome};
 ghost use Rattle.gl_demand.specs.{View.outcome_tree, Equal.outcome_equal};
 ghost use Rattle.std.proofs.Common.{sym};
 

@@ -1,8 +1,10 @@
 //! The addresses of a sheet value's region that have content.
 ghost use Rattle.std.specs.Prelude.{◌≡◌, ◌*◌, ◌≤◌, [], IsTrue, IfOk, length, option_map};
-ghost use Rattle.gl_calculus.specs.{Limits.grid_rows, Limits.grid_cols, Value.In, Formula.content};
-ghost use Rattle.gl_calculus.specs.{Reference.own_content, Reference.content_in};
-ghost use Rattle.gl_calculus.specs.{Sound.is_sound_sheet};
+ghost use Rattle.gl_calculus.specs.Grid.Limits.{grid_rows, grid_cols};
+ghost use Rattle.gl_calculus.specs.Values.Value.{In};
+ghost use Rattle.gl_calculus.specs.Formulas.Formula.{content};
+ghost use Rattle.gl_calculus.specs.Evaluation.Reference.{own_content, content_in};
+ghost use Rattle.gl_calculus.specs.Evaluation.Sound.{is_sound_sheet};
 ghost use Rattle.gl_cells.specs.Sheet.{sheet};
 ghost use Rattle.gl_value.specs.View.{sheet_tree};
 ghost use Rattle.gl_demand.specs.{Held.held_tree, Places.filled_places};

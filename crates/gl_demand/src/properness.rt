@@ -1,6 +1,7 @@
 //! Whether keys are proper.
 ghost use Rattle.std.specs.Prelude.{◌≡◌, true, false, IsTrue, IsFalse, option_map};
-ghost use Rattle.gl_calculus.specs.{Sound.is_sound_key, Sound.IsProperKey, Reference.is_computed};
+ghost use Rattle.gl_calculus.specs.Evaluation.Sound.{is_sound_key, IsProperKey};
+ghost use Rattle.gl_calculus.specs.Evaluation.Reference.{is_computed};
 ghost use Rattle.gl_cells.specs.Sheet.{sheet};
 ghost use Rattle.gl_demand.specs.{Held.held_tree, View.key_tree};
 

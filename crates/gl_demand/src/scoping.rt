@@ -1,8 +1,8 @@
 //! Variables are looked up and bound.
 ghost use Rattle.std.specs.Prelude.{◌≡◌, ◌++◌, ◌∷◌, [], IsTrue, IfOk, IfErr, OnOk, bytes_eq};
 ghost use Rattle.std.specs.Rc.{rc_str_bytes};
-ghost use Rattle.gl_calculus.specs.Sound.{is_sound_value};
-ghost use Rattle.gl_calculus.specs.Evaluation as E;
+ghost use Rattle.gl_calculus.specs.Evaluation.Sound.{is_sound_value};
+ghost use Rattle.gl_calculus.specs.Evaluation.Evaluation as E;
 ghost use Rattle.gl_value.specs.View.{value_tree};
 ghost use Rattle.gl_demand.specs.{Scope.bindings_of, declared.trail.Halt.Halt};
 

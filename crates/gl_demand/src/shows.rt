@@ -1,7 +1,8 @@
 //! What a value shows at one address.
 ghost use Rattle.std.specs.Prelude.{◌≡◌, Some, IsTrue, IfOk, option_map};
-ghost use Rattle.gl_calculus.specs.{Lift.item_or, Reference.shown, Reference.spilled};
-ghost use Rattle.gl_calculus.specs.{Sound.is_sound_scalar, Sound.is_sound_value};
+ghost use Rattle.gl_calculus.specs.Values.Lift.{item_or};
+ghost use Rattle.gl_calculus.specs.Evaluation.Reference.{shown, spilled};
+ghost use Rattle.gl_calculus.specs.Evaluation.Sound.{is_sound_scalar, is_sound_value};
 ghost use Rattle.gl_plane.specs.Permit.{permit_tree};
 ghost use Rattle.gl_value.specs.View.{scalar_tree, value_tree, array_tree};
 

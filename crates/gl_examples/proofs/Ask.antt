@@ -3,28 +3,28 @@ use Rattle.std.proofs.Common.{ℕ, zero, suc, Bool, true, false, List, [], ◌�
 use Rattle.std.specs.Prelude.{filter_map, flat_map, replicate, codes, ◌==◌}
 use Rattle.std.specs.List.{range_with_len}
 use Rattle.std.specs.Fmt.{decimal}
-use Rattle.gl_query.specs.Lists.{distinct}
-use Rattle.gl_query.specs.Query.{run, asked, looked}
-use Rattle.gl_query.specs.Machine.{Entry, picks, start, table, idle_keys, keys}
-use Rattle.gl_query.specs.Evaluation.{given}
-use Rattle.gl_calculus.specs.Limits.{max_demanded}
-use Rattle.gl_calculus.specs.Grid.{Addr, addr, Range, extents, grid}
-use Rattle.gl_calculus.specs.Value as V
-use Rattle.gl_calculus.specs.Value.{Value, Oracle, Top, In, region, rank}
-use Rattle.gl_calculus.specs.Sheet.{weight, frame_weight}
-use Rattle.gl_calculus.specs.Same.{same_oracle}
-use Rattle.gl_calculus.specs.Formula.{Version, Cells, formula_addresses}
-use Rattle.gl_calculus.specs.Oracle.{Sizes, grant, first_difference}
-use Rattle.gl_calculus.specs.Facts.{facts}
-use Rattle.gl_calculus.specs.Key.{Key, Cell, Settle, same_key, Outcome, Budget}
-use Rattle.gl_calculus.specs.Reference.{at_address}
-use Rattle.gl_calculus.specs.Evaluation.{program}
-use Rattle.gl_calculus.specs.Calculation.{has_content, why, round_budget, Shown, Cycle, SpentKind, spent_at}
-use Rattle.gl_calculus.proofs.Sheets.{sized}
-use Rattle.gl_calculus.specs.Notation.{address_text}
-use Rattle.gl_language.specs.Text.{Bytes, range_text}
-use Rattle.gl_protocol.specs.Tables.{line, oracle_text, table_text}
-use Rattle.gl_protocol.specs.Commands.{spent_line, why_text}
+use Rattle.gl_calculus.specs.Computation.Lists.{distinct}
+use Rattle.gl_calculus.specs.Computation.Query.{run, asked, looked}
+use Rattle.gl_machine.specs.Machine.{Entry, picks, start, table, idle_keys, keys}
+use Rattle.gl_calculus.specs.Computation.Evaluation.{given}
+use Rattle.gl_calculus.specs.Grid.Limits.{max_demanded}
+use Rattle.gl_calculus.specs.Grid.Grid.{Addr, addr, Range, extents, grid}
+use Rattle.gl_calculus.specs.Values.Value as V
+use Rattle.gl_calculus.specs.Values.Value.{Value, Oracle, Top, In, region, rank}
+use Rattle.gl_calculus.specs.Values.Sheet.{weight, frame_weight}
+use Rattle.gl_calculus.specs.Values.Same.{same_oracle}
+use Rattle.gl_calculus.specs.Formulas.Formula.{Version, Cells, formula_addresses}
+use Rattle.gl_calculus.specs.Evaluation.Oracle.{Sizes, grant, first_difference}
+use Rattle.gl_calculus.specs.Evaluation.Facts.{facts}
+use Rattle.gl_calculus.specs.Evaluation.Key.{Key, Cell, Settle, same_key, Outcome, Budget}
+use Rattle.gl_calculus.specs.Evaluation.Reference.{at_address}
+use Rattle.gl_calculus.specs.Evaluation.Evaluation.{program}
+use Rattle.gl_calculus.specs.Calculation.Calculation.{has_content, why, round_budget, Shown, Cycle, SpentKind, spent_at}
+use Rattle.gl_examples.proofs.Worked.Sheets.{sized}
+use Rattle.gl_calculus.specs.Grid.Notation.{address_text}
+use Rattle.gl_language.specs.Texts.Text.{Bytes, range_text}
+use Rattle.gl_protocol.specs.Replies.Tables.{line, oracle_text, table_text}
+use Rattle.gl_protocol.specs.Scripts.Commands.{spent_line, why_text}
 
 abbrev pub State : Type 0
 State = List (Entry Key Outcome)

@@ -1,26 +1,26 @@
 -- What is made of a walk that has ended.
 use Rattle.std.proofs.Common.{◌≡◌, ◌⊎◌, ℕ, ◌+◌, ◌≤◌, List, [], ◌∷◌, length, map, Bool, true, false, Option, Some, None, IsTrue, refl, sym, ap, subst, ◌∙◌, inl, inr, arith}
-use Rattle.gl_query.specs.Lists.{Member, has_member}
-use Rattle.gl_query.specs.Machine.{Demanded}
-use Rattle.gl_calculus.specs.Limits.{max_demanded}
-use Rattle.gl_calculus.specs.Grid.{Addr}
-use Rattle.gl_calculus.specs.Value.{Oracle, Top}
-use Rattle.gl_calculus.specs.Formula.{Version, Cells, content}
-use Rattle.gl_calculus.specs.Key.{Key, Cell, Budget, Outcome, Settled, Abort, same_key}
-use Rattle.gl_calculus.specs.SameOutcome.{same_outcome}
-use Rattle.gl_calculus.specs.Sound.{is_sound_key, is_outcome_of}
-use Rattle.gl_calculus.specs.Evaluation.{program}
-use Rattle.gl_calculus.proofs.OutcomeTests.{outcome_equality}
-use Rattle.gl_calculus.proofs.Proper.{asks_proper}
+use Rattle.gl_calculus.specs.Computation.Lists.{Member, has_member}
+use Rattle.gl_calculus.specs.Computation.Demanded.{Demanded}
+use Rattle.gl_calculus.specs.Grid.Limits.{max_demanded}
+use Rattle.gl_calculus.specs.Grid.Grid.{Addr}
+use Rattle.gl_calculus.specs.Values.Value.{Oracle, Top}
+use Rattle.gl_calculus.specs.Formulas.Formula.{Version, Cells, content}
+use Rattle.gl_calculus.specs.Evaluation.Key.{Key, Cell, Budget, Outcome, Settled, Abort, same_key}
+use Rattle.gl_calculus.specs.Evaluation.SameOutcome.{same_outcome}
+use Rattle.gl_calculus.specs.Evaluation.Sound.{is_sound_key, is_outcome_of}
+use Rattle.gl_calculus.specs.Evaluation.Evaluation.{program}
+use Rattle.laws_calculus.proofs.Calculus.OutcomeTests.{outcome_equality}
+use Rattle.laws_calculus.proofs.Calculus.Proper.{asks_proper}
 use Rattle.gl_calculus.proofs.Tests.{key_equality}
-use Rattle.gl_explanation.specs.Walk.{Claim, noted, Walked, Explained, Exhausted, IsWalk}
-use Rattle.gl_explanation.specs.Certificate.{Certificate, Cert, Work, Aborts, work, aborts, cert, key_at, start, says, shown_by_key, shown_by_note, IsWalked, is_proper}
-use Rattle.gl_explanation.specs.Allowance.{AllowsNotes}
-use Rattle.gl_explanation.proofs.Explaining.{asks_test, root_proper, decides}
-use Rattle.gl_explanation.proofs.Few.{walk_few}
-use Rattle.gl_explanation.proofs.Walks as Wa
+use Rattle.gl_calculus.specs.Explanation.Walk.{Claim, noted, Walked, Explained, Exhausted, IsWalk}
+use Rattle.gl_calculus.specs.Explanation.Certificate.{Certificate, Cert, Work, Aborts, work, aborts, cert, key_at, start, says, shown_by_key, shown_by_note, IsWalked, is_proper}
+use Rattle.gl_calculus.specs.Steps.Allowance.{AllowsNotes}
+use Rattle.laws_calculus.proofs.Explanation.Explaining.{asks_test, root_proper, decides}
+use Rattle.laws_calculus.proofs.Explanation.Few.{walk_few}
+use Rattle.laws_calculus.proofs.Explanation.Walks as Wa
 use Rattle.gl_demand.specs.Sound.{IsSoundTable, AreSoundKeys}
-use Rattle.gl_demand.specs.Steps.{AllowsDemanded}
+use Rattle.gl_calculus.specs.Steps.Demanded.{AllowsDemanded}
 use Rattle.gl_explain.specs.Walked.{IsExplained}
 use Rattle.gl_explain.specs.Walking.{HasEnded, IsFull}
 

@@ -1,17 +1,17 @@
 -- Marks of the keys on a stack.
 use Rattle.std.proofs.Common.{◌≡◌, ℕ, ◌<◌, List, [], ◌∷◌, ◌++◌, length, cond, Bool, true, false, Some, refl, sym, ap, subst, ◌∙◌, arith}
-use Rattle.gl_query.specs.Query.{Need, found}
-use Rattle.gl_calculus.specs.Grid.{Range}
-use Rattle.gl_calculus.specs.Formula.{Version, Cells}
-use Rattle.gl_calculus.specs.Value.{Oracle}
-use Rattle.gl_calculus.specs.Key.{Key, Outcome, same_key}
-use Rattle.gl_calculus.specs.Evaluation.{program}
-use Rattle.gl_explanation.specs.Walk.{Claim, noted}
-use Rattle.gl_explanation.proofs.Going.{snoc_same}
-use Rattle.gl_ahead.specs.Ahead.{Extends, first_lacked, LackSame}
-use Rattle.gl_ahead.specs.Demands.{is_value}
-use Rattle.gl_ahead.specs.Reading.{Nothing, keys_from}
-use Rattle.gl_ahead.proofs.Onward.{ahead_stays, ahead_onward}
+use Rattle.gl_calculus.specs.Computation.Query.{Need, found}
+use Rattle.gl_calculus.specs.Grid.Grid.{Range}
+use Rattle.gl_calculus.specs.Formulas.Formula.{Version, Cells}
+use Rattle.gl_calculus.specs.Values.Value.{Oracle}
+use Rattle.gl_calculus.specs.Evaluation.Key.{Key, Outcome, same_key}
+use Rattle.gl_calculus.specs.Evaluation.Evaluation.{program}
+use Rattle.gl_calculus.specs.Explanation.Walk.{Claim, noted}
+use Rattle.laws_calculus.proofs.Explanation.Going.{snoc_same}
+use Rattle.gl_machine.specs.Ahead.Ahead.{Extends, first_lacked, LackSame}
+use Rattle.gl_machine.specs.Ahead.Demands.{is_value}
+use Rattle.gl_machine.specs.Ahead.Reading.{Nothing, keys_from}
+use Rattle.laws_calculus.proofs.Ahead.Onward.{ahead_stays, ahead_onward}
 use Rattle.gl_demand.specs.Marks.{PlainMark, mark_tree, mark_trees}
 use Rattle.gl_explain.specs.Marks.{IsMark, IsMarked, AreMarked, AreMarks}
 use Rattle.gl_explain.specs.Putting.{IsTakenOff, IsPutOn, there, full, on}

@@ -1,27 +1,27 @@
 -- A turn of the walk, by what becomes of its notes and its stack.
 use Rattle.std.proofs.Common.{◌≡◌, ℕ, ◌+◌, ◌<◌, ◌≤◌, List, [], ◌∷◌, ◌++◌, length, true, false, None, IsTrue, refl, sym, ap, subst, ◌∙◌, arith}
 use Rattle.std.proofs.lemmas.List.{length-append, length-reverse}
-use Rattle.gl_query.specs.Lists.{has_member}
-use Rattle.gl_query.specs.Query.{Ready, Need, found}
-use Rattle.gl_calculus.specs.Limits.{max_demanded}
-use Rattle.gl_calculus.specs.Value.{Oracle}
-use Rattle.gl_calculus.specs.Formula.{Version, Cells}
-use Rattle.gl_calculus.specs.Key.{Key, Outcome, same_key}
-use Rattle.gl_calculus.specs.SameOutcome.{same_outcome}
-use Rattle.gl_calculus.specs.Evaluation.{program}
-use Rattle.gl_calculus.specs.Sound.{is_sound_key, IsProperKey}
+use Rattle.gl_calculus.specs.Computation.Lists.{has_member}
+use Rattle.gl_calculus.specs.Computation.Query.{Ready, Need, found}
+use Rattle.gl_calculus.specs.Grid.Limits.{max_demanded}
+use Rattle.gl_calculus.specs.Values.Value.{Oracle}
+use Rattle.gl_calculus.specs.Formulas.Formula.{Version, Cells}
+use Rattle.gl_calculus.specs.Evaluation.Key.{Key, Outcome, same_key}
+use Rattle.gl_calculus.specs.Evaluation.SameOutcome.{same_outcome}
+use Rattle.gl_calculus.specs.Evaluation.Evaluation.{program}
+use Rattle.gl_calculus.specs.Evaluation.Sound.{is_sound_key, IsProperKey}
 use Rattle.gl_demand.specs.Sound.{AreSoundKeys}
 use Rattle.gl_explain.proofs.Tops.{more_sound}
-use Rattle.gl_calculus.proofs.OutcomeTests.{outcome_equality}
-use Rattle.gl_calculus.proofs.Proper.{asks_proper}
+use Rattle.laws_calculus.proofs.Calculus.OutcomeTests.{outcome_equality}
+use Rattle.laws_calculus.proofs.Calculus.Proper.{asks_proper}
 use Rattle.gl_calculus.proofs.Tests.{key_equality}
-use Rattle.gl_explanation.specs.Walk.{Claim, noted, Explained, IsWalk}
-use Rattle.gl_explanation.specs.Certificate.{is_proper}
-use Rattle.gl_explanation.proofs.Explaining.{asks_test}
-use Rattle.gl_explanation.proofs.Judging.{test_proper}
-use Rattle.gl_explanation.proofs.Going as Go
-use Rattle.gl_explanation.proofs.Spending as Sp
-use Rattle.gl_explanation.proofs.Walks as Wa
+use Rattle.gl_calculus.specs.Explanation.Walk.{Claim, noted, Explained, IsWalk}
+use Rattle.gl_calculus.specs.Explanation.Certificate.{is_proper}
+use Rattle.laws_calculus.proofs.Explanation.Explaining.{asks_test}
+use Rattle.laws_calculus.proofs.Explanation.Judging.{test_proper}
+use Rattle.laws_calculus.proofs.Explanation.Going as Go
+use Rattle.laws_calculus.proofs.Explanation.Spending as Sp
+use Rattle.laws_calculus.proofs.Explanation.Walks as Wa
 use Rattle.gl_demand.specs.Marks.{PlainMark}
 use Rattle.gl_explain.specs.Walking.{IsWalking, HasEnded, IsTurned, left}
 use Rattle.gl_explain.specs.Putting.{IsTakenOff, IsPutOn, there, full, on}

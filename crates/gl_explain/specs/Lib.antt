@@ -1,5 +1,4 @@
 pub mod View
-pub mod Steps
 pub mod Marks
 pub mod Walking
 pub mod Putting

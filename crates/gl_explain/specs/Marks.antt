@@ -1,15 +1,15 @@
 -- What keys that wait will need next: what each was reading, and a place in it.
 use Rattle.std.specs.Prelude.{List, [], ◌∷◌}
-use Rattle.gl_query.specs.Query.{Found, Ready, Need}
-use Rattle.gl_calculus.specs.Formula.{Version, Cells}
-use Rattle.gl_calculus.specs.Value.{Oracle}
-use Rattle.gl_calculus.specs.Key as K
-use Rattle.gl_calculus.specs.Key.{same_key}
-use Rattle.gl_calculus.specs.Evaluation.{program}
-use Rattle.gl_explanation.specs.Walk.{Claim, noted}
-use Rattle.gl_ahead.specs.Ahead.{IsAhead}
-use Rattle.gl_ahead.specs.Demands.{is_value}
-use Rattle.gl_ahead.specs.Reading.{keys_from}
+use Rattle.gl_calculus.specs.Computation.Query.{Found, Ready, Need}
+use Rattle.gl_calculus.specs.Formulas.Formula.{Version, Cells}
+use Rattle.gl_calculus.specs.Values.Value.{Oracle}
+use Rattle.gl_calculus.specs.Evaluation.Key as K
+use Rattle.gl_calculus.specs.Evaluation.Key.{same_key}
+use Rattle.gl_calculus.specs.Evaluation.Evaluation.{program}
+use Rattle.gl_calculus.specs.Explanation.Walk.{Claim, noted}
+use Rattle.gl_machine.specs.Ahead.Ahead.{IsAhead}
+use Rattle.gl_machine.specs.Ahead.Demands.{is_value}
+use Rattle.gl_machine.specs.Ahead.Reading.{keys_from}
 use Rattle.gl_demand.specs.View.{key_tree, outcome_tree}
 use Rattle.gl_demand.specs.Marks.{PlainMark, mark_tree}
 use Rattle.gl_explain.specs.declared.reading.Reached.{Reached}

@@ -1,10 +1,10 @@
 -- What becomes of a stack in one turn.
 use Rattle.std.specs.Prelude.{◌≡◌, ◌+◌, ◌++◌, List, [], ◌∷◌, length, true, false}
-use Rattle.gl_query.specs.Lists.{has_member}
-use Rattle.gl_calculus.specs.Limits.{max_demanded}
-use Rattle.gl_calculus.specs.Key.{Key, Outcome, same_key}
-use Rattle.gl_explanation.specs.Walk.{Claim}
-use Rattle.gl_ahead.specs.Reading.{Nothing}
+use Rattle.gl_calculus.specs.Computation.Lists.{has_member}
+use Rattle.gl_calculus.specs.Grid.Limits.{max_demanded}
+use Rattle.gl_calculus.specs.Evaluation.Key.{Key, Outcome, same_key}
+use Rattle.gl_calculus.specs.Explanation.Walk.{Claim}
+use Rattle.gl_machine.specs.Ahead.Reading.{Nothing}
 use Rattle.gl_demand.specs.Marks.{PlainMark}
 use Rattle.gl_explain.specs.declared.turning.Turned.{Turned}
 use Rattle.gl_explain.specs.declared.turning.Turned.TheVariants.{On, Ended, Full}

@@ -1,5 +1,5 @@
 -- The explanations that those of the code stand for.
-use Rattle.gl_explanation.specs.Certificate as E
+use Rattle.gl_calculus.specs.Explanation.Certificate as E
 use Rattle.gl_demand.specs.View.{budget_tree}
 use Rattle.gl_cert.specs.View.{cert_tree}
 use Rattle.gl_explain.specs.declared.explained.Explained.{Explained}

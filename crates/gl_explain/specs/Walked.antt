@@ -1,14 +1,14 @@
 -- What a walk found.
 use Rattle.std.specs.Prelude.{◌≡◌, ℕ, map}
-use Rattle.gl_calculus.specs.Grid.{Addr}
-use Rattle.gl_calculus.specs.Value.{Oracle}
-use Rattle.gl_calculus.specs.Formula.{Version, Cells}
-use Rattle.gl_calculus.specs.Key.{Key}
-use Rattle.gl_explanation.specs.Certificate.{Certificate, Answer, Cert, Explains}
+use Rattle.gl_calculus.specs.Grid.Grid.{Addr}
+use Rattle.gl_calculus.specs.Values.Value.{Oracle}
+use Rattle.gl_calculus.specs.Formulas.Formula.{Version, Cells}
+use Rattle.gl_calculus.specs.Evaluation.Key.{Key}
+use Rattle.gl_calculus.specs.Explanation.Certificate.{Certificate, Answer, Cert, Explains}
 use Rattle.gl_demand.specs.Sound.{AreSoundKeys}
 use Rattle.gl_demand.specs.View.{key_tree}
 use Rattle.gl_cert.specs.Notes.{claims}
-use Rattle.gl_explain.specs.Steps.{AllowsWalk}
+use Rattle.gl_calculus.specs.Steps.Walk.{AllowsWalk}
 use Rattle.gl_explain.specs.Walking.{HasEnded, IsFull}
 use Rattle.gl_explain.specs.declared.walking.Walked.{Walked}
 use Rattle.gl_explain.specs.declared.walking.Walked.TheVariants.{Ended, Full}

@@ -1,22 +1,22 @@
 -- How far the walk from a key has come, by its notes as they were made and its stack from the bottom
 -- up.
 use Rattle.std.specs.Prelude.{◌≡◌, ℕ, ◌+◌, ◌*◌, ◌-◌, List, [], ◌∷◌, length, true, false}
-use Rattle.gl_query.specs.Machine.{Demanded}
-use Rattle.gl_calculus.specs.Limits.{max_demanded}
-use Rattle.gl_calculus.specs.Value.{Oracle}
-use Rattle.gl_calculus.specs.Formula.{Version, Cells}
-use Rattle.gl_calculus.specs.Key.{Key, Outcome, same_key}
-use Rattle.gl_calculus.specs.SameOutcome.{same_outcome}
-use Rattle.gl_calculus.specs.Evaluation.{program}
-use Rattle.gl_calculus.proofs.OutcomeTests.{outcome_equality}
-use Rattle.gl_calculus.proofs.Proper.{asks_proper}
+use Rattle.gl_calculus.specs.Computation.Demanded.{Demanded}
+use Rattle.gl_calculus.specs.Grid.Limits.{max_demanded}
+use Rattle.gl_calculus.specs.Values.Value.{Oracle}
+use Rattle.gl_calculus.specs.Formulas.Formula.{Version, Cells}
+use Rattle.gl_calculus.specs.Evaluation.Key.{Key, Outcome, same_key}
+use Rattle.gl_calculus.specs.Evaluation.SameOutcome.{same_outcome}
+use Rattle.gl_calculus.specs.Evaluation.Evaluation.{program}
+use Rattle.laws_calculus.proofs.Calculus.OutcomeTests.{outcome_equality}
+use Rattle.laws_calculus.proofs.Calculus.Proper.{asks_proper}
 use Rattle.gl_calculus.proofs.Tests.{key_equality}
-use Rattle.gl_explanation.specs.Walk.{Claim, Explained, Exhausted, IsWalk}
-use Rattle.gl_explanation.specs.Allowance.{AllowsNotes}
-use Rattle.gl_explanation.specs.Certificate.{is_proper}
-use Rattle.gl_explanation.proofs.Explaining.{asks_test}
-use Rattle.gl_explanation.proofs.Going as Go
-use Rattle.gl_demand.specs.Steps.{AllowsDemanded}
+use Rattle.gl_calculus.specs.Explanation.Walk.{Claim, Explained, Exhausted, IsWalk}
+use Rattle.gl_calculus.specs.Steps.Allowance.{AllowsNotes}
+use Rattle.gl_calculus.specs.Explanation.Certificate.{is_proper}
+use Rattle.laws_calculus.proofs.Explanation.Explaining.{asks_test}
+use Rattle.laws_calculus.proofs.Explanation.Going as Go
+use Rattle.gl_calculus.specs.Steps.Demanded.{AllowsDemanded}
 use Rattle.gl_explain.specs.declared.turning.Turned.{Turned}
 use Rattle.gl_explain.specs.declared.turning.Turned.TheVariants.{On, Ended, Full}
 

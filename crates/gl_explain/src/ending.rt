@@ -1,8 +1,9 @@
 //! What is made of a walk that has ended.
 ghost use Rattle.std.specs.Prelude.{◌≡◌, ◌<◌, ◌^◌, Some, None, length, map, IfOk, IfSome, IfNone};
-ghost use Rattle.gl_calculus.specs.Key.{same_key};
-ghost use Rattle.gl_calculus.specs.Key as K;
-ghost use Rattle.gl_explanation.specs.{Certificate.says, Walk.noted};
+ghost use Rattle.gl_calculus.specs.Evaluation.Key.{same_key};
+ghost use Rattle.gl_calculus.specs.Evaluation.Key as K;
+ghost use Rattle.gl_calculus.specs.Explanation.Certificate.{says};
+ghost use Rattle.gl_calculus.specs.Explanation.Walk.{noted};
 ghost use Rattle.gl_cells.specs.Sheet.{sheet};
 ghost use Rattle.gl_value.specs.Made.{shown_tree};
 ghost use Rattle.gl_demand.specs.View.{key_tree, budget_tree};

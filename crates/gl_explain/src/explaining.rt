@@ -1,15 +1,16 @@
 //! The explanation of an address.
 ghost use Rattle.std.specs.Prelude.{◌≡◌, ◌≤◌, ℕ, Some, None, map, IfOk};
-ghost use Rattle.gl_calculus.specs.Calculation.{IsAnswer};
-ghost use Rattle.gl_calculus.specs.Calculation as C;
-ghost use Rattle.gl_calculus.specs.Formula as F;
-ghost use Rattle.gl_explanation.specs.Certificate.{Explains, verdict, key_at};
-ghost use Rattle.gl_explanation.specs.Certificate as E;
+ghost use Rattle.gl_calculus.specs.Calculation.Calculation.{IsAnswer};
+ghost use Rattle.gl_calculus.specs.Calculation.Calculation as C;
+ghost use Rattle.gl_calculus.specs.Formulas.Formula as F;
+ghost use Rattle.gl_calculus.specs.Explanation.Certificate.{Explains, verdict, key_at};
+ghost use Rattle.gl_calculus.specs.Explanation.Certificate as E;
 ghost use Rattle.gl_ast.specs.View.{version_tree};
 ghost use Rattle.gl_cells.specs.Sheet.{sheet};
 ghost use Rattle.gl_demand.specs.{Sound.AreSoundKeys, View.key_tree};
 ghost use Rattle.gl_cert.specs.Notes.{claims};
-ghost use Rattle.gl_explain.specs.{Steps.AllowsWalk, View.explained_tree, Walked.IsExplained};
+ghost use Rattle.gl_explain.specs.{View.explained_tree, Walked.IsExplained};
+ghost use Rattle.gl_calculus.specs.Steps.Walk.{AllowsWalk};
 ghost use Rattle.gl_explain.specs.{Walking.HasEnded};
 
 use crate::Explained;

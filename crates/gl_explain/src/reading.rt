@@ -1,9 +1,10 @@
 //! What the top of a stack comes to over the notes, by what it was reading or by an evaluation.
 ghost use Rattle.std.specs.Prelude.{◌≡◌, ◌≤◌, ◌+◌, IsTrue, IfOk};
-ghost use Rattle.gl_query.specs.Query.{Need, found};
-ghost use Rattle.gl_calculus.specs.{Key.same_key, Sound.is_sound_key};
-ghost use Rattle.gl_calculus.specs.{Sound.IsProperKey};
-ghost use Rattle.gl_explanation.specs.Walk.{noted};
+ghost use Rattle.gl_calculus.specs.Computation.Query.{Need, found};
+ghost use Rattle.gl_calculus.specs.Evaluation.Key.{same_key};
+ghost use Rattle.gl_calculus.specs.Evaluation.Sound.{is_sound_key};
+ghost use Rattle.gl_calculus.specs.Evaluation.Sound.{IsProperKey};
+ghost use Rattle.gl_calculus.specs.Explanation.Walk.{noted};
 ghost use Rattle.gl_ast.specs.View.{version_tree};
 ghost use Rattle.gl_cells.specs.Sheet.{sheet};
 ghost use Rattle.gl_demand.specs.{Reading.ahead_tree, Sound.IsSoundFound, Evaluators.program_of};

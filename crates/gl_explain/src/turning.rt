@@ -1,10 +1,11 @@
 //! One turn of a walk.
 ghost use Rattle.std.specs.Prelude.{◌≡◌, ◌≤◌, ◌<◌, ◌++◌, ◌∷◌, ℕ, [], None, map, length, IsTrue};
 ghost use Rattle.std.specs.Prelude.{IfOk, IfSome, IfNone};
-ghost use Rattle.gl_query.specs.Query.{Ready};
-ghost use Rattle.gl_calculus.specs.{Key.same_key, Sound.is_sound_key};
-ghost use Rattle.gl_calculus.specs.Key as K;
-ghost use Rattle.gl_explanation.specs.Walk.{noted};
+ghost use Rattle.gl_calculus.specs.Computation.Query.{Ready};
+ghost use Rattle.gl_calculus.specs.Evaluation.Key.{same_key};
+ghost use Rattle.gl_calculus.specs.Evaluation.Sound.{is_sound_key};
+ghost use Rattle.gl_calculus.specs.Evaluation.Key as K;
+ghost use Rattle.gl_calculus.specs.Explanation.Walk.{noted};
 ghost use Rattle.gl_ast.specs.View.{version_tree};
 ghost use Rattle.gl_cells.specs.Sheet.{sheet};
 ghost use Rattle.gl_demand.specs.{Sound.AreSoundKeys, Sound.IsSoundFound, View.key_tree};

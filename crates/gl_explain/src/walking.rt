@@ -1,11 +1,11 @@
 //! The walk from a key.
 ghost use Rattle.std.specs.Prelude.{◌≡◌, ◌≤◌, [], ◌∷◌, map, true, IsTrue, IfOk};
-ghost use Rattle.gl_calculus.specs.Sound.{is_sound_key};
-ghost use Rattle.gl_explanation.specs.Certificate.{is_proper};
+ghost use Rattle.gl_calculus.specs.Evaluation.Sound.{is_sound_key};
+ghost use Rattle.gl_calculus.specs.Explanation.Certificate.{is_proper};
 ghost use Rattle.gl_ast.specs.View.{version_tree};
 ghost use Rattle.gl_cells.specs.Sheet.{sheet};
 ghost use Rattle.gl_demand.specs.{View.key_tree, Marks.mark_trees};
-ghost use Rattle.gl_ahead.specs.Reading.{Nothing};
+ghost use Rattle.gl_machine.specs.Ahead.Reading.{Nothing};
 ghost use Rattle.gl_explain.specs.Walked.{IsFound};
 
 use crate::turning::{Turned, turn};

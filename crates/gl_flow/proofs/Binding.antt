@@ -5,7 +5,7 @@ use Rattle.std.specs.Prelude.{bytes_eq, None}
 use Rattle.std.specs.Rc.{rc_str_bytes}
 use Rattle.std.specs.declared.alloc.Global.{Global}
 use Rattle.std.specs.declared.rc.RcStr.{RcStr}
-use Rattle.gl_forecast.specs.Forecast.{Shape, bound_shape}
+use Rattle.gl_calculus.specs.Forecast.{Shape, bound_shape}
 use Rattle.gl_flow.specs.Shapes.{bindings_of}
 
 pub first_is : (bs : List (RcStr Global × Shape)) (i : ℕ) (x : RcStr Global × Shape) (name : List ℕ) (b : Bool) → i < length bs → x ≡ get_or bs i x → bytes_eq (rc_str_bytes x.0) name ≡ b

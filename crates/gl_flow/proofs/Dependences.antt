@@ -5,16 +5,16 @@ use Rattle.std.specs.List.{list_any, range_with_len}
 use Rattle.std.specs.Option.{option_to_list}
 use Rattle.std.proofs.lemmas.Bool.{and_from, eq-eqb, cases_order}
 use Rattle.std.proofs.lemmas.Option.{slice_get_within, get_or_from_slice_get, slice_get-map, slice_get-get_or}
-use Rattle.gl_query.specs.Lists.{Member}
-use Rattle.gl_calculus.specs.Grid.{Addr, addr, same_addr, is_before, Range, extents, addresses, covers, meets}
-use Rattle.gl_calculus.specs.Formula.{Form, Cells, content, formula_addresses}
-use Rattle.gl_calculus.proofs.Settles.{formula_content}
+use Rattle.gl_calculus.specs.Computation.Lists.{Member}
+use Rattle.gl_calculus.specs.Grid.Grid.{Addr, addr, same_addr, is_before, Range, extents, addresses, covers, meets}
+use Rattle.gl_calculus.specs.Formulas.Formula.{Form, Cells, content, formula_addresses}
+use Rattle.laws_calculus.proofs.Calculus.Settles.{formula_content}
 use Rattle.gl_calculus.proofs.Tests.{addr_exact, addr_same}
-use Rattle.gl_forecast.specs.Forecast as Fo
-use Rattle.gl_forecast.specs.Forecast.{Node, box, cell_nodes, covering, has_box, address_nodes, spill_nodes, piece_nodes, content_pieces, rivals, dependences}
-use Rattle.gl_forecast.proofs.Values.{flat_member}
-use Rattle.gl_forecast.proofs.Nodes.{flat_part, filter_part}
-use Rattle.gl_forecast.proofs.Oracles.{filtered}
+use Rattle.gl_calculus.specs.Forecast as Fo
+use Rattle.gl_calculus.specs.Forecast.{Node, box, cell_nodes, covering, has_box, address_nodes, spill_nodes, piece_nodes, content_pieces, rivals, dependences}
+use Rattle.laws_calculus.proofs.Forecast.Values.{flat_member}
+use Rattle.laws_calculus.proofs.Forecast.Nodes.{flat_part, filter_part}
+use Rattle.laws_calculus.proofs.Forecast.Oracles.{filtered}
 use Rattle.gl_graph.specs.Search.{origin}
 use Rattle.gl_flow.specs.Pieces.{without_calls, piece_last, last_read, rows_read, IsRead, IsReadPiece, AreReadPieces, AreRead}
 use Rattle.gl_flow.specs.Places.{are_in_order, StandsAt}

@@ -5,11 +5,11 @@ use Rattle.std.specs.List.{list_any}
 use Rattle.std.specs.Option.{option_to_list}
 use Rattle.std.proofs.lemmas.Bool.{cases_lt}
 use Rattle.std.proofs.lemmas.Option.{slice_get_within, slice_get_read, slice_get-get_or}
-use Rattle.gl_query.specs.Lists.{Member}
-use Rattle.gl_calculus.specs.Grid.{Addr, addr, Range}
-use Rattle.gl_calculus.specs.Formula.{Cells, formula_addresses}
-use Rattle.gl_forecast.specs.Forecast as Fo
-use Rattle.gl_forecast.specs.Forecast.{Node, box, Leads, IsInCircle, First, here, behind, IsForecast, circle, yes}
+use Rattle.gl_calculus.specs.Computation.Lists.{Member}
+use Rattle.gl_calculus.specs.Grid.Grid.{Addr, addr, Range}
+use Rattle.gl_calculus.specs.Formulas.Formula.{Cells, formula_addresses}
+use Rattle.gl_calculus.specs.Forecast as Fo
+use Rattle.gl_calculus.specs.Forecast.{Node, box, Leads, IsInCircle, First, here, behind, IsForecast, circle, yes}
 use Rattle.gl_graph.specs.Graph as G
 use Rattle.gl_graph.specs.Graph.{IsPlain}
 use Rattle.gl_graph.specs.Search.{is_shut, AreTrue}

@@ -6,11 +6,11 @@ use Rattle.std.specs.declared.alloc.Global.{Global}
 use Rattle.std.proofs.lemmas.Bool.{and_parts, and_from, cases_eq, le-leb}
 use Rattle.std.proofs.lemmas.List.{get_or-set_same, get_or-set_other, get_or_append_left, get_or_push, map-set, get_or-map}
 use Rattle.std.proofs.lemmas.Option.{slice_get_within, slice_get_read}
-use Rattle.gl_query.specs.Lists.{Member}
-use Rattle.gl_calculus.specs.Limits.{grid_cols, grid_rows}
-use Rattle.gl_calculus.specs.Grid.{Addr, Range, covers, grid, is_before, same_addr}
-use Rattle.gl_calculus.specs.Formula.{Content, Const, Form, Cells, IsSheet, content, formula_addresses}
-use Rattle.gl_calculus.proofs.Settles.{formula_content, formula_listed}
+use Rattle.gl_calculus.specs.Computation.Lists.{Member}
+use Rattle.gl_calculus.specs.Grid.Limits.{grid_cols, grid_rows}
+use Rattle.gl_calculus.specs.Grid.Grid.{Addr, Range, covers, grid, is_before, same_addr}
+use Rattle.gl_calculus.specs.Formulas.Formula.{Content, Const, Form, Cells, IsSheet, content, formula_addresses}
+use Rattle.laws_calculus.proofs.Calculus.Settles.{formula_content, formula_listed}
 use Rattle.gl_calculus.proofs.Tests.{addr_exact, addr_same}
 use Rattle.gl_cells.specs.Search.{is_in_play, comes_after}
 use Rattle.gl_graph.proofs.Rising.{map_push}

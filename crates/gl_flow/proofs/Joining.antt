@@ -2,9 +2,9 @@
 use Rattle.std.proofs.Common.{◌≡◌, ℕ, ◌+◌, ◌<◌, ◌≤◌, min, max, Bool, true, false, List, [], ◌∷◌, map, length, drop, get_or, refl, sym, subst, ap, ◌∙◌, arith}
 use Rattle.std.proofs.lemmas.List.{at_drop_more, at_drop_all}
 use Rattle.std.specs.Prelude.{Some, None, option_map}
-use Rattle.gl_calculus.specs.Limits.{max_cells}
-use Rattle.gl_calculus.specs.Grid.{Size, size}
-use Rattle.gl_forecast.specs.Forecast.{Shape, full, cut, joined, all_joined, flipped, under}
+use Rattle.gl_calculus.specs.Grid.Limits.{max_cells}
+use Rattle.gl_calculus.specs.Grid.Grid.{Size, size}
+use Rattle.gl_calculus.specs.Forecast.{Shape, full, cut, joined, all_joined, flipped, under}
 use Rattle.gl_flow.specs.Shapes.{turned, stacked}
 
 same_sizes : (a b c d : ℕ) → a ≡ c → b ≡ d → size a b ≡ size c d

@@ -4,12 +4,12 @@ use Rattle.std.specs.Prelude.{Option, Some, None, if◌then◌else◌}
 use mathlib.Core.Path.{fun_ext}
 use Rattle.std.proofs.lemmas.Bool.{cases_eq}
 use Rattle.std.proofs.lemmas.List.{take_more, map-append, take_all, same_lists, get_or_default}
-use Rattle.gl_query.specs.Lists.{Member}
-use Rattle.gl_calculus.specs.Grid.{Addr, same_addr}
-use Rattle.gl_calculus.specs.Formula.{Content, Const, Form, Cells, content, formula_addresses}
+use Rattle.gl_calculus.specs.Computation.Lists.{Member}
+use Rattle.gl_calculus.specs.Grid.Grid.{Addr, same_addr}
+use Rattle.gl_calculus.specs.Formulas.Formula.{Content, Const, Form, Cells, content, formula_addresses}
 use Rattle.gl_calculus.proofs.Tests.{addr_exact, addr_same}
-use Rattle.gl_calculus.proofs.Settles.{formula_listed}
-use Rattle.gl_forecast.specs.Forecast.{Shape, content_shape, spilled_shape, cell_shape}
+use Rattle.laws_calculus.proofs.Calculus.Settles.{formula_listed}
+use Rattle.gl_calculus.specs.Forecast.{Shape, content_shape, spilled_shape, cell_shape}
 use Rattle.gl_flow.specs.Places.{shape_in}
 use Rattle.gl_flow.specs.Shapes.{spilled_at, shapes_at, level_shapes}
 use Rattle.gl_flow.specs.Contents.{formula_in, formula_shape}

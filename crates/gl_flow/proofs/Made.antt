@@ -3,12 +3,12 @@ use Rattle.std.proofs.Common.{◌≡◌, ℕ, ◌≤◌, true, List, [], ◌∷�
 use Rattle.std.specs.Prelude.{Option, Some, None}
 use Rattle.std.proofs.lemmas.List.{length-map}
 use Rattle.std.proofs.lemmas.Option.{slice_get_within}
-use Rattle.gl_calculus.specs.Limits.{max_formulas}
-use Rattle.gl_calculus.specs.Grid.{Addr, Range}
-use Rattle.gl_calculus.specs.Formula.{Content, Const, Form, Cells, IsSheet, content, formula_addresses}
-use Rattle.gl_calculus.proofs.Settles.{formula_order}
-use Rattle.gl_forecast.specs.Forecast as Fo
-use Rattle.gl_forecast.specs.Forecast.{box, content_pieces}
+use Rattle.gl_calculus.specs.Grid.Limits.{max_formulas}
+use Rattle.gl_calculus.specs.Grid.Grid.{Addr, Range}
+use Rattle.gl_calculus.specs.Formulas.Formula.{Content, Const, Form, Cells, IsSheet, content, formula_addresses}
+use Rattle.laws_calculus.proofs.Calculus.Settles.{formula_order}
+use Rattle.gl_calculus.specs.Forecast as Fo
+use Rattle.gl_calculus.specs.Forecast.{box, content_pieces}
 use Rattle.gl_flow.specs.Contents.{formula_in}
 use Rattle.gl_flow.specs.Places.{are_in_order}
 use Rattle.gl_flow.specs.Columns.{none, some}

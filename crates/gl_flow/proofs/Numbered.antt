@@ -1,8 +1,8 @@
 -- What a search over numbered nodes and fewer steps says of the dependences of a sheet.
 use Rattle.std.proofs.Common.{◌≡◌, ◌⊎◌, inl, inr, ℕ, ◌+◌, ◌≤◌, List, refl, sym, subst, ap, ◌∙◌, arith}
-use Rattle.gl_query.specs.Lists.{Member}
-use Rattle.gl_calculus.specs.Formula.{Cells}
-use Rattle.gl_forecast.specs.Forecast.{Node, nodes, dependences, Leads, once, further, entries_in, Path, ends, goes, IsHeight}
+use Rattle.gl_calculus.specs.Computation.Lists.{Member}
+use Rattle.gl_calculus.specs.Formulas.Formula.{Cells}
+use Rattle.gl_calculus.specs.Forecast.{Node, nodes, dependences, Leads, once, further, entries_in, Path, ends, goes, IsHeight}
 use Rattle.gl_graph.specs.Graph as G
 use Rattle.gl_graph.specs.Graph.{IsPlain}
 

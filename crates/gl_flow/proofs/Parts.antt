@@ -6,8 +6,8 @@ use Rattle.std.proofs.lemmas.List.{append-nil, map-append, at_drop_more, at_drop
 use Rattle.gl_ast.specs.View.{formula_tree, argument_trees, operand_trees}
 use Rattle.gl_ast.specs.declared.Formula.{Formula}
 use Rattle.gl_ast.specs.declared.Op.{Op}
-use Rattle.gl_forecast.specs.Forecast as Fo
-use Rattle.gl_forecast.specs.Forecast.{sequence_size, any_size}
+use Rattle.gl_calculus.specs.Forecast as Fo
+use Rattle.gl_calculus.specs.Forecast.{sequence_size, any_size}
 use Rattle.gl_flow.specs.Pieces.{piece_tree, piece_trees, without_calls}
 use Rattle.gl_flow.specs.declared.reading.Piece.{Piece}
 

@@ -3,9 +3,9 @@ use Rattle.std.proofs.Common.{◌≡◌, ◌⊎◌, inl, inr, ℕ, zero, suc, �
 use Rattle.std.specs.Prelude.{Some, None, slice_get, if◌then◌else◌}
 use Rattle.std.proofs.lemmas.Bool.{and_parts, and_from, cases_order, or_cases, lt-ltb, eq-eqb}
 use Rattle.std.proofs.lemmas.Option.{slice_get_read, slice_get_within}
-use Rattle.gl_calculus.specs.Grid.{Addr, is_before, same_addr, AreInOrder}
+use Rattle.gl_calculus.specs.Grid.Grid.{Addr, is_before, same_addr, AreInOrder}
 use Rattle.gl_calculus.proofs.Tests.{addr_exact, addr_same}
-use Rattle.gl_forecast.specs.Forecast.{Shape}
+use Rattle.gl_calculus.specs.Forecast.{Shape}
 use Rattle.gl_flow.specs.Shapes.{shape_of}
 use Rattle.gl_flow.specs.Places.{are_in_order, StandsAt, shape_in}
 use borrow.Author.Tests.{ltb-true, eqb-true}

@@ -3,12 +3,12 @@ use Rattle.std.proofs.Common.{◌≡◌, ◌⊎◌, inl, inr, ℕ, ◌+◌, ◌*
 use Rattle.std.specs.Prelude.{Option, Some, None, if◌then◌else◌}
 use Rattle.std.specs.Option.{option_to_list}
 use Rattle.std.proofs.lemmas.Bool.{cases_order}
-use Rattle.gl_query.specs.Lists.{Member}
-use Rattle.gl_calculus.specs.Grid.{Addr, addr, is_before, Range}
-use Rattle.gl_calculus.specs.Formula.{Cells, formula_addresses}
-use Rattle.gl_forecast.specs.Forecast.{Node, entries_in, box, cell_nodes, nodes}
-use Rattle.gl_forecast.proofs.Values.{flat_member}
-use Rattle.gl_forecast.proofs.Nodes.{flat_part}
+use Rattle.gl_calculus.specs.Computation.Lists.{Member}
+use Rattle.gl_calculus.specs.Grid.Grid.{Addr, addr, is_before, Range}
+use Rattle.gl_calculus.specs.Formulas.Formula.{Cells, formula_addresses}
+use Rattle.gl_calculus.specs.Forecast.{Node, entries_in, box, cell_nodes, nodes}
+use Rattle.laws_calculus.proofs.Forecast.Values.{flat_member}
+use Rattle.laws_calculus.proofs.Forecast.Nodes.{flat_part}
 use Rattle.gl_flow.specs.Places.{StandsAt}
 use Rattle.gl_flow.specs.Network.{Plan, node_of}
 use Rattle.gl_flow.proofs.Placing.{in_order, never_self}

@@ -4,15 +4,15 @@ use Rattle.std.specs.Prelude.{Option, Some, None, slice_get, flat_map, filter}
 use Rattle.std.specs.List.{list_any, range_with_len}
 use Rattle.std.specs.Option.{option_to_list}
 use Rattle.std.proofs.lemmas.Bool.{and_parts, cases_order}
-use Rattle.gl_query.specs.Lists.{Member}
-use Rattle.gl_calculus.specs.Grid.{Addr, is_before, Range, addresses, covers, meets}
-use Rattle.gl_calculus.specs.Formula.{Content, Const, Form, Cells, content, formula_addresses}
-use Rattle.gl_calculus.proofs.Settles.{formula_listed}
-use Rattle.gl_forecast.specs.Forecast as Fo
-use Rattle.gl_forecast.specs.Forecast.{Node, box, cell_nodes, covering, has_box, address_nodes, spill_nodes, piece_nodes, content_pieces, rivals, dependences}
-use Rattle.gl_forecast.proofs.Values.{flat_member}
-use Rattle.gl_forecast.proofs.Nodes.{flat_part, filter_part}
-use Rattle.gl_forecast.proofs.Oracles.{filtered, meets_at}
+use Rattle.gl_calculus.specs.Computation.Lists.{Member}
+use Rattle.gl_calculus.specs.Grid.Grid.{Addr, is_before, Range, addresses, covers, meets}
+use Rattle.gl_calculus.specs.Formulas.Formula.{Content, Const, Form, Cells, content, formula_addresses}
+use Rattle.laws_calculus.proofs.Calculus.Settles.{formula_listed}
+use Rattle.gl_calculus.specs.Forecast as Fo
+use Rattle.gl_calculus.specs.Forecast.{Node, box, cell_nodes, covering, has_box, address_nodes, spill_nodes, piece_nodes, content_pieces, rivals, dependences}
+use Rattle.laws_calculus.proofs.Forecast.Values.{flat_member}
+use Rattle.laws_calculus.proofs.Forecast.Nodes.{flat_part, filter_part}
+use Rattle.laws_calculus.proofs.Forecast.Oracles.{filtered, meets_at}
 use Rattle.gl_graph.specs.Graph as G
 use Rattle.gl_graph.specs.Search.{origin}
 use Rattle.gl_flow.specs.Pieces.{without_calls, piece_last, IsReadPiece}

@@ -6,7 +6,7 @@ use Rattle.std.specs.Option.{option_to_list}
 use Rattle.std.proofs.lemmas.Bool.{and_parts, cases_eq, leb-true}
 use Rattle.std.proofs.lemmas.List.{get_or-set_same, get_or-set_other}
 use Rattle.std.proofs.lemmas.Option.{slice_get_within, slice_get_read, slice_get-get_or}
-use Rattle.gl_calculus.specs.Grid.{Range, meets}
+use Rattle.gl_calculus.specs.Grid.Grid.{Range, meets}
 use Rattle.gl_flow.specs.Columns.{BoxAt}
 use Rattle.gl_flow.specs.Rivals.{meets_box, rivals_from, bottom_row, AreBottoms}
 

@@ -4,9 +4,9 @@ use Rattle.std.specs.Prelude.{Option, Some, None, slice_get, option_map}
 use Rattle.std.proofs.lemmas.List.{map-append, length-map}
 use Rattle.std.proofs.lemmas.Grind.{take_at_read}
 use Rattle.std.proofs.lemmas.Option.{slice_get-map, slice_get_read}
-use Rattle.gl_calculus.specs.Grid.{Addr, Range, area}
-use Rattle.gl_calculus.specs.Formula.{Cells}
-use Rattle.gl_forecast.specs.Forecast.{Shape, box, cell_shape}
+use Rattle.gl_calculus.specs.Grid.Grid.{Addr, Range, area}
+use Rattle.gl_calculus.specs.Formulas.Formula.{Cells}
+use Rattle.gl_calculus.specs.Forecast.{Shape, box, cell_shape}
 use Rattle.gl_flow.specs.Places.{StandsAt}
 use Rattle.gl_flow.specs.Columns.{BoxAt, AreRooted}
 

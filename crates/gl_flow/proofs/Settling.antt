@@ -2,14 +2,14 @@
 use Rattle.std.proofs.Common.{◌≡◌, ℕ, ◌≤◌, [], ◌∷◌, length, subst}
 use Rattle.std.specs.Prelude.{Result, Ok, Err, IfOk}
 use Rattle.std.specs.List.{AllByRecursion}
-use Rattle.gl_calculus.specs.Limits.{max_formulas}
-use Rattle.gl_calculus.specs.Formula.{IsSheet, formula_addresses}
-use Rattle.gl_language.specs.Content.{IsProperContent}
-use Rattle.gl_sound.proofs.WellFormed.{proper_is_fit}
+use Rattle.gl_calculus.specs.Grid.Limits.{max_formulas}
+use Rattle.gl_calculus.specs.Formulas.Formula.{IsSheet, formula_addresses}
+use Rattle.gl_language.specs.Reading.Content.{IsProperContent}
+use Rattle.laws_calculus.proofs.Sound.WellFormed.{proper_is_fit}
 use Rattle.gl_plane.specs.declared.NoMemory.{NoMemory}
 use Rattle.gl_cells.specs.Sheet.{Table, sheet, AreProper}
-use Rattle.gl_forecast.specs.Forecast.{Forecast, Yes, IsForecast}
-use Rattle.gl_forecast.proofs.Answering.{yes_settles}
+use Rattle.gl_calculus.specs.Forecast.{Forecast, Yes, IsForecast}
+use Rattle.laws_calculus.proofs.Forecast.Answering.{yes_settles}
 use Rattle.gl_flow.specs.declared.forecast.Forecast.{Forecast as Found}
 use Rattle.gl_flow.specs.View.{forecast_tree, SettlesWithin}
 

@@ -5,9 +5,9 @@ use Rattle.std.specs.Option.{option_to_list}
 use Rattle.std.proofs.lemmas.Bool.{and_parts, and_from, cases_eq, cases_order, le-leb}
 use Rattle.std.proofs.lemmas.List.{get_or_append_left, get_or_push}
 use Rattle.std.proofs.lemmas.Option.{slice_get_within}
-use Rattle.gl_query.specs.Lists.{Member}
-use Rattle.gl_calculus.specs.Limits.{max_formulas}
-use Rattle.gl_calculus.specs.Grid.{Addr, addr, Range}
+use Rattle.gl_calculus.specs.Computation.Lists.{Member}
+use Rattle.gl_calculus.specs.Grid.Limits.{max_formulas}
+use Rattle.gl_calculus.specs.Grid.Grid.{Addr, addr, Range}
 use Rattle.gl_graph.specs.Search.{Rises, passes, last_of}
 use Rattle.gl_graph.proofs.Rising.{member_push, member_before, member_last, rises_push, rises_before, rises_last}
 use Rattle.gl_graph.proofs.Cut.{last_push, by_last}

@@ -5,9 +5,9 @@ use Rattle.std.specs.declared.vec.Vec.{Vec}
 use Rattle.std.specs.declared.alloc.Global.{Global}
 use Rattle.std.proofs.lemmas.List.{length-map, get_or-map, drop_more}
 use Rattle.std.proofs.lemmas.Option.{slice_get_read, slice_get-get_or}
-use Rattle.gl_query.specs.Lists.{Member}
-use Rattle.gl_calculus.specs.Grid.{Addr, Range, addresses}
-use Rattle.gl_forecast.specs.Forecast as Fo
+use Rattle.gl_calculus.specs.Computation.Lists.{Member}
+use Rattle.gl_calculus.specs.Grid.Grid.{Addr, Range, addresses}
+use Rattle.gl_calculus.specs.Forecast as Fo
 use Rattle.gl_flow.specs.declared.reading.Piece.{Piece}
 use Rattle.gl_flow.specs.declared.reading.Piece.TheVariants.{Reads, Spills}
 use Rattle.gl_flow.specs.Pieces.{piece_tree, piece_trees, piece_lists, piece_last, rows_read, IsRead, IsReadPiece}

@@ -3,9 +3,9 @@ use Rattle.std.proofs.Common.{◌≡◌, ℕ, ◌+◌, ◌<◌, ◌≤◌, Bool,
 use Rattle.std.specs.Prelude.{Option, Some, None}
 use Rattle.std.specs.List.{list_any}
 use Rattle.std.proofs.lemmas.List.{at_drop_more, at_drop_all}
-use Rattle.gl_calculus.specs.Grid.{Addr}
-use Rattle.gl_calculus.specs.Formula.{Formula, Content, Const, Form, Cells}
-use Rattle.gl_forecast.specs.Forecast.{piece_makes, pieces, content_pieces, uses_sheets, SomeUsesSheets, First, here, behind}
+use Rattle.gl_calculus.specs.Grid.Grid.{Addr}
+use Rattle.gl_calculus.specs.Formulas.Formula.{Formula, Content, Const, Form, Cells}
+use Rattle.gl_calculus.specs.Forecast.{piece_makes, pieces, content_pieces, uses_sheets, SomeUsesSheets, First, here, behind}
 use Rattle.gl_flow.specs.Contents.{formula_in}
 
 abbrev pub formula_makes : Option Formula → Bool

@@ -1,7 +1,7 @@
 -- The last of the areas over each address of a column.
 use Rattle.std.specs.Prelude.{◌≡◌, ℕ, suc, ◌-◌, ◌<◌, ◌≤◌, nat_lt, nat_le, Bool, true, false, ◌&&◌, List, [], ◌∷◌, length, get_or, Option, Some, None, slice_get, if◌then◌else◌}
-use Rattle.gl_query.specs.Lists.{Member}
-use Rattle.gl_calculus.specs.Grid.{Addr, addr, Range, covers}
+use Rattle.gl_calculus.specs.Computation.Lists.{Member}
+use Rattle.gl_calculus.specs.Grid.Grid.{Addr, addr, Range, covers}
 use Rattle.gl_graph.specs.Search.{Rises}
 use Rattle.gl_flow.specs.Places.{StandsAt}
 

@@ -1,8 +1,8 @@
 -- The formula of a content.
 use Rattle.std.specs.Prelude.{[], Option, Some, None}
-use Rattle.gl_calculus.specs.Grid.{Addr}
-use Rattle.gl_calculus.specs.Formula.{Formula, Content, Const, Form}
-use Rattle.gl_forecast.specs.Forecast.{Shape, shape}
+use Rattle.gl_calculus.specs.Grid.Grid.{Addr}
+use Rattle.gl_calculus.specs.Formulas.Formula.{Formula, Content, Const, Form}
+use Rattle.gl_calculus.specs.Forecast.{Shape, shape}
 
 -- the formula, where there is one
 abbrev pub formula_in : Option Content → Option Formula

@@ -1,7 +1,7 @@
 -- The grid of what is read of, while contents are written.
 use Rattle.std.specs.Prelude.{◌≡◌, ℕ, suc, ◌<◌, List, Option, Some, None}
-use Rattle.gl_calculus.specs.Grid.{Addr, Range}
-use Rattle.gl_calculus.specs.Formula.{Content, Cells, content}
+use Rattle.gl_calculus.specs.Grid.Grid.{Addr, Range}
+use Rattle.gl_calculus.specs.Formulas.Formula.{Content, Cells, content}
 use Rattle.gl_flow.specs.Places.{StandsAt}
 use Rattle.gl_flow.specs.Columns.{IsLast}
 use Rattle.gl_flow.specs.Grid.{source, IsShaped, IsInRows}

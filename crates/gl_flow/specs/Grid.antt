@@ -2,10 +2,10 @@
 use Rattle.std.specs.Prelude.{◌≡◌, ℕ, suc, ◌-◌, ◌<◌, ◌≤◌, List, [], map, length, get_or, set, Option, Some, None}
 use Rattle.std.specs.declared.vec.Vec.{Vec}
 use Rattle.std.specs.declared.alloc.Global.{Global}
-use Rattle.gl_calculus.specs.Limits.{grid_cols}
-use Rattle.gl_calculus.specs.Grid.{Addr, Range}
-use Rattle.gl_calculus.specs.Formula.{Cells, content, Const}
-use Rattle.gl_calculus.specs.Value.{Scalar}
+use Rattle.gl_calculus.specs.Grid.Limits.{grid_cols}
+use Rattle.gl_calculus.specs.Grid.Grid.{Addr, Range}
+use Rattle.gl_calculus.specs.Formulas.Formula.{Cells, content, Const}
+use Rattle.gl_calculus.specs.Values.Value.{Scalar}
 use Rattle.gl_flow.specs.Places.{StandsAt}
 use Rattle.gl_flow.specs.Columns.{IsLast, IsColumn}
 

@@ -2,9 +2,9 @@
 -- its entry 2k + 1.
 use Rattle.std.specs.Prelude.{◌≡◌, ℕ, zero, suc, ◌+◌, ◌-◌, ◌*◌, ◌/◌, ◌%◌, ◌==◌, Bool, List, [], ◌∷◌, ◌++◌, map, flat_map, filter, drop, get_or, Option, Some, None, option_map, if◌then◌else◌}
 use Rattle.std.specs.List.{range_with_len}
-use Rattle.gl_calculus.specs.Grid.{Addr, addr, same_addr, Range, addresses}
-use Rattle.gl_forecast.specs.Forecast as Fo
-use Rattle.gl_forecast.specs.Forecast.{Node}
+use Rattle.gl_calculus.specs.Grid.Grid.{Addr, addr, same_addr, Range, addresses}
+use Rattle.gl_calculus.specs.Forecast as Fo
+use Rattle.gl_calculus.specs.Forecast.{Node}
 use Rattle.gl_graph.specs.declared.graph.Place.{Place}
 use Rattle.gl_flow.specs.Grid.{source}
 use Rattle.gl_flow.specs.Rivals.{meets_box}

@@ -3,10 +3,10 @@ use Rattle.std.specs.Prelude.{ℕ, ◌≤◌, max, List, [], ◌∷◌, map, Opt
 use Rattle.std.specs.List.{AllByRecursion}
 use Rattle.std.specs.declared.vec.Vec.{Vec}
 use Rattle.std.specs.declared.alloc.Global.{Global}
-use Rattle.gl_calculus.specs.Grid.{Range}
-use Rattle.gl_calculus.specs.Formula.{Formula}
-use Rattle.gl_calculus.specs.Limits.{grid_rows, grid_cols}
-use Rattle.gl_forecast.specs.Forecast as Fo
+use Rattle.gl_calculus.specs.Grid.Grid.{Range}
+use Rattle.gl_calculus.specs.Formulas.Formula.{Formula}
+use Rattle.gl_calculus.specs.Grid.Limits.{grid_rows, grid_cols}
+use Rattle.gl_calculus.specs.Forecast as Fo
 use Rattle.gl_flow.specs.declared.reading.Piece.{Piece}
 use Rattle.gl_flow.specs.declared.reading.Piece.TheVariants.{Reads, Spills}
 

@@ -1,7 +1,7 @@
 -- The formula cells of a sheet, by number.
 use Rattle.std.specs.Prelude.{◌≡◌, ℕ, Bool, true, ◌&&◌, List, [], ◌∷◌, Some, None, slice_get, if◌then◌else◌}
-use Rattle.gl_calculus.specs.Grid.{Addr, same_addr, is_before}
-use Rattle.gl_forecast.specs.Forecast.{Shape}
+use Rattle.gl_calculus.specs.Grid.Grid.{Addr, same_addr, is_before}
+use Rattle.gl_calculus.specs.Forecast.{Shape}
 
 -- the addresses increase strictly in row-major order
 abbrev pub are_in_order : List Addr → Bool

@@ -2,12 +2,12 @@
 use Rattle.std.specs.Prelude.{◌≡◌, ℕ, ◌≤◌, true, List, map, length, Option, Some, slice_get}
 use Rattle.std.specs.declared.vec.Vec.{Vec}
 use Rattle.std.specs.declared.alloc.Global.{Global}
-use Rattle.gl_query.specs.Lists.{Member}
-use Rattle.gl_calculus.specs.Limits.{max_formulas}
-use Rattle.gl_calculus.specs.Grid.{Addr, Range}
-use Rattle.gl_calculus.specs.Formula.{Cells, IsSheet, content, formula_addresses}
-use Rattle.gl_forecast.specs.Forecast as Fo
-use Rattle.gl_forecast.specs.Forecast.{box, content_pieces}
+use Rattle.gl_calculus.specs.Computation.Lists.{Member}
+use Rattle.gl_calculus.specs.Grid.Limits.{max_formulas}
+use Rattle.gl_calculus.specs.Grid.Grid.{Addr, Range}
+use Rattle.gl_calculus.specs.Formulas.Formula.{Cells, IsSheet, content, formula_addresses}
+use Rattle.gl_calculus.specs.Forecast as Fo
+use Rattle.gl_calculus.specs.Forecast.{box, content_pieces}
 use Rattle.gl_flow.specs.Places.{are_in_order}
 use Rattle.gl_flow.specs.Pieces.{piece_lists, without_calls, rows_read, IsRead, AreRead}
 use Rattle.gl_flow.specs.Grid.{number_lists, source, IsShaped, IsInRows, AreSources}

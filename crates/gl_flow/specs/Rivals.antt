@@ -2,7 +2,7 @@
 use Rattle.std.specs.Prelude.{ℕ, ◌-◌, ◌/◌, ◌≤◌, Bool, List, filter, get_or, Option, Some, None}
 use Rattle.std.specs.List.{list_any, range_with_len}
 use Rattle.std.specs.Option.{option_to_list}
-use Rattle.gl_calculus.specs.Grid.{Range, meets}
+use Rattle.gl_calculus.specs.Grid.Grid.{Range, meets}
 use Rattle.gl_flow.specs.Columns.{BoxAt}
 
 -- the formula cell of this number has an area that meets this one

@@ -1,8 +1,8 @@
 -- What is known of formula cells, one after another.
 use Rattle.std.specs.Prelude.{◌≡◌, ◌⊎◌, ℕ, ◌*◌, ◌%◌, ◌<◌, ◌≤◌, IsFalse, List, length}
 use Rattle.std.specs.List.{list_any}
-use Rattle.gl_calculus.specs.Formula.{Cells, formula_addresses}
-use Rattle.gl_forecast.specs.Forecast as Fo
+use Rattle.gl_calculus.specs.Formulas.Formula.{Cells, formula_addresses}
+use Rattle.gl_calculus.specs.Forecast as Fo
 use Rattle.gl_graph.specs.Graph.{Leads, IsPlain}
 use Rattle.gl_graph.specs.Search.{origin}
 use Rattle.gl_graph.specs.Searches.{IsSearchOf}

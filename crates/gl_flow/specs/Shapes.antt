@@ -3,9 +3,9 @@ use Rattle.std.specs.Prelude.{ℕ, Bool, true, false, List, [], ◌∷◌, map, 
 use Rattle.std.specs.Rc.{rc_str_bytes}
 use Rattle.std.specs.declared.rc.RcStr.{RcStr}
 use Rattle.std.specs.declared.alloc.Global.{Global}
-use Rattle.gl_calculus.specs.Grid.{Addr, Size}
-use Rattle.gl_calculus.specs.Formula.{Cells, content, formula_addresses}
-use Rattle.gl_forecast.specs.Forecast.{Shape, Shapes, any_size, flipped, under, cut, spilled_shape, content_shape}
+use Rattle.gl_calculus.specs.Grid.Grid.{Addr, Size}
+use Rattle.gl_calculus.specs.Formulas.Formula.{Cells, content, formula_addresses}
+use Rattle.gl_calculus.specs.Forecast.{Shape, Shapes, any_size, flipped, under, cut, spilled_shape, content_shape}
 use Rattle.gl_flow.specs.Places.{shape_in}
 
 -- the variables that are bound, innermost first, with their shapes

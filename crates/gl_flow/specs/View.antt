@@ -1,10 +1,10 @@
 -- The forecasts that those of the code stand for, and what a yes promises.
 use Rattle.std.specs.Prelude.{◌≡◌, ℕ, suc, ◌≤◌}
-use Rattle.gl_calculus.specs.Grid.{Addr}
-use Rattle.gl_calculus.specs.Value.{Oracle}
-use Rattle.gl_calculus.specs.Formula.{Version, Cells}
-use Rattle.gl_calculus.specs.Calculation.{IsAnswer, Settled, IsShown, Cycle}
-use Rattle.gl_forecast.specs.Forecast as Fo
+use Rattle.gl_calculus.specs.Grid.Grid.{Addr}
+use Rattle.gl_calculus.specs.Values.Value.{Oracle}
+use Rattle.gl_calculus.specs.Formulas.Formula.{Version, Cells}
+use Rattle.gl_calculus.specs.Calculation.Calculation.{IsAnswer, Settled, IsShown, Cycle}
+use Rattle.gl_calculus.specs.Forecast as Fo
 use Rattle.gl_flow.specs.declared.forecast.Forecast.{Forecast}
 use Rattle.gl_flow.specs.declared.forecast.Forecast.TheVariants.{Yes, Circle, Unknown}
 

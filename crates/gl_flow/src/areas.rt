@@ -1,8 +1,8 @@
 //! The areas of all formula cells.
 ghost use Rattle.std.specs.Prelude.{◌≡◌, map, length, IfOk, option_map};
-ghost use Rattle.gl_calculus.specs.Grid.{area};
+ghost use Rattle.gl_calculus.specs.Grid.Grid.{area};
 ghost use Rattle.gl_cells.specs.Sheet.{sheet};
-ghost use Rattle.gl_forecast.specs.Forecast.{box, cell_shape};
+ghost use Rattle.gl_calculus.specs.Forecast.{box, cell_shape};
 ghost use Rattle.gl_flow.specs.Columns.{AreRooted};
 
 use crate::boxes::Area;

@@ -2,7 +2,7 @@
 ghost use Rattle.std.specs.Prelude.{◌≡◌, ◌++◌, ◌∷◌, IfOk, OnOk, bytes_eq};
 ghost use Rattle.std.specs.Rc.{rc_str_bytes};
 ghost use Rattle.gl_flow.specs.Shapes.{bindings_of};
-ghost use Rattle.gl_forecast.specs.Forecast as Fo;
+ghost use Rattle.gl_calculus.specs.Forecast as Fo;
 
 use crate::extents::Extents;
 use gl_plane::NoMemory;

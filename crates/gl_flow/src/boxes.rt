@@ -1,6 +1,6 @@
 //! The areas that formula cells may spill over, also past the grid.
 ghost use Rattle.std.specs.Prelude.{◌≡◌};
-ghost use Rattle.gl_calculus.specs.Grid.{area, covers, meets};
+ghost use Rattle.gl_calculus.specs.Grid.Grid.{area, covers, meets};
 
 use crate::extents::Extents;
 use gl_plane::Addr;
@@ -16,7 +16,7 @@ pub struct Area {
 }
 
 impl Model for Area {
-    ghost use Rattle.gl_calculus.specs.Grid.{Range as Plain, range, addr};
+    ghost use Rattle.gl_calculus.specs.Grid.Grid.{Range as Plain, range, addr};
 
     ghost Value = { Plain };
 

@@ -1,7 +1,7 @@
 //! The last of the areas over each address of a column.
 ghost use Rattle.std.specs.Prelude.{◌≡◌, ◌≤◌, ◌<◌, ◌+◌, ◌++◌, ℕ, IsTrue, IfOk, OnOk, length};
 ghost use Rattle.std.specs.Prelude.{slice_get};
-ghost use Rattle.gl_calculus.specs.Limits.{grid_rows, max_formulas};
+ghost use Rattle.gl_calculus.specs.Grid.Limits.{grid_rows, max_formulas};
 ghost use Rattle.gl_graph.specs.Search.{last_of, passes};
 ghost use Rattle.gl_flow.specs.Columns.{AreRooted, IsColumn, IsStack, IsDown, IsGreatest, AreAbove};
 ghost use Rattle.gl_flow.specs.Columns.{AreBelow, has_ended, new_over, is_in_row, one_more};

@@ -1,7 +1,7 @@
 //! The formulas of cells.
 ghost use Rattle.std.specs.Prelude.{◌≡◌, Some, option_map};
 ghost use Rattle.std.specs.Option.{option_copied};
-ghost use Rattle.gl_calculus.specs.Formula.{content};
+ghost use Rattle.gl_calculus.specs.Formulas.Formula.{content};
 ghost use Rattle.gl_ast.specs.View.{formula_tree};
 ghost use Rattle.gl_cells.specs.{Content.content_tree, Sheet.sheet};
 ghost use Rattle.gl_flow.specs.Contents.{formula_in};

@@ -1,7 +1,8 @@
 //! Shapes: the extents that a value has at most.
 ghost use Rattle.std.specs.Prelude.{◌≡◌, ◌+◌, max, Option};
-ghost use Rattle.gl_calculus.specs.{Grid.extents, Grid.size, Lift.hull};
-ghost use Rattle.gl_forecast.specs.Forecast.{any_size, cut, full, joined, flipped};
+ghost use Rattle.gl_calculus.specs.Grid.Grid.{extents, size};
+ghost use Rattle.gl_calculus.specs.Values.Lift.{hull};
+ghost use Rattle.gl_calculus.specs.Forecast.{any_size, cut, full, joined, flipped};
 
 use gl_plane::Range;
 use std::marker::Model;
@@ -17,7 +18,7 @@ pub struct Extents {
 }
 
 impl Model for Extents {
-    ghost use Rattle.gl_calculus.specs.Grid.{Size as Plain};
+    ghost use Rattle.gl_calculus.specs.Grid.Grid.{Size as Plain};
 
     ghost Value = { Plain };
 

@@ -1,9 +1,10 @@
 //! The forecast of a sheet.
 ghost use Rattle.std.specs.Prelude.{◌≡◌, ◌≤◌, false, length, IfOk};
 ghost use Rattle.std.specs.List.{list_any};
-ghost use Rattle.gl_calculus.specs.{Formula.formula_addresses, Limits.max_formulas};
+ghost use Rattle.gl_calculus.specs.Formulas.Formula.{formula_addresses};
+ghost use Rattle.gl_calculus.specs.Grid.Limits.{max_formulas};
 ghost use Rattle.gl_cells.specs.Sheet.{sheet};
-ghost use Rattle.gl_forecast.specs.Forecast as Fo;
+ghost use Rattle.gl_calculus.specs.Forecast as Fo;
 ghost use Rattle.gl_flow.specs.View.{forecast_tree, Promises};
 
 use crate::forecast::Forecast;

@@ -1,8 +1,8 @@
 //! What each address that is read reads of: the formula there, or, without content, the last
 //! formula cell whose area lies over it.
 ghost use Rattle.std.specs.Prelude.{◌≡◌, ◌≤◌, ◌+◌, IsTrue, IfOk, length, set, vec_len};
-ghost use Rattle.gl_calculus.specs.Limits.{grid_rows, grid_cols, max_formulas};
-ghost use Rattle.gl_calculus.specs.Formula.{formula_addresses};
+ghost use Rattle.gl_calculus.specs.Grid.Limits.{grid_rows, grid_cols, max_formulas};
+ghost use Rattle.gl_calculus.specs.Formulas.Formula.{formula_addresses};
 ghost use Rattle.gl_cells.specs.Sheet.{sheet};
 ghost use Rattle.gl_plane.specs.Parts.{IsAddr};
 ghost use Rattle.gl_flow.specs.Grid.{number_lists, written_at, IsShaped, AreColumns, AreSources};

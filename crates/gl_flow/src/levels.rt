@@ -1,8 +1,8 @@
 //! The shapes of all formula cells, through levels of `#`.
 ghost use Rattle.std.specs.Prelude.{◌≡◌, [], true, false, map, IfOk, IsTrue};
-ghost use Rattle.gl_calculus.specs.Formula.{content, formula_addresses};
+ghost use Rattle.gl_calculus.specs.Formulas.Formula.{content, formula_addresses};
 ghost use Rattle.gl_cells.specs.Sheet.{sheet};
-ghost use Rattle.gl_forecast.specs.Forecast.{cell_shape};
+ghost use Rattle.gl_calculus.specs.Forecast.{cell_shape};
 ghost use Rattle.gl_flow.specs.{Places.are_in_order, Shapes.spilled_at, Shapes.level_shapes};
 ghost use Rattle.gl_flow.specs.{Contents.formula_in, Contents.formula_shape};
 

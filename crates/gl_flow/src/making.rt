@@ -1,6 +1,7 @@
 //! The network of a sheet.
 ghost use Rattle.std.specs.Prelude.{◌≡◌, ◌≤◌, IfOk, length};
-ghost use Rattle.gl_calculus.specs.{Formula.formula_addresses, Limits.max_formulas};
+ghost use Rattle.gl_calculus.specs.Formulas.Formula.{formula_addresses};
+ghost use Rattle.gl_calculus.specs.Grid.Limits.{max_formulas};
 ghost use Rattle.gl_cells.specs.Sheet.{sheet};
 ghost use Rattle.gl_flow.specs.{Pieces.rows_read, Planning.IsPlanOf, Plans.plan};
 

@@ -1,9 +1,10 @@
 //! What stands in formulas: the ranges that they read, and `a#`.
 ghost use Rattle.std.specs.Prelude.{◌≡◌, ◌≤◌, ◌++◌, ◌∷◌, [], map, IfOk, OnOk};
-ghost use Rattle.gl_calculus.specs.{Formula.content, Limits.grid_rows};
+ghost use Rattle.gl_calculus.specs.Formulas.Formula.{content};
+ghost use Rattle.gl_calculus.specs.Grid.Limits.{grid_rows};
 ghost use Rattle.gl_cells.specs.Sheet.{sheet};
 ghost use Rattle.gl_ast.specs.View.{formula_tree, argument_trees, operand_trees};
-ghost use Rattle.gl_forecast.specs.Forecast as Fo;
+ghost use Rattle.gl_calculus.specs.Forecast as Fo;
 ghost use Rattle.gl_flow.specs.Pieces.{piece_tree, piece_trees, piece_lists, pieces_in};
 ghost use Rattle.gl_flow.specs.Pieces.{without_calls, piece_last, last_read, rows_read, IsRead};
 ghost use Rattle.gl_flow.specs.Pieces.{IsReadPiece, AreReadPieces, AreRead};

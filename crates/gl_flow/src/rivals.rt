@@ -1,7 +1,7 @@
 //! The earlier formula cells whose areas meet one. Those that end above it are passed by blocks.
 ghost use Rattle.std.specs.Prelude.{◌≡◌, ◌≤◌, ◌<◌, ◌+◌, ◌/◌, ◌%◌, ◌∷◌, [], true, max, set, get_or};
 ghost use Rattle.std.specs.Prelude.{length, IfOk, IfSome, IfNone};
-ghost use Rattle.gl_calculus.specs.Limits.{max_formulas};
+ghost use Rattle.gl_calculus.specs.Grid.Limits.{max_formulas};
 ghost use Rattle.gl_flow.specs.Rivals.{AreBottoms, bottom_row, meets_box, rivals_from};
 
 use crate::boxes::Area;

@@ -4,9 +4,9 @@ ghost use Rattle.std.specs.Prelude.{option_map, length, slice_get};
 ghost use Rattle.gl_flow.specs.Shapes.{bindings_of, spilled_at, shape_of, turned, stacked};
 ghost use Rattle.gl_flow.specs.Shapes.{first_shape};
 ghost use Rattle.gl_flow.specs.Places.{are_in_order};
-ghost use Rattle.gl_calculus.specs.Formula as F;
+ghost use Rattle.gl_calculus.specs.Formulas.Formula as F;
 ghost use Rattle.gl_ast.specs.View.{formula_tree, fun_tree, argument_trees, operand_trees};
-ghost use Rattle.gl_forecast.specs.Forecast as Fo;
+ghost use Rattle.gl_calculus.specs.Forecast as Fo;
 
 use crate::bindings::{bind, bound};
 use crate::extents::{Extents, MOST, any, below, extents_of, flipped, full, joined};

@@ -2,7 +2,7 @@
 ghost use Rattle.std.specs.Prelude.{◌≡◌, ◌||◌};
 ghost use Rattle.std.specs.List.{list_any};
 ghost use Rattle.gl_ast.specs.View.{formula_tree, fun_tree, argument_trees, operand_trees};
-ghost use Rattle.gl_forecast.specs.Forecast as Fo;
+ghost use Rattle.gl_calculus.specs.Forecast as Fo;
 
 use gl_ast::{Formula, Fun, Op};
 

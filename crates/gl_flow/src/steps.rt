@@ -1,7 +1,7 @@
 //! What depends on what, as a graph: the value of the formula cell k has the number 2k, and its
 //! entry 2k + 1.
 ghost use Rattle.std.specs.Prelude.{◌≡◌, ◌*◌, ◌<◌, ◌≤◌, [], length, IfSome, IfNone};
-ghost use Rattle.gl_forecast.specs.Forecast as Fo;
+ghost use Rattle.gl_calculus.specs.Forecast as Fo;
 ghost use Rattle.gl_flow.specs.Pieces.{piece_tree, piece_last, rows_read, IsRead, IsReadPiece};
 ghost use Rattle.gl_flow.specs.Network.{top_of, piece_steps, spill_steps, rival_steps};
 ghost use Rattle.gl_flow.specs.Network.{steps_of_value, steps_of_entry, Takes};

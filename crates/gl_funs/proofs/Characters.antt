@@ -8,9 +8,9 @@ use Rattle.std.specs.Int.{w64}
 use Rattle.std.specs.Str.{IsUtf8, chars}
 use Rattle.std.proofs.lemmas.Bool.{le-leb}
 use native.Mathlib.Numerals.{unary_clauses}
-use Rattle.gl_calculus.specs.Functions as F
-use Rattle.gl_calculus.specs.Sound.{is_sound_scalar}
-use Rattle.gl_calculus.specs.Value as V
+use Rattle.gl_calculus.specs.Values.Functions as F
+use Rattle.gl_calculus.specs.Evaluation.Sound.{is_sound_scalar}
+use Rattle.gl_calculus.specs.Values.Value as V
 use Rattle.gl_value.specs.Sound.{text_sound}
 use Rattle.gl_funs.specs.Rules.{cut}
 use Rattle.gl_funs.specs.declared.texts.Side.{Side}

@@ -4,10 +4,10 @@ use Rattle.std.proofs.lemmas.Bool.{and_parts, eqb-true}
 use Rattle.std.proofs.lemmas.Bool.Decides.{nat_tests}
 use Rattle.std.proofs.lemmas.List.Elements.{All-head, All-tail}
 use Rattle.std.specs.List.{filter_map}
-use Rattle.gl_calculus.specs.Functions.{whole_number}
-use Rattle.gl_calculus.specs.Sound.{is_size, are_sound, is_sound_value}
-use Rattle.gl_calculus.specs.Value as V
-use Rattle.gl_calculus.specs.Value.{elements}
+use Rattle.gl_calculus.specs.Values.Functions.{whole_number}
+use Rattle.gl_calculus.specs.Evaluation.Sound.{is_size, are_sound, is_sound_value}
+use Rattle.gl_calculus.specs.Values.Value as V
+use Rattle.gl_calculus.specs.Values.Value.{elements}
 use Rattle.gl_value.specs.View.{value_tree}
 use Rattle.gl_value.specs.declared.Value.{Value}
 use Rattle.gl_funs.specs.Elements.{AreSound, elements_of}

@@ -3,8 +3,8 @@ use Rattle.std.proofs.Common.{◌≡◌, ℕ, ◌+◌, ◌*◌, ◌^◌, ◌≤�
 use Rattle.std.proofs.Math.IntN.{sub_ℕ}
 use Rattle.std.proofs.lemmas.Bool.Decides.{nat_tests}
 use Rattle.std.specs.List.{filter_map}
-use Rattle.gl_calculus.specs.Functions.{whole_number}
-use Rattle.gl_calculus.specs.Value as V
+use Rattle.gl_calculus.specs.Values.Functions.{whole_number}
+use Rattle.gl_calculus.specs.Values.Value as V
 use Rattle.gl_value.specs.View.{scalar_tree}
 use Rattle.gl_value.specs.Forms.{scalar_tree-Int, scalar_tree-Err}
 use Rattle.gl_value.specs.declared.ErrKind.{ErrKind}

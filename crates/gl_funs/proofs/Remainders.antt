@@ -6,9 +6,9 @@ use Rattle.std.proofs.Math.Bool.{beq}
 use Rattle.std.proofs.Math.IntN.{pred_ℤ, pred_ℤ-*ℤ, -ℤ_one, *ℤ_comm}
 use Rattle.std.specs.Int.{w64}
 use Rattle.gl_calculus.proofs.Tests.{int_exact}
-use Rattle.gl_calculus.specs.Operators as O
-use Rattle.gl_calculus.specs.Same.{same_int, same_bool}
-use Rattle.gl_calculus.specs.Value as V
+use Rattle.gl_calculus.specs.Values.Operators as O
+use Rattle.gl_calculus.specs.Values.Same.{same_int, same_bool}
+use Rattle.gl_calculus.specs.Values.Value as V
 
 fits : (z : ℤ) → FitsSigned w64 z → O.exact z ≡ V.Scalar.Int z
 fits (pos n) h = grind (arith, nat_tests)

@@ -1,10 +1,10 @@
 -- The elements of several values, one after the other.
 use Rattle.std.specs.Prelude.{◌≤◌, List, ◌++◌, length, map, IsTrue}
 use Rattle.std.specs.List.{All}
-use Rattle.gl_calculus.specs.Limits.{max_arguments}
-use Rattle.gl_calculus.specs.Value as V
-use Rattle.gl_calculus.specs.Sound.{is_sound_value}
-use Rattle.gl_calculus.specs.Functions.{all_elements}
+use Rattle.gl_calculus.specs.Grid.Limits.{max_arguments}
+use Rattle.gl_calculus.specs.Values.Value as V
+use Rattle.gl_calculus.specs.Evaluation.Sound.{is_sound_value}
+use Rattle.gl_calculus.specs.Values.Functions.{all_elements}
 use Rattle.gl_value.specs.View.{scalar_tree, value_tree}
 use Rattle.gl_value.specs.declared.Scalar.{Scalar}
 use Rattle.gl_value.specs.declared.Value.{Value}

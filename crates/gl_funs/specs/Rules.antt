@@ -1,10 +1,10 @@
 -- The functions taken apart as the code takes them.
 use Rattle.std.specs.Prelude.{ℕ, ℤ, pos, ◌+ℤ◌, Bool, ◌&&◌, ◌||◌, List, fold, filter_map, take, Option, Some, None, Result, IfOk, IsTrue, encode_utf8_all, chars}
-use Rattle.gl_calculus.specs.ErrKind.{ErrKind}
-use Rattle.gl_calculus.specs.Value.{Scalar, Int, Text}
-use Rattle.gl_calculus.specs.Operators.{exact, plain}
-use Rattle.gl_calculus.specs.Functions.{first_fault, sum_fault, truth_fault, unless, whole_number, truth, best, truth_of, lesser, greater, all_true, some_true, take_last}
-use Rattle.gl_calculus.specs.Sound.{is_sound_scalar}
+use Rattle.gl_calculus.specs.Values.ErrKind.{ErrKind}
+use Rattle.gl_calculus.specs.Values.Value.{Scalar, Int, Text}
+use Rattle.gl_calculus.specs.Values.Operators.{exact, plain}
+use Rattle.gl_calculus.specs.Values.Functions.{first_fault, sum_fault, truth_fault, unless, whole_number, truth, best, truth_of, lesser, greater, all_true, some_true, take_last}
+use Rattle.gl_calculus.specs.Evaluation.Sound.{is_sound_scalar}
 use Rattle.gl_plane.specs.declared.NoMemory.{NoMemory}
 use Rattle.gl_value.specs.View.{scalar_tree}
 use Rattle.gl_value.specs.declared.Scalar as Code

@@ -1,6 +1,7 @@
 //! The elements of several values.
 ghost use Rattle.std.specs.Prelude.{◌≡◌, IsTrue, map};
-ghost use Rattle.gl_calculus.specs.{Value.elements, Sound.is_sound_value};
+ghost use Rattle.gl_calculus.specs.Values.Value.{elements};
+ghost use Rattle.gl_calculus.specs.Evaluation.Sound.{is_sound_value};
 ghost use Rattle.gl_value.specs.View.{scalar_tree, value_tree};
 ghost use Rattle.gl_funs.specs.Elements.{AreSound, elements_of, elements_left};
 

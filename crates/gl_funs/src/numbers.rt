@@ -1,9 +1,9 @@
 //! SUM, COUNT, MIN and MAX, and the functions on single numbers.
 ghost use Rattle.std.specs.Prelude.{◌≡◌, ◌≢◌, IsTrue, pos, [], ◌∷◌};
-ghost use Rattle.gl_calculus.specs.Sound.{is_sound_scalar};
-ghost use Rattle.gl_calculus.specs.Functions as F;
-ghost use Rattle.gl_calculus.specs.Operators as O;
-ghost use Rattle.gl_calculus.specs.Value as V;
+ghost use Rattle.gl_calculus.specs.Evaluation.Sound.{is_sound_scalar};
+ghost use Rattle.gl_calculus.specs.Values.Functions as F;
+ghost use Rattle.gl_calculus.specs.Values.Operators as O;
+ghost use Rattle.gl_calculus.specs.Values.Value as V;
 ghost use Rattle.gl_value.specs.View.{scalar_tree};
 ghost use Rattle.gl_funs.specs.Elements.{AreArguments, elements_of};
 ghost use Rattle.gl_funs.specs.Rules.{best_from, better};

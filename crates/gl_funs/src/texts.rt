@@ -2,9 +2,10 @@
 ghost use Rattle.std.specs.Prelude.{◌≡◌, ◌≤◌, ◌<◌, ◌^◌, IsTrue, IfOk, take, length, chars};
 ghost use Rattle.std.specs.Prelude.{encode_utf8_all, string_bytes};
 ghost use Rattle.std.specs.{Fmt.decimal, Fmt.signed_decimal, Rc.rc_str_bytes};
-ghost use Rattle.gl_calculus.specs.{Limits.max_text, Sound.is_sound_scalar};
-ghost use Rattle.gl_calculus.specs.Functions as F;
-ghost use Rattle.gl_calculus.specs.Operators as O;
+ghost use Rattle.gl_calculus.specs.Grid.Limits.{max_text};
+ghost use Rattle.gl_calculus.specs.Evaluation.Sound.{is_sound_scalar};
+ghost use Rattle.gl_calculus.specs.Values.Functions as F;
+ghost use Rattle.gl_calculus.specs.Values.Operators as O;
 ghost use Rattle.gl_value.specs.View.{scalar_tree};
 ghost use Rattle.gl_funs.specs.{Rules.cut, Rules.natural, Rules.part_text, Rules.KeepsSound};
 

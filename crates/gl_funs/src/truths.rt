@@ -1,7 +1,7 @@
 //! AND, OR and NOT, and the tests of one scalar.
 ghost use Rattle.std.specs.Prelude.{◌≡◌, IsTrue, Bool, List, ◌∷◌, Some};
-ghost use Rattle.gl_calculus.specs.Sound.{is_sound_scalar};
-ghost use Rattle.gl_calculus.specs.Functions as F;
+ghost use Rattle.gl_calculus.specs.Evaluation.Sound.{is_sound_scalar};
+ghost use Rattle.gl_calculus.specs.Values.Functions as F;
 ghost use Rattle.gl_value.specs.View.{scalar_tree};
 ghost use Rattle.gl_funs.specs.Elements.{AreArguments, elements_of};
 ghost use Rattle.gl_funs.specs.Rules.{joins, known_truth, rule_of, truth_from};

@@ -1,8 +1,8 @@
 -- Whether an area is free, by what is asked of it.
 use Rattle.std.proofs.Common.{◌≡◌, Bool, true, false, ◌&&◌, ◌||◌, not, cond, List, [], ◌∷◌, Option, Some, None, is_none, refl, ap, ◌∙◌}
 use Rattle.std.specs.List.{find, list_all, list_any}
-use Rattle.gl_calculus.specs.Grid.{Addr, Size, Range, same_addr, area, addresses, lies_in, meets}
-use Rattle.gl_calculus.specs.Oracle.{is_free}
+use Rattle.gl_calculus.specs.Grid.Grid.{Addr, Size, Range, same_addr, area, addresses, lies_in, meets}
+use Rattle.gl_calculus.specs.Evaluation.Oracle.{is_free}
 use Rattle.gl_plane.specs.Parts.{area_within}
 
 none_step : (h s : Bool) (b : Addr) (rest : Option Addr) (all : Bool) → all ≡ is_none rest → ((s || not h) && all) ≡ is_none (cond (h && not s) (Some b) rest)

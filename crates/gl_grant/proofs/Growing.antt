@@ -7,11 +7,11 @@ use Rattle.std.proofs.lemmas.List.Folds.{list_all-append}
 use Rattle.std.proofs.lemmas.Option.{slice_get_within, get_or_from_slice_get}
 use Rattle.std.proofs.Math.Seq.{take-length}
 use Rattle.std.proofs.lemmas.List.{append-nil}
-use Rattle.gl_calculus.specs.Grid.{Addr, Size, Range, area, AreInOrder}
-use Rattle.gl_calculus.specs.Value.{Permitted, Refused, Entry, Oracle}
-use Rattle.gl_calculus.specs.Same.{is_permitted}
-use Rattle.gl_calculus.specs.Oracle.{IsInOrder, Sizes, AreSizes, sizes_of, area_of, is_free, grant_beside, grant, ArePermits}
-use Rattle.gl_calculus.proofs.Proved.{grant_gives_permits, only_grant_gives}
+use Rattle.gl_calculus.specs.Grid.Grid.{Addr, Size, Range, area, AreInOrder}
+use Rattle.gl_calculus.specs.Values.Value.{Permitted, Refused, Entry, Oracle}
+use Rattle.gl_calculus.specs.Values.Same.{is_permitted}
+use Rattle.gl_calculus.specs.Evaluation.Oracle.{IsInOrder, Sizes, AreSizes, sizes_of, area_of, is_free, grant_beside, grant, ArePermits}
+use Rattle.laws_calculus.proofs.Calculus.Proved.{grant_gives_permits, only_grant_gives}
 use Rattle.gl_grant.specs.Granted.{taken_beside, taken_by, entry_behind, fits_grid}
 
 -- what holds after a call that is no error

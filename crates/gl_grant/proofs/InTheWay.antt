@@ -2,11 +2,11 @@
 use Rattle.std.proofs.Common.{◌≡◌, inl, inr, ℕ, ◌+◌, ◌≤◌, Bool, true, false, ◌&&◌, not, cond, nat_le, [], ◌∷◌, Option, Some, None, option_map, refl, ap, arith, sym, ◌∙◌}
 use Rattle.std.specs.List.{find}
 use Rattle.std.proofs.lemmas.Bool.{leb-true, le-leb}
-use Rattle.gl_query.specs.Lists.{Member}
-use Rattle.gl_calculus.specs.Grid.{Addr, Range, same_addr, addresses, covers, lies_in, meets, grid}
-use Rattle.gl_calculus.specs.Value.{Permit, Permitted, Refused, Entry, Oracle}
-use Rattle.gl_calculus.specs.Same.{is_permitted}
-use Rattle.gl_calculus.specs.Oracle.{area_of, first_obstacle, obstacle, ArePermits}
+use Rattle.gl_calculus.specs.Computation.Lists.{Member}
+use Rattle.gl_calculus.specs.Grid.Grid.{Addr, Range, same_addr, addresses, covers, lies_in, meets, grid}
+use Rattle.gl_calculus.specs.Values.Value.{Permit, Permitted, Refused, Entry, Oracle}
+use Rattle.gl_calculus.specs.Values.Same.{is_permitted}
+use Rattle.gl_calculus.specs.Evaluation.Oracle.{area_of, first_obstacle, obstacle, ArePermits}
 use Rattle.gl_calculus.proofs.Tests.{both, and_true}
 use Rattle.gl_plane.specs.Reach.{first_from, spills_into}
 use Rattle.gl_grant.proofs.Taken.{meets_same}

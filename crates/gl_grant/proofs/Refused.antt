@@ -2,11 +2,11 @@
 use Rattle.std.proofs.Common.{◌≡◌, ◌≢◌, ◌⊎◌, ◌↔◌, inl, inr, Bool, true, false, ◌&&◌, ◌||◌, not, is_none, cond, List, [], ◌∷◌, Option, Some, None, option_map, refl, ap, sym, ◌∙◌, subst}
 use Rattle.std.specs.Prelude.{IsTrue, IsFalse}
 use Rattle.std.specs.List.{find, list_all}
-use Rattle.gl_query.specs.Lists.{Member}
-use Rattle.gl_calculus.specs.Grid.{Addr, Range, same_addr, is_before, addresses, covers, lies_in, meets}
-use Rattle.gl_calculus.specs.Value.{Permit, Permitted, Refused, Entry, Oracle}
-use Rattle.gl_calculus.specs.Same.{is_permitted}
-use Rattle.gl_calculus.specs.Oracle.{entry_at, permit_of, status, area_of, Obstacle, first_obstacle, obstacle, ArePermits}
+use Rattle.gl_calculus.specs.Computation.Lists.{Member}
+use Rattle.gl_calculus.specs.Grid.Grid.{Addr, Range, same_addr, is_before, addresses, covers, lies_in, meets}
+use Rattle.gl_calculus.specs.Values.Value.{Permit, Permitted, Refused, Entry, Oracle}
+use Rattle.gl_calculus.specs.Values.Same.{is_permitted}
+use Rattle.gl_calculus.specs.Evaluation.Oracle.{entry_at, permit_of, status, area_of, Obstacle, first_obstacle, obstacle, ArePermits}
 use Rattle.gl_calculus.proofs.Tests.{addr_exact}
 use Rattle.gl_grant.proofs.Free.{none_found}
 use Rattle.gl_calculus.proofs.Grants.{clash, all_covered}

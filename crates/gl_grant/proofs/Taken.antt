@@ -2,10 +2,10 @@
 use Rattle.std.proofs.Common.{◌≡◌, ℕ, zero, suc, ◌+◌, ◌≤◌, nat_lt, nat_le, Bool, true, false, ◌&&◌, ◌||◌, not, cond, List, [], ◌∷◌, take, Option, Some, None, refl, ap, arith, ◌∙◌}
 use Rattle.std.specs.List.{list_all, list_any}
 use Rattle.std.proofs.lemmas.Bool.Decides.{nat_tests}
-use Rattle.gl_calculus.specs.Grid.{Range, lies_in, meets, grid}
-use Rattle.gl_calculus.specs.Value.{Entry, Oracle}
-use Rattle.gl_calculus.specs.Same.{is_permitted}
-use Rattle.gl_calculus.specs.Oracle.{area_of}
+use Rattle.gl_calculus.specs.Grid.Grid.{Range, lies_in, meets, grid}
+use Rattle.gl_calculus.specs.Values.Value.{Entry, Oracle}
+use Rattle.gl_calculus.specs.Values.Same.{is_permitted}
+use Rattle.gl_calculus.specs.Evaluation.Oracle.{area_of}
 use Rattle.gl_calculus.proofs.Tests.{both}
 use Rattle.gl_plane.specs.Reach.{first_from, spills_into}
 use Rattle.gl_grant.specs.Granted.{taken_beside, taken_by, fits_grid}

@@ -1,9 +1,9 @@
 -- How a list of entries grows, one array after another.
 use Rattle.std.specs.Prelude.{Bool, ◌||◌, not, List, [], ◌∷◌, if◌then◌else◌}
-use Rattle.gl_calculus.specs.Grid.{Addr, Size, Range, area, lies_in, grid}
-use Rattle.gl_calculus.specs.Value.{Permitted, Refused, Entry, Oracle}
-use Rattle.gl_calculus.specs.Same.{is_permitted}
-use Rattle.gl_calculus.specs.Oracle.{area_of, is_free}
+use Rattle.gl_calculus.specs.Grid.Grid.{Addr, Size, Range, area, lies_in, grid}
+use Rattle.gl_calculus.specs.Values.Value.{Permitted, Refused, Entry, Oracle}
+use Rattle.gl_calculus.specs.Values.Same.{is_permitted}
+use Rattle.gl_calculus.specs.Evaluation.Oracle.{area_of, is_free}
 
 -- the areas of the permitted entries, beside areas already taken, the latest first
 abbrev pub taken_beside : List Range → Oracle → List Range

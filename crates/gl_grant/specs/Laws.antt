@@ -1,8 +1,8 @@
 -- The law of consistent permits.
 use Rattle.std.specs.Prelude.{◌≡◌, Bool}
-use Rattle.gl_calculus.specs.Grid.{Addr, Range}
-use Rattle.gl_calculus.specs.Value.{Oracle}
-use Rattle.gl_calculus.specs.Oracle.{IsInOrder, sizes_of, ArePermits}
+use Rattle.gl_calculus.specs.Grid.Grid.{Addr, Range}
+use Rattle.gl_calculus.specs.Values.Value.{Oracle}
+use Rattle.gl_calculus.specs.Evaluation.Oracle.{IsInOrder, sizes_of, ArePermits}
 
 -- Roots and sizes have at most one consistent oracle.
 abbrev pub SizesFixPermits : Type 0

@@ -1,5 +1,5 @@
 -- The code's obstacles as those of the calculus.
-use Rattle.gl_calculus.specs.Oracle as O
+use Rattle.gl_calculus.specs.Evaluation.Oracle as O
 use Rattle.gl_grant.specs.declared.obstacles.Obstacle.{Obstacle}
 use Rattle.gl_grant.specs.declared.obstacles.Obstacle.TheVariants.{Edge, Content, Root}
 

@@ -1,6 +1,6 @@
 //! Whether an oracle is what its sizes are granted.
 ghost use Rattle.std.specs.Prelude.{◌≡◌, ◌↔◌, Some, IsTrue, slice_get};
-ghost use Rattle.gl_calculus.specs.Oracle.{IsInOrder, sizes_of, ArePermits, grant};
+ghost use Rattle.gl_calculus.specs.Evaluation.Oracle.{IsInOrder, sizes_of, ArePermits, grant};
 
 use crate::Blocks;
 use crate::granting::entry_behind;

@@ -1,9 +1,9 @@
 //! Granting permits.
 ghost use Rattle.std.specs.Prelude.{◌≡◌, IsTrue, IfOk, take};
 ghost use Rattle.std.specs.List.{list_all, list_any};
-ghost use Rattle.gl_calculus.specs.Grid.{area, grid, lies_in, meets};
-ghost use Rattle.gl_calculus.specs.Oracle.{ArePermits, is_free, grant};
-ghost use Rattle.gl_calculus.specs.Value.{Permitted, Refused};
+ghost use Rattle.gl_calculus.specs.Grid.Grid.{area, grid, lies_in, meets};
+ghost use Rattle.gl_calculus.specs.Evaluation.Oracle.{ArePermits, is_free, grant};
+ghost use Rattle.gl_calculus.specs.Values.Value.{Permitted, Refused};
 ghost use Rattle.gl_grant.specs.Granted.{taken_by, entry_behind, fits_grid};
 
 use crate::Blocks;

@@ -16,7 +16,7 @@ pub use obstacles::{Obstacle, blocker};
 pub trait Blocks {
     ghost use Rattle.std.specs.Prelude.{◌≡◌, Bool, ◌&&◌, not};
     ghost use Rattle.std.specs.List.{find};
-    ghost use Rattle.gl_calculus.specs.Grid.{Addr as Plain, same_addr, addresses};
+    ghost use Rattle.gl_calculus.specs.Grid.Grid.{Addr as Plain, same_addr, addresses};
 
     /// The address has content.
     ghost held: { Self → Plain → Bool };

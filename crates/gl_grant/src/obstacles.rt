@@ -1,7 +1,9 @@
 //! What stands in the way of a refused root.
 ghost use Rattle.std.specs.Prelude.{◌≡◌, ◌↔◌, None, Some, IsSome, option_map};
-ghost use Rattle.gl_calculus.specs.Oracle.{ArePermits, entry_at, status, blocker, obstacle};
-ghost use Rattle.gl_calculus.specs.{Grid.area, Value.Permitted};
+ghost use Rattle.gl_calculus.specs.Evaluation.Oracle.{ArePermits, entry_at, status, blocker};
+ghost use Rattle.gl_calculus.specs.Evaluation.Oracle.{obstacle};
+ghost use Rattle.gl_calculus.specs.Grid.Grid.{area};
+ghost use Rattle.gl_calculus.specs.Values.Value.{Permitted};
 ghost use Rattle.gl_grant.specs.Obstacle.{obstacle_tree};
 
 use crate::Blocks;

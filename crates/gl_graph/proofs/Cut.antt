@@ -2,7 +2,7 @@
 use Rattle.std.proofs.Common.{◌≡◌, ◌⊎◌, inl, inr, ℕ, ◌-◌, ◌<◌, ◌≤◌, nat_lt, Bool, true, false, List, [], ◌∷◌, ◌++◌, length, Option, Some, None, refl, sym, subst, ap, ◌∙◌, arith, append-nil, length-append}
 use Rattle.std.specs.Prelude.{slice_get}
 use Rattle.std.specs.Option.{option_to_list}
-use Rattle.gl_query.specs.Lists.{Member}
+use Rattle.gl_calculus.specs.Computation.Lists.{Member}
 use Rattle.gl_graph.specs.Search.{Rises, AreCut, passes, last_of}
 use Rattle.gl_graph.proofs.Rising.{member_push, member_before, rises_before, rises_last}
 use borrow.Author.Tests.{ltb-true, ltb-false}

@@ -1,7 +1,7 @@
 -- What leads to what, the frames of open nodes, and a node that is opened.
 use Rattle.std.proofs.Common.{◌≡◌, ◌⊎◌, inl, inr, ℕ, suc, ◌+◌, ◌<◌, ◌≤◌, true, false, List, [], ◌∷◌, ◌++◌, sym, subst, ap, ◌∙◌, arith}
 use Rattle.std.proofs.lemmas.Bool.{cases_eq, cases_lt}
-use Rattle.gl_query.specs.Lists.{Member}
+use Rattle.gl_calculus.specs.Computation.Lists.{Member}
 use Rattle.gl_graph.specs.Graph.{Leads, once, further, Path, ends, Reaches}
 use Rattle.gl_graph.specs.Search.{origin, is_shut, Rises, places_of, NoneBetween, steps, AreTrue, Seen, shut, higher, ahead, Passed, coming, low, circled, looped, IsFrame, Holds}
 use Rattle.gl_graph.proofs.Rising.{member_push, member_before, member_last, member_map, member_unmap, map_push, rises_push, rises_last}

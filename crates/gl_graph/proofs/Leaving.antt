@@ -1,6 +1,6 @@
 -- A node without steps left: it is left open, or its segment is known.
 use Rattle.std.proofs.Common.{◌≡◌, ◌⊎◌, inl, inr, ℕ, ◌+◌, ◌<◌, ◌≤◌, Bool, true, false, List, [], ◌∷◌, ◌++◌, refl, sym, subst, ap, ◌∙◌, arith}
-use Rattle.gl_query.specs.Lists.{Member}
+use Rattle.gl_calculus.specs.Computation.Lists.{Member}
 use Rattle.gl_graph.specs.Graph.{Leads, once, further, Path, ends, goes, Reaches, IsPlain}
 use Rattle.gl_graph.specs.Search.{is_shut, Rises, places_of, NoneBetween, steps, AreTrue, Seen, shut, higher, ahead, Passed, coming, low, circled, looped, IsFrame, Holds}
 use Rattle.gl_graph.proofs.Rising.{member_push, member_before, member_last, map_push, rises_before, rises_last}

@@ -1,6 +1,6 @@
 -- Lists of numbers that rise, by their last.
 use Rattle.std.proofs.Common.{◌≡◌, ◌⊎◌, inl, inr, ℕ, ◌<◌, List, [], ◌∷◌, ◌++◌, map, refl, sym, subst, ap}
-use Rattle.gl_query.specs.Lists.{Member}
+use Rattle.gl_calculus.specs.Computation.Lists.{Member}
 use Rattle.gl_graph.specs.Search.{Rises}
 
 pub member_push : {X : Type 0} (x y : X) (xs : List X) → Member x (xs ++ y ∷ []) → Member x xs ⊎ (x ≡ y)

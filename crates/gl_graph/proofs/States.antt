@@ -3,7 +3,7 @@ use Rattle.std.proofs.Common.{◌≡◌, ◌⊎◌, inl, inr, ℕ, suc, ◌+◌,
 use Rattle.std.specs.Prelude.{slice_index, if◌then◌else◌}
 use Rattle.std.proofs.lemmas.Bool.{cases_eq}
 use Rattle.std.proofs.lemmas.List.{get_or-set_same, get_or-set_other, get_or_append_left, get_or_push, take_at}
-use Rattle.gl_query.specs.Lists.{Member}
+use Rattle.gl_calculus.specs.Computation.Lists.{Member}
 use Rattle.gl_graph.specs.Graph.{once, Reaches}
 use Rattle.gl_graph.specs.Search.{origin, mark_of, is_shut, is_new, fresh_frame, steps, shut_count, new_work, work, passes, last_of, Rises, AreOpen, AreCut, AreClosed, Holds, IsState, IsTurn}
 use Rattle.gl_graph.proofs.Rising.{member_push, member_before, member_last, rises_last}

@@ -1,6 +1,6 @@
 -- A step to a node that is known, or that is open.
 use Rattle.std.proofs.Common.{◌≡◌, ◌⊎◌, inl, inr, ℕ, ◌+◌, ◌<◌, ◌≤◌, max, true, List, [], ◌∷◌, ◌++◌, refl, sym, subst, ap, ◌∙◌, arith}
-use Rattle.gl_query.specs.Lists.{Member}
+use Rattle.gl_calculus.specs.Computation.Lists.{Member}
 use Rattle.gl_graph.specs.Graph.{Leads, once, Path, goes, Reaches}
 use Rattle.gl_graph.specs.Search.{is_shut, Rises, places_of, NoneBetween, steps, Seen, shut, higher, ahead, Passed, coming, low, circled, looped, IsFrame, Holds}
 use Rattle.gl_graph.proofs.Rising.{member_push, member_before, member_last, map_push}

@@ -1,6 +1,6 @@
 -- What leads to what in a graph whose nodes are numbers, and what paths weigh.
 use Rattle.std.specs.Prelude.{◌≡◌, ◌⊎◌, ℕ, ◌+◌, ◌≤◌, List}
-use Rattle.gl_query.specs.Lists.{Member}
+use Rattle.gl_calculus.specs.Computation.Lists.{Member}
 
 module _ (steps : ℕ → List ℕ) where
   -- the first node leads to the second by one step or more

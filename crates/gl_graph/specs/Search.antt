@@ -1,6 +1,6 @@
 -- What a search keeps between its turns.
 use Rattle.std.specs.Prelude.{◌≡◌, ◌⊎◌, ℕ, ◌+◌, ◌<◌, ◌≤◌, Bool, true, false, List, [], ◌∷◌, map, get_or, length, slice_index, slice_get, sum_by, Option, Some, None, ◌-◌, if◌then◌else◌}
-use Rattle.gl_query.specs.Lists.{Member}
+use Rattle.gl_calculus.specs.Computation.Lists.{Member}
 use Rattle.gl_graph.specs.Graph.{Leads, Path, Reaches, IsPlain}
 use Rattle.gl_graph.specs.declared.graph.Place.{Place}
 use Rattle.gl_graph.specs.declared.mark.Mark.{Mark}

@@ -2,9 +2,9 @@
 use Rattle.std.proofs.Common.{◌≡◌, ◌≢◌, ℕ, ◌+◌, ◌*◌, ◌<◌, ◌≤◌, Bool, true, false, ◌&&◌, ◌==◌, ◌⊎◌, inl, inr, [], ◌∷◌, ◌++◌, length, refl, ap, sym, subst, ◌∙◌, arith, IsFalse}
 use Rattle.std.specs.Prelude.{nat_le}
 use Rattle.std.proofs.lemmas.Bool.Decides.{nat_tests}
-use Rattle.gl_language.specs.Text.{Bytes, is_control, hex_digit}
-use Rattle.gl_language.specs.Token.{Decodes, IsHexDigit}
-use Rattle.gl_language.specs.Token as D
+use Rattle.gl_language.specs.Texts.Text.{Bytes, is_control, hex_digit}
+use Rattle.gl_language.specs.Reading.Token.{Decodes, IsHexDigit}
+use Rattle.gl_language.specs.Reading.Token as D
 use Rattle.gl_lex.specs.declared.quote.State.{State}
 use Rattle.gl_lex.specs.declared.quote.State.TheVariants as state
 use Rattle.gl_lex.specs.declared.quote.Step.{Step}

@@ -4,9 +4,9 @@ use Rattle.std.specs.List.{prefix_len}
 use Rattle.std.proofs.lemmas.List.{length-take-le}
 use Rattle.std.proofs.lemmas.List.Sums.{prefix_len-le-length}
 use Rattle.std.proofs.Math.Seq.{take-append_seam, drop-append_seam}
-use Rattle.gl_language.specs.Text.{Bytes}
-use Rattle.gl_language.specs.Token as T
-use Rattle.gl_language.specs.Token.{is_digit, is_lower, IsRow, NotBefore, Takes, digits_value, integer, quoted, address, truth, word, variable, signed}
+use Rattle.gl_language.specs.Texts.Text.{Bytes}
+use Rattle.gl_language.specs.Reading.Token as T
+use Rattle.gl_language.specs.Reading.Token.{is_digit, is_lower, IsRow, NotBefore, Takes, digits_value, integer, quoted, address, truth, word, variable, signed}
 use Rattle.gl_lex.specs.declared.Kind.TheVariants as k
 use Rattle.gl_lex.specs.declared.scan.Bad.TheVariants as bad
 use Rattle.gl_lex.specs.declared.scan.Class.TheVariants.{Digit, Lower}

@@ -8,12 +8,12 @@ use Rattle.std.proofs.lemmas.List.{take_all, drop-drop, length-append}
 use Rattle.std.proofs.lemmas.List.Sums.{prefix_len-le-length}
 use Rattle.std.proofs.lemmas.Slice.Eq.{bytes_eq-Decides}
 use Rattle.std.proofs.lemmas.Bool.Decides.{nat_tests}
-use Rattle.gl_calculus.specs.Grid.{Addr, grid, covers}
-use Rattle.gl_calculus.specs.Notation.{column_text, address_text}
+use Rattle.gl_calculus.specs.Grid.Grid.{Addr, grid, covers}
+use Rattle.gl_calculus.specs.Grid.Notation.{column_text, address_text}
 use Rattle.gl_plane.specs.Parts.{IsAddr}
-use Rattle.gl_language.specs.Text.{Bytes, truth_text}
-use Rattle.gl_language.specs.Token as T
-use Rattle.gl_language.specs.Token.{is_digit, is_upper, IsRow, NotBefore, Spells, Takes, EndsBefore, digits_value, integer, quoted, address, truth, word, variable, signed}
+use Rattle.gl_language.specs.Texts.Text.{Bytes, truth_text}
+use Rattle.gl_language.specs.Reading.Token as T
+use Rattle.gl_language.specs.Reading.Token.{is_digit, is_upper, IsRow, NotBefore, Spells, Takes, EndsBefore, digits_value, integer, quoted, address, truth, word, variable, signed}
 use Rattle.gl_lex.specs.declared.Kind.{Kind}
 use Rattle.gl_lex.specs.declared.Kind.TheVariants as k
 use Rattle.gl_lex.specs.declared.scan.Bad.TheVariants as bad

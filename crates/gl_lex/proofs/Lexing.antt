@@ -4,9 +4,9 @@ use Rattle.std.specs.Prelude.{slice_range}
 use Rattle.std.specs.List.{AllByRecursion}
 use Rattle.std.proofs.Math.Seq.{take-suc}
 use Rattle.std.proofs.lemmas.List.{at_drop_all, drop-drop, get_or-drop, map-append, take-append-drop}
-use Rattle.gl_language.specs.Text.{Bytes}
-use Rattle.gl_language.specs.Token as T
-use Rattle.gl_language.specs.Token.{Takes, Spells, Reads, no_more, space, token, Lexes, LexFault, IsLexFault, fault_at}
+use Rattle.gl_language.specs.Texts.Text.{Bytes}
+use Rattle.gl_language.specs.Reading.Token as T
+use Rattle.gl_language.specs.Reading.Token.{Takes, Spells, Reads, no_more, space, token, Lexes, LexFault, IsLexFault, fault_at}
 use Rattle.gl_lex.specs.declared.Token.{Token}
 use Rattle.gl_lex.specs.declared.Kind.{Kind}
 use Rattle.gl_lex.specs.View.{kind_token, span, token_in, tokens_in, IsGap, AreSpans}

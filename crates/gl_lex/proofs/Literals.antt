@@ -5,9 +5,9 @@ use Rattle.std.proofs.lemmas.List.{append-nil, take-append-drop, length-drop}
 use Rattle.std.specs.Rc.{rc_str_bytes}
 use Rattle.std.specs.declared.alloc.Global.{Global}
 use Rattle.std.specs.declared.rc.RcStr.{RcStr}
-use Rattle.gl_language.specs.Text.{Bytes}
-use Rattle.gl_language.specs.Token as T
-use Rattle.gl_language.specs.Token.{Takes, Spells}
+use Rattle.gl_language.specs.Texts.Text.{Bytes}
+use Rattle.gl_language.specs.Reading.Token as T
+use Rattle.gl_language.specs.Reading.Token.{Takes, Spells}
 use Rattle.gl_lex.specs.declared.Kind.TheVariants as k
 use Rattle.gl_lex.specs.Front.{NoToken, IsFront}
 use Rattle.gl_lex.proofs.Starts.{spells_begins}

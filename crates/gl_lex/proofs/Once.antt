@@ -5,12 +5,12 @@ use Rattle.std.specs.Fmt.{decimal}
 use Rattle.std.proofs.lemmas.Fmt.{decimal_injective}
 use Rattle.std.proofs.lemmas.Bool.Decides.{nat_tests}
 use Rattle.std.proofs.lemmas.List.{append-nil}
-use Rattle.gl_calculus.specs.Grid.{Addr, addr, grid, covers}
-use Rattle.gl_calculus.specs.Notation.{column_text, address_text}
-use Rattle.gl_language.specs.Text.{Bytes}
-use Rattle.gl_language.specs.Token as T
-use Rattle.gl_language.specs.Token.{is_digit, is_upper, is_lower, Takes, Reads, no_more, space, token, LexFault, IsLexFault, fault_at}
-use Rattle.gl_language.specs.Laws.{OneTokenList, OneLexFault, TokensOrFault}
+use Rattle.gl_calculus.specs.Grid.Grid.{Addr, addr, grid, covers}
+use Rattle.gl_calculus.specs.Grid.Notation.{column_text, address_text}
+use Rattle.gl_language.specs.Texts.Text.{Bytes}
+use Rattle.gl_language.specs.Reading.Token as T
+use Rattle.gl_language.specs.Reading.Token.{is_digit, is_upper, is_lower, Takes, Reads, no_more, space, token, LexFault, IsLexFault, fault_at}
+use Rattle.gl_lex.specs.Laws.{OneTokenList, OneLexFault, TokensOrFault}
 use Rattle.gl_lex.specs.Front.{NoToken, sign_len}
 use Rattle.gl_lex.proofs.Starts.{on_grid, spells_begins}
 use Rattle.gl_lex.proofs.Fronts.{first, cut_at, row_cut, digit_front, lower_front}

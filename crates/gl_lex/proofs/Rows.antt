@@ -1,8 +1,8 @@
 -- Rows of bytes that pass a test.
 use Rattle.std.proofs.Common.{◌≡◌, ℕ, suc, ◌<◌, Bool, true, false, [], ◌∷◌, ◌++◌, take, drop, length, get_or, refl, ap, ◌∙◌, arith, IsTrue}
 use Rattle.std.specs.List.{prefix_len, AllByRecursion}
-use Rattle.gl_language.specs.Text.{Bytes}
-use Rattle.gl_language.specs.Token.{NotBefore}
+use Rattle.gl_language.specs.Texts.Text.{Bytes}
+use Rattle.gl_language.specs.Reading.Token.{NotBefore}
 
 module _ (p : ℕ → Bool) where
   prefix_yes : (x : ℕ) (xs : Bytes) → p x ≡ true → prefix_len p (x ∷ xs) ≡ suc (prefix_len p xs)

@@ -1,9 +1,9 @@
 -- What stands in front of a text that begins with a sign, or with no token.
 use Rattle.std.proofs.Common.{◌≡◌, ℕ, ◌<◌, ◌≤◌, true, false, ◌==◌, ◌||◌, [], ◌∷◌, ◌++◌, take, drop, length, get_or, Some, None, refl, ap, sym, subst, ◌∙◌, arith}
 use Rattle.std.proofs.lemmas.Bool.Decides.{nat_tests}
-use Rattle.gl_language.specs.Text.{Bytes}
-use Rattle.gl_language.specs.Token as T
-use Rattle.gl_language.specs.Token.{is_digit, is_upper, is_lower, NotBefore, Takes, EndsBefore, integer, quoted, address, truth, word, variable, signed}
+use Rattle.gl_language.specs.Texts.Text.{Bytes}
+use Rattle.gl_language.specs.Reading.Token as T
+use Rattle.gl_language.specs.Reading.Token.{is_digit, is_upper, is_lower, NotBefore, Takes, EndsBefore, integer, quoted, address, truth, word, variable, signed}
 use Rattle.gl_lex.specs.declared.Sign.{Sign}
 use Rattle.gl_lex.specs.declared.Kind.TheVariants as k
 use Rattle.gl_lex.specs.declared.scan.Bad.TheVariants as bad

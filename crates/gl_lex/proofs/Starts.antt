@@ -3,11 +3,11 @@ use Rattle.std.proofs.Common.{◌≡◌, ℕ, ◌+◌, ◌-◌, ◌/◌, ◌%◌
 use Rattle.std.proofs.lemmas.Bool.Decides.{nat_tests}
 use Rattle.std.specs.Prelude.{nat_le}
 use Rattle.std.specs.Fmt.{decimal}
-use Rattle.gl_calculus.specs.Grid.{Addr, grid, covers}
-use Rattle.gl_calculus.specs.Notation.{column_text}
-use Rattle.gl_language.specs.Text.{Bytes, truth_text}
-use Rattle.gl_language.specs.Token as T
-use Rattle.gl_language.specs.Token.{is_digit, is_upper, is_lower, IsRow, Spells, Takes, integer, quoted, address, truth, word, variable, signed}
+use Rattle.gl_calculus.specs.Grid.Grid.{Addr, grid, covers}
+use Rattle.gl_calculus.specs.Grid.Notation.{column_text}
+use Rattle.gl_language.specs.Texts.Text.{Bytes, truth_text}
+use Rattle.gl_language.specs.Reading.Token as T
+use Rattle.gl_language.specs.Reading.Token.{is_digit, is_upper, is_lower, IsRow, Spells, Takes, integer, quoted, address, truth, word, variable, signed}
 
 abbrev pub is_other : ℕ → Bool
 is_other b = not (is_digit b || is_upper b || is_lower b || (b == 34))

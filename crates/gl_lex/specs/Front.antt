@@ -3,9 +3,9 @@ use Rattle.std.specs.Prelude.{◌≡◌, ℕ, ◌+◌, ◌-◌, ◌*◌, ◌<◌
 use Rattle.std.specs.List.{prefix_len, fold}
 use Rattle.std.specs.declared.alloc.Global.{Global}
 use Rattle.std.specs.declared.rc.RcStr.{RcStr}
-use Rattle.gl_language.specs.Text.{Bytes, truth_text}
-use Rattle.gl_language.specs.Token.{is_digit, is_upper, is_lower, Takes, Spells, EndsBefore, fault_at}
-use Rattle.gl_language.specs.Token as T
+use Rattle.gl_language.specs.Texts.Text.{Bytes, truth_text}
+use Rattle.gl_language.specs.Reading.Token.{is_digit, is_upper, is_lower, Takes, Spells, EndsBefore, fault_at}
+use Rattle.gl_language.specs.Reading.Token as T
 use Rattle.gl_lex.specs.declared.scan.Class.{Class}
 use Rattle.gl_lex.specs.declared.scan.Class.TheVariants.{Digit, Upper, Lower}
 use Rattle.gl_lex.specs.declared.scan.Bad.{Bad}

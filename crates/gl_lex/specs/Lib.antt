@@ -1,3 +1,4 @@
 pub mod View
 pub mod Front
 pub mod Quote
+pub mod Laws

@@ -1,7 +1,7 @@
 //! Why a text has no tokens.
 
 ghost use Rattle.std.specs.Prelude.{◌≡◌, List, ℕ, slice_index};
-ghost use Rattle.gl_language.specs.Token as T;
+ghost use Rattle.gl_language.specs.Reading.Token as T;
 ghost use Rattle.gl_lex.specs.{Front.NoToken, Front.Refuses, View.IsRefused};
 ghost use Rattle.gl_lex.specs.declared.fault.LexFault.TheVariants.{NoMemory};
 

@@ -1,10 +1,10 @@
 //! Laws of the tokens.
 
 ghost use Rattle.std.specs.Prelude.{◌≡◌};
-ghost use Rattle.gl_language.specs.Laws.{OneTokenList, OneLexFault, TokensOrFault};
-ghost use Rattle.gl_language.specs.Laws.{CanonicalIsLexed};
-ghost use Rattle.gl_language.specs.Text.{Bytes};
-ghost use Rattle.gl_language.specs.Token as T;
+ghost use Rattle.gl_lex.specs.Laws.{OneTokenList, OneLexFault, TokensOrFault};
+ghost use Rattle.gl_lex.specs.Laws.{CanonicalIsLexed};
+ghost use Rattle.gl_language.specs.Texts.Text.{Bytes};
+ghost use Rattle.gl_language.specs.Reading.Token as T;
 
 /// A text has at most one list of tokens, or one first fault, and not both.
 pub fn one_reading()

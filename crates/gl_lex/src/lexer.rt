@@ -1,8 +1,8 @@
 //! A text as tokens.
 
 ghost use Rattle.std.specs.Prelude.{◌≤◌, length, MatchResult};
-ghost use Rattle.gl_calculus.specs.Limits.{max_formula};
-ghost use Rattle.gl_language.specs.Token.{Lexes};
+ghost use Rattle.gl_calculus.specs.Grid.Limits.{max_formula};
+ghost use Rattle.gl_language.specs.Reading.Token.{Lexes};
 ghost use Rattle.gl_lex.specs.View.{tokens_in, AreSpans, IsRefused};
 
 use crate::Token;

@@ -3,7 +3,7 @@
 ghost use Rattle.std.specs.Prelude.{◌≡◌, ◌≤◌, ◌<◌, ◌∷◌, length, ◌^◌, slice_index, true, false};
 ghost use Rattle.std.specs.Prelude.{nat_eq, IfOk, MatchOption, pos, option_map};
 ghost use Rattle.std.specs.Str.{bytes_eq};
-ghost use Rattle.gl_language.specs.Token.{digits_value};
+ghost use Rattle.gl_language.specs.Reading.Token.{digits_value};
 ghost use Rattle.gl_lex.specs.Front.{Decides, DecidesText};
 ghost use Rattle.gl_lex.specs.View as view;
 ghost use Rattle.gl_lex.specs.Front as front;

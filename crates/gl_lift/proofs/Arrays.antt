@@ -1,8 +1,8 @@
 -- Where one of the values is an array, the lift of a rule is a table.
 use Rattle.std.proofs.Common.{◌≡◌, refl}
-use Rattle.gl_calculus.specs.Grid.{Size}
-use Rattle.gl_calculus.specs.Value as V
-use Rattle.gl_calculus.specs.Lift.{item, shape, hull, table, lift1, lift2, lift3}
+use Rattle.gl_calculus.specs.Grid.Grid.{Size}
+use Rattle.gl_calculus.specs.Values.Value as V
+use Rattle.gl_calculus.specs.Values.Lift.{item, shape, hull, table, lift1, lift2, lift3}
 use Rattle.gl_lift.specs.Elements.{paired, tripled}
 
 pub one_array : (f : V.Scalar → V.Scalar) (u : V.Value) (s : Size) (xs : V.Scalars) → u ≡ V.Value.Array s xs → table (shape u) (λ i j. f (item u i j)) ≡ lift1 f u

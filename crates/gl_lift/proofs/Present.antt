@@ -2,10 +2,10 @@
 use Rattle.std.proofs.Common.{◌≡◌, ℕ, zero, suc, ◌+◌, ◌*◌, ◌<◌, Bool, true, false, ◌&&◌, nat_lt, List, [], ◌∷◌, length, slice_get, get_or, Some, None, refl, arith, IsTrue, if◌then◌else◌}
 use Rattle.std.proofs.lemmas.Bool.{and_parts, eqb-true}
 use Rattle.std.proofs.lemmas.Bool.Decides.{nat_tests}
-use Rattle.gl_calculus.specs.Grid.{Size}
-use Rattle.gl_calculus.specs.ErrKind.{ErrKind}
-use Rattle.gl_calculus.specs.Value as V
-use Rattle.gl_calculus.specs.Sound.{is_size, are_sound, is_sound_value}
+use Rattle.gl_calculus.specs.Grid.Grid.{Size}
+use Rattle.gl_calculus.specs.Values.ErrKind.{ErrKind}
+use Rattle.gl_calculus.specs.Values.Value as V
+use Rattle.gl_calculus.specs.Evaluation.Sound.{is_size, are_sound, is_sound_value}
 use Rattle.gl_value.specs.Parts.{element_at}
 use Rattle.gl_lift.specs.Elements.{present}
 

@@ -5,10 +5,10 @@ use Rattle.std.proofs.lemmas.List.FromFn.{map-range_with_len_more}
 use Rattle.std.proofs.lemmas.Grind.{flat_map-append}
 use Rattle.std.specs.List.{range_with_len, flat_map}
 use Rattle.std.proofs.lemmas.Bool.{and_parts}
-use Rattle.gl_calculus.specs.Grid.{Size}
-use Rattle.gl_calculus.specs.Value as V
-use Rattle.gl_calculus.specs.Lift.{is_small, table}
-use Rattle.gl_calculus.specs.Sound.{is_size}
+use Rattle.gl_calculus.specs.Grid.Grid.{Size}
+use Rattle.gl_calculus.specs.Values.Value as V
+use Rattle.gl_calculus.specs.Values.Lift.{is_small, table}
+use Rattle.gl_calculus.specs.Evaluation.Sound.{is_size}
 use Rattle.gl_value.specs.View.{scalar_tree, item_trees}
 use Rattle.gl_value.specs.declared.Scalar.{Scalar}
 

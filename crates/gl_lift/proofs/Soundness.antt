@@ -3,11 +3,11 @@ use Rattle.std.specs.Borrow.{Bor}
 use Rattle.std.specs.Option.{option_copied}
 use Rattle.std.proofs.Common.{Option, Some, None, IfSome, option_map, ◌≡◌, ℕ, zero, suc, ◌*◌, ◌+◌, ◌==◌, Bool, true, false, ◌&&◌, nat_lt, List, [], ◌∷◌, ◌++◌, length, get_or, refl, IsTrue, if◌then◌else◌, ◌∙◌}
 use Rattle.std.proofs.lemmas.Bool.{and_parts, and_from, eq-eqb}
-use Rattle.gl_calculus.specs.Grid.{Size}
-use Rattle.gl_calculus.specs.ErrKind.{ErrKind}
-use Rattle.gl_calculus.specs.Value as V
-use Rattle.gl_calculus.specs.Lift.{item, shape}
-use Rattle.gl_calculus.specs.Sound.{is_size, is_sound_scalar, are_sound, is_sound_value}
+use Rattle.gl_calculus.specs.Grid.Grid.{Size}
+use Rattle.gl_calculus.specs.Values.ErrKind.{ErrKind}
+use Rattle.gl_calculus.specs.Values.Value as V
+use Rattle.gl_calculus.specs.Values.Lift.{item, shape}
+use Rattle.gl_calculus.specs.Evaluation.Sound.{is_size, is_sound_scalar, are_sound, is_sound_value}
 use Rattle.gl_value.specs.View.{scalar_tree, item_trees}
 use Rattle.gl_value.specs.Sound.{items_count}
 use Rattle.gl_value.specs.declared.Scalar.{Scalar}

@@ -1,7 +1,7 @@
 -- The element of a value at a row and a column, if there is one.
 use Rattle.std.specs.Prelude.{ℕ, ◌&&◌, ◌==◌, nat_lt, Option, Some, None, if◌then◌else◌}
-use Rattle.gl_calculus.specs.Value.{Scalar, Value}
-use Rattle.gl_calculus.specs.Lift.{shape, item, reaches, spread, where_reached}
+use Rattle.gl_calculus.specs.Values.Value.{Scalar, Value}
+use Rattle.gl_calculus.specs.Values.Lift.{shape, item, reaches, spread, where_reached}
 
 -- within the extents
 abbrev pub present : Value → ℕ → ℕ → Option Scalar

@@ -2,8 +2,8 @@
 use Rattle.std.specs.Prelude.{◌≡◌, ℕ, ◌^◌, ◌<◌, Result, IfOk, IsTrue}
 use Rattle.std.specs.Fn.{Shared}
 use Rattle.std.specs.Borrow.{Bor}
-use Rattle.gl_calculus.specs.Value as V
-use Rattle.gl_calculus.specs.Sound.{is_sound_scalar}
+use Rattle.gl_calculus.specs.Values.Value as V
+use Rattle.gl_calculus.specs.Evaluation.Sound.{is_sound_scalar}
 use Rattle.gl_plane.specs.declared.NoMemory.{NoMemory}
 use Rattle.gl_value.specs.View.{scalar_tree}
 use Rattle.gl_value.specs.declared.Scalar.{Scalar}

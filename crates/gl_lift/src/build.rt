@@ -1,8 +1,10 @@
 //! Arrays made element by element.
 ghost use Rattle.std.specs.Prelude.{◌≡◌, ◌≤◌, ◌+◌, ◌++◌, IfOk, IsTrue, OnOk, map, vec_len, ℕ};
 ghost use Rattle.std.specs.List.{range_with_len};
-ghost use Rattle.gl_calculus.specs.{Grid.size, Lift.table, Sound.are_sound, Sound.is_sound_value};
-ghost use Rattle.gl_calculus.specs.Value as V;
+ghost use Rattle.gl_calculus.specs.Grid.Grid.{size};
+ghost use Rattle.gl_calculus.specs.Values.Lift.{table};
+ghost use Rattle.gl_calculus.specs.Evaluation.Sound.{are_sound, is_sound_value};
+ghost use Rattle.gl_calculus.specs.Values.Value as V;
 ghost use Rattle.gl_value.specs.View.{item_trees, scalar_tree, value_tree};
 ghost use Rattle.gl_lift.specs.Rules.{ComputesAt, AnswersSoundAt};
 

@@ -1,9 +1,10 @@
 //! The elements of values, and what an operator gives at them.
 ghost use Rattle.std.specs.Prelude.{◌≡◌, ◌≤◌, IsTrue, IfOk, IfSome, max, option_map};
 ghost use Rattle.std.specs.Option.{option_copied};
-ghost use Rattle.gl_calculus.specs.{Lift.shape, Sound.is_sound_value};
-ghost use Rattle.gl_calculus.specs.Value as V;
-ghost use Rattle.gl_calculus.specs.Lift as L;
+ghost use Rattle.gl_calculus.specs.Values.Lift.{shape};
+ghost use Rattle.gl_calculus.specs.Evaluation.Sound.{is_sound_value};
+ghost use Rattle.gl_calculus.specs.Values.Value as V;
+ghost use Rattle.gl_calculus.specs.Values.Lift as L;
 ghost use Rattle.gl_value.specs.View.{scalar_tree, value_tree};
 ghost use Rattle.gl_lift.specs.Elements.{present, reached, place, paired, tripled};
 ghost use Rattle.gl_lift.specs.Rules.{Computes1, Computes2, Computes3, AnswersSound1};

@@ -1,8 +1,9 @@
 //! Tables of what an operator gives at the elements of values.
 ghost use Rattle.std.specs.Prelude.{◌≡◌, IsTrue, IfOk};
-ghost use Rattle.gl_calculus.specs.{Lift.shape, Sound.is_sound_value};
-ghost use Rattle.gl_calculus.specs.Value as V;
-ghost use Rattle.gl_calculus.specs.Lift as L;
+ghost use Rattle.gl_calculus.specs.Values.Lift.{shape};
+ghost use Rattle.gl_calculus.specs.Evaluation.Sound.{is_sound_value};
+ghost use Rattle.gl_calculus.specs.Values.Value as V;
+ghost use Rattle.gl_calculus.specs.Values.Lift as L;
 ghost use Rattle.gl_value.specs.View.{value_tree};
 ghost use Rattle.gl_lift.specs.Rules.{Computes1, Computes2, Computes3, AnswersSound1};
 ghost use Rattle.gl_lift.specs.Rules.{AnswersSound2, AnswersSound3};

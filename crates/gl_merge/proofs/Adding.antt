@@ -3,9 +3,9 @@ use Rattle.std.proofs.Common.{◌≡◌, ◌∙◌, ◌⊎◌, inl, inr, ℕ, �
 use Rattle.std.specs.List.{AllByRecursion, insert}
 use Rattle.std.proofs.lemmas.List.Edits.{length-insert}
 use Rattle.std.proofs.lemmas.Option.{slice_get_within}
-use Rattle.gl_query.specs.Lists.{Member, AreDistinct}
-use Rattle.gl_calculus.specs.Grid.{Addr, AreInOrder}
-use Rattle.gl_edits.specs.Replicas.{register_at, with_edit}
+use Rattle.gl_calculus.specs.Computation.Lists.{Member, AreDistinct}
+use Rattle.gl_calculus.specs.Grid.Grid.{Addr, AreInOrder}
+use Rattle.gl_calculus.specs.Edits.Replicas.{register_at, with_edit}
 use Rattle.gl_merge.specs.Edit.{EditValue, edit_tree}
 use Rattle.gl_merge.specs.Index.{Index, places, slots, listed, trees, registers, StandsAt, IsIndex}
 use Rattle.gl_merge.specs.Spot.{IsGapAt}

@@ -2,8 +2,8 @@
 use Rattle.std.proofs.Common.{◌≡◌, ◌↔◌, false, IsTrue, ap, arith}
 use Rattle.std.proofs.lemmas.Grind.{common_steps}
 use Rattle.std.specs.Rc.{rc_value}
-use Rattle.gl_calculus.specs.Formula as F
-use Rattle.gl_edits.specs.Replicas.{Stamp, is_earlier}
+use Rattle.gl_calculus.specs.Formulas.Formula as F
+use Rattle.gl_calculus.specs.Edits.Replicas.{Stamp, is_earlier}
 use Rattle.gl_ast.specs.Equal.{formula_equal}
 use Rattle.gl_ast.specs.View.{formula_tree}
 use Rattle.gl_value.proofs.Equal.{scalar_equal}

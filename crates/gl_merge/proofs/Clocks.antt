@@ -3,10 +3,10 @@ use Rattle.std.proofs.Common.{◌≡◌, ◌⊎◌, inl, inr, ℕ, ◌+◌, ◌-
 use Rattle.std.specs.List.{AllByRecursion}
 use Rattle.std.proofs.lemmas.Bool.Decides.{nat_tests}
 use Rattle.std.proofs.lemmas.Grind.{common_steps}
-use Rattle.gl_calculus.specs.Grid.{Addr, same_addr}
-use Rattle.gl_edits.specs.Limits.{max_time, max_registers}
-use Rattle.gl_edits.specs.Replicas as R
-use Rattle.gl_edits.specs.Replicas.{Stamp, stamp, is_stamp, is_earlier, register_at, IsOlder}
+use Rattle.gl_calculus.specs.Grid.Grid.{Addr, same_addr}
+use Rattle.gl_calculus.specs.Edits.Limits.{max_time, max_registers}
+use Rattle.gl_calculus.specs.Edits.Replicas as R
+use Rattle.gl_calculus.specs.Edits.Replicas.{Stamp, stamp, is_stamp, is_earlier, register_at, IsOlder}
 use Rattle.gl_merge.specs.Edit.{EditValue}
 use Rattle.gl_merge.specs.Index.{Index, trees, listed, registers, StandsAt}
 use Rattle.gl_merge.proofs.Listed.{listed_all}

@@ -3,8 +3,8 @@ use Rattle.std.proofs.Common.{◌≡◌, ◌∙◌, ℕ, zero, suc, List, [], �
 use Rattle.std.proofs.lemmas.List.{length-map}
 use Rattle.std.specs.List.{AllByRecursion}
 use Rattle.std.proofs.lemmas.Option.{slice_get-map}
-use Rattle.gl_calculus.specs.Grid.{Addr}
-use Rattle.gl_edits.specs.Replicas.{register_at}
+use Rattle.gl_calculus.specs.Grid.Grid.{Addr}
+use Rattle.gl_calculus.specs.Edits.Replicas.{register_at}
 use Rattle.gl_merge.specs.Edit.{EditValue, edit_tree}
 use Rattle.gl_merge.specs.Index.{Index, places, and_edit, listed, trees, registers, StandsAt, IsIndex}
 use Rattle.gl_merge.specs.Spot.{IsFoundAt, IsGapAt}

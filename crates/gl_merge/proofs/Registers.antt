@@ -1,8 +1,8 @@
 -- Registers with one edit more, by the place of its address.
 use Rattle.std.proofs.Common.{◌≡◌, ◌∙◌, ℕ, zero, suc, Bool, true, false, cond, List, [], ◌∷◌, ◌++◌, map, set, take, drop, Some, None, slice_get, refl, sym, ap, subst, arith}
-use Rattle.gl_calculus.specs.Grid.{Addr, same_addr}
+use Rattle.gl_calculus.specs.Grid.Grid.{Addr, same_addr}
 use Rattle.gl_calculus.proofs.Tests.{addr_same}
-use Rattle.gl_edits.specs.Replicas.{Edit, is_earlier, register_at, with_edit}
+use Rattle.gl_calculus.specs.Edits.Replicas.{Edit, is_earlier, register_at, with_edit}
 use Rattle.gl_merge.specs.Spot.{IsFoundAt, IsGapAt}
 use Rattle.gl_merge.proofs.Spots.{behind_apart, behind_not, ahead_apart, found_tail, gap_tail}
 

@@ -4,9 +4,9 @@ use Rattle.std.specs.List.{AllByRecursion}
 use Rattle.std.proofs.lemmas.Bool.{cases_eq}
 use Rattle.std.proofs.lemmas.List.{length-set, map-set}
 use Rattle.std.proofs.lemmas.Option.{slice_get-map}
-use Rattle.gl_query.specs.Lists.{Member, AreDistinct}
-use Rattle.gl_calculus.specs.Grid.{Addr}
-use Rattle.gl_edits.specs.Replicas.{is_earlier, register_at, with_edit}
+use Rattle.gl_calculus.specs.Computation.Lists.{Member, AreDistinct}
+use Rattle.gl_calculus.specs.Grid.Grid.{Addr}
+use Rattle.gl_calculus.specs.Edits.Replicas.{is_earlier, register_at, with_edit}
 use Rattle.gl_merge.specs.Edit.{EditValue, edit_tree}
 use Rattle.gl_merge.specs.Index.{Index, places, slots, and_edit, listed, trees, registers, StandsAt, IsIndex}
 use Rattle.gl_merge.specs.Spot.{IsFoundAt}

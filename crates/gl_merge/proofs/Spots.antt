@@ -2,7 +2,7 @@
 use Rattle.std.proofs.Common.{◌≡◌, ◌∙◌, ◌⊎◌, inl, inr, ℕ, ◌+◌, ◌<◌, ◌≤◌, zero, suc, false, List, [], ◌∷◌, length, get_or, sym, ap, subst, arith, IsTrue}
 use Rattle.std.proofs.lemmas.List.{length-map}
 use Rattle.std.proofs.lemmas.Grind.{common_steps}
-use Rattle.gl_calculus.specs.Grid.{Addr, same_addr, is_before, AreInOrder}
+use Rattle.gl_calculus.specs.Grid.Grid.{Addr, same_addr, is_before, AreInOrder}
 use Rattle.gl_merge.specs.Index.{Index, places}
 use Rattle.gl_merge.specs.Spot.{place_at, AreBefore, AreAfter, IsFoundAt, IsGapAt}
 

@@ -1,9 +1,9 @@
 -- The plain edit that an edit of the code stands for.
 use Rattle.std.specs.Prelude.{Option, option_map, option_copied, IfSome}
 use Rattle.std.specs.Borrow.{Bor}
-use Rattle.gl_calculus.specs.Grid.{Addr}
-use Rattle.gl_language.specs.Content.{IsProperContent}
-use Rattle.gl_edits.specs.Replicas as R
+use Rattle.gl_calculus.specs.Grid.Grid.{Addr}
+use Rattle.gl_language.specs.Reading.Content.{IsProperContent}
+use Rattle.gl_calculus.specs.Edits.Replicas as R
 use Rattle.gl_cells.specs.Content.{content_tree}
 use Rattle.gl_cells.specs.declared.content.Content.{Content}
 

@@ -1,9 +1,9 @@
 -- Edits in the order of their taking, with an index in the order of their addresses.
 use Rattle.std.specs.Prelude.{◌≡◌, ℕ, List, [], ◌∷◌, map, length, Option, Some, None, slice_get}
 use Rattle.std.specs.List.{AllByRecursion}
-use Rattle.gl_query.specs.Lists.{AreDistinct}
-use Rattle.gl_calculus.specs.Grid.{Addr, AreInOrder}
-use Rattle.gl_edits.specs.Replicas as R
+use Rattle.gl_calculus.specs.Computation.Lists.{AreDistinct}
+use Rattle.gl_calculus.specs.Grid.Grid.{Addr, AreInOrder}
+use Rattle.gl_calculus.specs.Edits.Replicas as R
 use Rattle.gl_merge.specs.Edit.{EditValue, edit_tree}
 
 -- addresses, each with the slot of its edit

@@ -2,7 +2,7 @@
 use Rattle.std.specs.Prelude.{◌≡◌, Option, option_map}
 use Rattle.gl_cells.specs.Content.{content_tree}
 use Rattle.gl_cells.specs.declared.content.Content.{Content}
-use Rattle.gl_edits.specs.Replicas as R
+use Rattle.gl_calculus.specs.Edits.Replicas as R
 use Rattle.gl_merge.specs.declared.judging.Judged.{Judged}
 use Rattle.gl_merge.specs.declared.judging.Judged.TheVariants.{Wins, Loses, Same, Conflict}
 

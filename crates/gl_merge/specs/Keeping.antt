@@ -1,9 +1,9 @@
 -- What the registers are with one edit more.
 use Rattle.std.specs.Prelude.{◌≡◌, ◌+◌, ◌<◌, ◌≤◌, ◌⊎◌, ℕ, List, Some, slice_get, slice_set, IsSome, is_some, if◌then◌else◌, Vec, vec_len, vec_capacity}
 use Rattle.std.specs.List.{AllByRecursion}
-use Rattle.gl_calculus.specs.Grid.{Addr}
-use Rattle.gl_edits.specs.Limits.{max_registers}
-use Rattle.gl_edits.specs.Replicas.{is_earlier, with_edit}
+use Rattle.gl_calculus.specs.Grid.Grid.{Addr}
+use Rattle.gl_calculus.specs.Edits.Limits.{max_registers}
+use Rattle.gl_calculus.specs.Edits.Replicas.{is_earlier, with_edit}
 use Rattle.gl_merge.specs.Edit.{EditValue, edit_tree}
 use Rattle.gl_merge.specs.Index.{IsIndex, register_in, registers}
 

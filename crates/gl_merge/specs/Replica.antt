@@ -1,10 +1,10 @@
 -- The plain replica that a replica of the code stands for.
 use Rattle.std.specs.Prelude.{ℕ, ◌+◌, ◌-◌, ◌<◌, ◌≤◌, min, List, [], ◌∷◌, ◌++◌, map, length, Option, is_some, if◌then◌else◌, Result, Ok, Err, Vec, vec_len, vec_capacity}
 use Rattle.std.specs.List.{AllByRecursion}
-use Rattle.gl_calculus.specs.Grid.{Addr, AreInOrder}
-use Rattle.gl_edits.specs.Limits.{max_time, max_site, max_registers}
-use Rattle.gl_edits.specs.Joins.{HasTaken}
-use Rattle.gl_edits.specs.Replicas as R
+use Rattle.gl_calculus.specs.Grid.Grid.{Addr, AreInOrder}
+use Rattle.gl_calculus.specs.Edits.Limits.{max_time, max_site, max_registers}
+use Rattle.gl_calculus.specs.Edits.Joins.{HasTaken}
+use Rattle.gl_calculus.specs.Edits.Replicas as R
 use Rattle.gl_merge.specs.Edit.{EditValue}
 use Rattle.gl_merge.specs.Index.{Index, IsIndex, listed, trees}
 use Rattle.gl_merge.specs.declared.fault.RoomFault.{RoomFault}

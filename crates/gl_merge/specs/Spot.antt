@@ -1,6 +1,6 @@
 -- Where an address stands among addresses in their order.
 use Rattle.std.specs.Prelude.{◌≡◌, ℕ, ◌<◌, ◌≤◌, IsTrue, List, length, slice_index_or}
-use Rattle.gl_calculus.specs.Grid.{Addr, addr, is_before}
+use Rattle.gl_calculus.specs.Grid.Grid.{Addr, addr, is_before}
 use Rattle.gl_merge.specs.declared.index.Spot.{Spot}
 use Rattle.gl_merge.specs.declared.index.Spot.TheVariants.{Found, Gap}
 

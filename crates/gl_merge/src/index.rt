@@ -1,5 +1,5 @@
 //! The place of an address in an index.
-ghost use Rattle.gl_calculus.specs.Grid.{AreInOrder};
+ghost use Rattle.gl_calculus.specs.Grid.Grid.{AreInOrder};
 ghost use Rattle.gl_merge.specs.{Index.places, Spot.IsSpot};
 
 use gl_plane::Addr;

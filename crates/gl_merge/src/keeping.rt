@@ -2,7 +2,8 @@
 ghost use Rattle.std.specs.Prelude.{◌≡◌, ◌+◌, ◌<◌, ◌≤◌, ◌∷◌, [], ◌++◌, slice_get, vec_len};
 ghost use Rattle.std.specs.Prelude.{vec_capacity};
 ghost use Rattle.std.specs.{List.insert, Option.option_copied};
-ghost use Rattle.gl_edits.specs.{Limits.max_registers, Replicas.missing};
+ghost use Rattle.gl_calculus.specs.Edits.Limits.{max_registers};
+ghost use Rattle.gl_calculus.specs.Edits.Replicas.{missing};
 ghost use Rattle.gl_merge.specs.Index.{IsIndex, listed, register_in, registers};
 ghost use Rattle.gl_merge.specs.Keeping.{CanKeep, HasRoom, Keeps, Replaces};
 ghost use Rattle.gl_merge.specs.Edit.{told};

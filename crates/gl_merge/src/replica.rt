@@ -1,7 +1,7 @@
 //! Replicas.
 ghost use Rattle.std.specs.Prelude.{◌≡◌, ◌≤◌, ◌⊎◌, IsSome, IfSome, length, slice_get};
-ghost use Rattle.gl_edits.specs.Replicas.{IsTakeable, new_replica, next_stamp, taking};
-ghost use Rattle.gl_edits.specs.Limits.{max_registers};
+ghost use Rattle.gl_calculus.specs.Edits.Replicas.{IsTakeable, new_replica, next_stamp, taking};
+ghost use Rattle.gl_calculus.specs.Edits.Limits.{max_registers};
 ghost use Rattle.gl_merge.specs.Replica.{registers_of, replica_tree, register_of, AreOrdered};
 ghost use Rattle.gl_merge.specs.Replica.{IsLatest, Joins, Makes, spare_after};
 ghost use Rattle.gl_merge.specs.{Edit.edit_tree, Edit.told, Judging.IsFor};

@@ -1,6 +1,6 @@
 //! Stamps.
 ghost use Rattle.std.specs.Prelude.{◌≡◌, IsTrue, Some, None, if◌then◌else◌};
-ghost use Rattle.gl_edits.specs.Replicas.{is_earlier, is_stamp, stamp};
+ghost use Rattle.gl_calculus.specs.Edits.Replicas.{is_earlier, is_stamp, stamp};
 
 use crate::MAX_TIME;
 use std::marker::Model;
@@ -14,7 +14,7 @@ pub struct Stamp {
 
 impl Model for Stamp {
     ghost use Rattle.std.specs.Prelude.{IsTrue};
-    ghost use Rattle.gl_edits.specs.Replicas.{Stamp as Plain, is_stamp};
+    ghost use Rattle.gl_calculus.specs.Edits.Replicas.{Stamp as Plain, is_stamp};
 
     ghost Value = { Plain };
 

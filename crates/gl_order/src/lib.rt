@@ -2,7 +2,8 @@
 #![tactic(auto)]
 
 ghost use Rattle.std.specs.Prelude.{◌≡◌, ◌<◌, ◌≤◌};
-ghost use Rattle.gl_order.specs.Rule.{PicksBelow, rule_of, place};
+ghost use Rattle.gl_calculus.specs.Steps.Rule.{PicksBelow};
+ghost use Rattle.gl_order.specs.Rule.{rule_of, place};
 
 /// A pick rule: a closure that is given a kind of rule from 0 to 2, the turn, and how many there
 /// are to pick from.

@@ -1,7 +1,7 @@
 -- A whole list of tokens.
 use Rattle.std.proofs.Common.{◌≡◌, ◌<◌, List, [], ◌∷◌, length, subst, sym, refl, arith}
-use Rattle.gl_language.specs.Text.{Bytes}
-use Rattle.gl_language.specs.Grammar.{Tokens, Raw, IsExpr}
+use Rattle.gl_language.specs.Texts.Text.{Bytes}
+use Rattle.gl_language.specs.Reading.Grammar.{Tokens, Raw, IsExpr}
 use Rattle.gl_lex.specs.declared.Token.{Token}
 use Rattle.gl_lex.specs.View.{tokens_in}
 use Rattle.gl_parse.specs.Reading.{Only, Never}

@@ -1,12 +1,12 @@
 -- What the reader answers, and why.
 use Rattle.std.proofs.Common.{◌≡◌, ℕ, ◌<◌, ◌≤◌, true, false, List, [], length, ap, sym, subst, ◌∙◌}
 use Rattle.std.specs.Prelude.{Some, None, Result, Ok, Err, if◌then◌else◌}
-use Rattle.gl_calculus.specs.Limits.{max_formula}
-use Rattle.gl_calculus.specs.Formula as F
-use Rattle.gl_language.specs.Text.{Bytes}
-use Rattle.gl_language.specs.Token.{Lexes, LexFault, IsLexFault}
-use Rattle.gl_language.specs.Grammar.{Tokens, Raw, IsExpr, Parses, IsParseFault, ParseFault, form_fault, some_form, is_bad_range, has_bad_name, is_bad_call, is_deep, tree}
-use Rattle.gl_language.specs.Grammar as G
+use Rattle.gl_calculus.specs.Grid.Limits.{max_formula}
+use Rattle.gl_calculus.specs.Formulas.Formula as F
+use Rattle.gl_language.specs.Texts.Text.{Bytes}
+use Rattle.gl_language.specs.Reading.Token.{Lexes, LexFault, IsLexFault}
+use Rattle.gl_language.specs.Reading.Grammar.{Tokens, Raw, IsExpr, Parses, IsParseFault, ParseFault, form_fault, some_form, is_bad_range, has_bad_name, is_bad_call, is_deep, tree}
+use Rattle.gl_language.specs.Reading.Grammar as G
 use Rattle.gl_ast.specs.declared.Formula.{Formula}
 use Rattle.gl_ast.specs.View.{formula_tree}
 use Rattle.gl_lex.specs.declared.Token.{Token}

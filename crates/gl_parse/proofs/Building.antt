@@ -10,12 +10,12 @@ use Rattle.std.specs.declared.alloc.Global.{Global}
 use Rattle.std.specs.declared.boxed.Box.{Box}
 use Rattle.std.specs.declared.vec.Vec.{Vec}
 use Rattle.std.specs.declared.rc.RcStr.{RcStr}
-use Rattle.gl_calculus.specs.Grid.{Addr, range}
-use Rattle.gl_calculus.specs.Formula as F
-use Rattle.gl_language.specs.Text.{Bytes}
-use Rattle.gl_language.specs.Token.{IsRow, is_lower}
-use Rattle.gl_language.specs.Grammar.{tree, trees, operand_trees, let_or_call, call_of, function_of, is_let}
-use Rattle.gl_language.specs.Grammar as G
+use Rattle.gl_calculus.specs.Grid.Grid.{Addr, range}
+use Rattle.gl_calculus.specs.Formulas.Formula as F
+use Rattle.gl_language.specs.Texts.Text.{Bytes}
+use Rattle.gl_language.specs.Reading.Token.{IsRow, is_lower}
+use Rattle.gl_language.specs.Reading.Grammar.{tree, trees, operand_trees, let_or_call, call_of, function_of, is_let}
+use Rattle.gl_language.specs.Reading.Grammar as G
 use Rattle.gl_lex.specs.View.{number}
 use Rattle.gl_plane.specs.declared.NoMemory.{NoMemory}
 use Rattle.gl_ast.specs.declared.Level.{Level}

@@ -1,8 +1,8 @@
 -- What a reader answers behind another one's answer.
 use Rattle.std.proofs.Common.{◌≡◌, ℕ, List, ◌∷◌, ap, ◌∙◌}
 use Rattle.std.specs.Prelude.{Result, Ok, Err, IsErrAnd}
-use Rattle.gl_language.specs.Grammar.{Tokens}
-use Rattle.gl_language.specs.Text.{Bytes}
+use Rattle.gl_language.specs.Reading.Grammar.{Tokens}
+use Rattle.gl_language.specs.Texts.Text.{Bytes}
 use Rattle.gl_lex.specs.declared.Kind.{Kind}
 use Rattle.gl_lex.specs.declared.Token.{Token}
 use Rattle.gl_lex.specs.View.{kind_token, span, tokens_in}

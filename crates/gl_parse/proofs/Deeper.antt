@@ -1,7 +1,7 @@
 -- The end of the tokens.
 use Rattle.std.proofs.Common.{◌≡◌, ℕ, false, refl, List, [], ◌∷◌, length, arith}
-use Rattle.gl_language.specs.Text.{Bytes}
-use Rattle.gl_language.specs.Grammar.{is_deep_from}
+use Rattle.gl_language.specs.Texts.Text.{Bytes}
+use Rattle.gl_language.specs.Reading.Grammar.{is_deep_from}
 use Rattle.gl_lex.specs.declared.Token.{Token}
 use Rattle.gl_lex.specs.View.{tokens_in}
 

@@ -1,11 +1,11 @@
 -- Where a form ends.
 use Rattle.std.proofs.Common.{◌≡◌, ℕ, ◌<◌, ◌≤◌, ◌∷◌, ap, refl, ◌∙◌, arith}
 use Rattle.std.specs.Prelude.{Option, Some, None}
-use Rattle.gl_calculus.specs.Formula.{Level, Op}
-use Rattle.gl_calculus.specs.Formula as F
-use Rattle.gl_language.specs.Token.{Sign, Signed}
-use Rattle.gl_language.specs.Token as T
-use Rattle.gl_language.specs.Grammar.{Tokens, RawOperands, comparison, operator, IsLinks, no_link, link}
+use Rattle.gl_calculus.specs.Formulas.Formula.{Level, Op}
+use Rattle.gl_calculus.specs.Formulas.Formula as F
+use Rattle.gl_language.specs.Reading.Token.{Sign, Signed}
+use Rattle.gl_language.specs.Reading.Token as T
+use Rattle.gl_language.specs.Reading.Grammar.{Tokens, RawOperands, comparison, operator, IsLinks, no_link, link}
 use Rattle.gl_parse.specs.Reading.{binds, Ends, chain_end, operand_end, Front, front_by, after_sign}
 
 pub later : (j k : ℕ) (ts : Tokens) → j ≤ k → Ends j ts → Ends k ts

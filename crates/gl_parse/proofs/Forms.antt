@@ -6,13 +6,13 @@ use Rattle.std.specs.declared.boxed.Box.{Box}
 use Rattle.std.specs.declared.vec.Vec.{Vec}
 use Rattle.std.specs.declared.rc.RcStr.{RcStr}
 use Rattle.std.specs.Rc.{rc_str_bytes}
-use Rattle.gl_calculus.specs.Grid.{Addr}
-use Rattle.gl_calculus.specs.Formula as F
-use Rattle.gl_language.specs.Text.{Bytes}
-use Rattle.gl_language.specs.Token as T
-use Rattle.gl_language.specs.Token.{Signed}
-use Rattle.gl_language.specs.Grammar.{Tokens, chained}
-use Rattle.gl_language.specs.Grammar as G
+use Rattle.gl_calculus.specs.Grid.Grid.{Addr}
+use Rattle.gl_calculus.specs.Formulas.Formula as F
+use Rattle.gl_language.specs.Texts.Text.{Bytes}
+use Rattle.gl_language.specs.Reading.Token as T
+use Rattle.gl_language.specs.Reading.Token.{Signed}
+use Rattle.gl_language.specs.Reading.Grammar.{Tokens, chained}
+use Rattle.gl_language.specs.Reading.Grammar as G
 use Rattle.gl_lex.specs.declared.Sign.{Sign}
 use Rattle.gl_lex.specs.declared.Sign.TheVariants as s
 use Rattle.gl_lex.specs.View.{number, sign_of}

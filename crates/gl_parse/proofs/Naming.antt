@@ -6,9 +6,9 @@ use Rattle.std.proofs.lemmas.List.{at_drop_more, at_drop_all, length-map}
 use Rattle.std.specs.declared.alloc.Global.{Global}
 use Rattle.std.specs.declared.boxed.Box.{Box}
 use Rattle.std.specs.declared.vec.Vec.{Vec}
-use Rattle.gl_language.specs.Text.{Bytes}
-use Rattle.gl_language.specs.Grammar.{Raws, has_bad_name, bad_name_in, bad_name_in_operands, is_let, function_of, is_variable}
-use Rattle.gl_language.specs.Grammar as G
+use Rattle.gl_language.specs.Texts.Text.{Bytes}
+use Rattle.gl_language.specs.Reading.Grammar.{Raws, has_bad_name, bad_name_in, bad_name_in_operands, is_let, function_of, is_variable}
+use Rattle.gl_language.specs.Reading.Grammar as G
 use Rattle.gl_plane.specs.declared.NoMemory.{NoMemory}
 use Rattle.gl_ast.specs.declared.Level.{Level}
 use Rattle.gl_ast.specs.declared.Op.{Op}

@@ -3,9 +3,9 @@ use Rattle.std.proofs.Common.{◌≡◌, Bool, false, List, ap, sym, subst, ◌�
 use Rattle.std.specs.declared.alloc.Global.{Global}
 use Rattle.std.specs.declared.boxed.Box.{Box}
 use Rattle.std.specs.declared.vec.Vec.{Vec}
-use Rattle.gl_calculus.specs.Grid.{Addr}
-use Rattle.gl_language.specs.Text.{Bytes}
-use Rattle.gl_language.specs.Grammar as G
+use Rattle.gl_calculus.specs.Grid.Grid.{Addr}
+use Rattle.gl_language.specs.Texts.Text.{Bytes}
+use Rattle.gl_language.specs.Reading.Grammar as G
 use Rattle.gl_ast.specs.declared.Level.{Level}
 use Rattle.gl_ast.specs.declared.Op.{Op}
 use Rattle.gl_parse.specs.declared.raw.Span.{Span}

@@ -1,14 +1,14 @@
 -- What each rule of the grammar says of the one reading.
 use Rattle.std.proofs.Common.{◌≡◌, ℕ, List, [], ◌∷◌, ◌++◌, ap, sym, subst, refl, ◌∙◌, arith, Bool, lit<}
 use Rattle.std.specs.Prelude.{Option, Some}
-use Rattle.gl_calculus.specs.Grid.{Addr}
-use Rattle.gl_calculus.specs.Formula.{Level, Op}
-use Rattle.gl_calculus.specs.Formula as F
-use Rattle.gl_language.specs.Text.{Bytes}
-use Rattle.gl_language.specs.Token.{Sign, Integer, Quoted, Address, Truth, Word, Variable, Signed}
-use Rattle.gl_language.specs.Token as T
-use Rattle.gl_language.specs.Grammar as G
-use Rattle.gl_language.specs.Grammar.{Tokens, Raw, RawOperands, no_operand, operand_and, Raws, no_raw, raw_and, comparison, operator, chained, IsExpr, alone, compare, IsChain, chain, IsLinks, no_link, link, IsOperand, sum, prod, unary, IsUnary, neg, atom, IsAtom, number, address, spill, corners, parens, text, truth, variable, apply, IsArguments, no_argument, argument, IsMore, close, comma}
+use Rattle.gl_calculus.specs.Grid.Grid.{Addr}
+use Rattle.gl_calculus.specs.Formulas.Formula.{Level, Op}
+use Rattle.gl_calculus.specs.Formulas.Formula as F
+use Rattle.gl_language.specs.Texts.Text.{Bytes}
+use Rattle.gl_language.specs.Reading.Token.{Sign, Integer, Quoted, Address, Truth, Word, Variable, Signed}
+use Rattle.gl_language.specs.Reading.Token as T
+use Rattle.gl_language.specs.Reading.Grammar as G
+use Rattle.gl_language.specs.Reading.Grammar.{Tokens, Raw, RawOperands, no_operand, operand_and, Raws, no_raw, raw_and, comparison, operator, chained, IsExpr, alone, compare, IsChain, chain, IsLinks, no_link, link, IsOperand, sum, prod, unary, IsUnary, neg, atom, IsAtom, number, address, spill, corners, parens, text, truth, variable, apply, IsArguments, no_argument, argument, IsMore, close, comma}
 use Rattle.gl_parse.specs.Raws.{onto, links, before, raws_of}
 use Rattle.gl_parse.specs.Reading.{Ends, chain_end, operand_end, Front, after_sign, Form, Only, Never, SoFar, ArgumentsSoFar}
 use Rattle.gl_parse.proofs.Ends.{later, compares, operates, links_end, at_sign, has_sign}

@@ -2,14 +2,14 @@
 use Rattle.std.proofs.Common.{◌≡◌, ℕ, ◌*◌, Bool, true, false, IsTrue, refl}
 use Rattle.std.specs.Prelude.{◌&&◌, ◌||◌, not, nat_le, nat_lt}
 use Rattle.std.specs.List.{AllByRecursion}
-use Rattle.gl_calculus.specs.Limits.{max_cells}
-use Rattle.gl_calculus.specs.Grid.{Addr, range, extents}
-use Rattle.gl_calculus.specs.Formula.{Level}
-use Rattle.gl_language.specs.Text.{Bytes}
-use Rattle.gl_language.specs.Token.{IsToken, Reads, no_more, space, token}
-use Rattle.gl_language.specs.Token as T
-use Rattle.gl_language.specs.Grammar.{Tokens, Raw, RawOperands, no_operand, operand_and, Raws, no_raw, raw_and, chained, some_form, some_operand, some_argument, is_bad_range, IsExpr, IsChain, IsLinks, IsOperand, IsUnary, IsAtom, IsArguments, IsMore}
-use Rattle.gl_language.specs.Grammar as G
+use Rattle.gl_calculus.specs.Grid.Limits.{max_cells}
+use Rattle.gl_calculus.specs.Grid.Grid.{Addr, range, extents}
+use Rattle.gl_calculus.specs.Formulas.Formula.{Level}
+use Rattle.gl_language.specs.Texts.Text.{Bytes}
+use Rattle.gl_language.specs.Reading.Token.{IsToken, Reads, no_more, space, token}
+use Rattle.gl_language.specs.Reading.Token as T
+use Rattle.gl_language.specs.Reading.Grammar.{Tokens, Raw, RawOperands, no_operand, operand_and, Raws, no_raw, raw_and, chained, some_form, some_operand, some_argument, is_bad_range, IsExpr, IsChain, IsLinks, IsOperand, IsUnary, IsAtom, IsArguments, IsMore}
+use Rattle.gl_language.specs.Reading.Grammar as G
 use Rattle.gl_parse.specs.Faults.{IsSpelled, AreSpelled, AreSpelledOperands, AnyCorners, InOrder}
 
 abbrev pub AreTokens : Tokens → Type 0

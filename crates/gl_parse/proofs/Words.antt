@@ -2,8 +2,8 @@
 use Rattle.std.proofs.Common.{◌≡◌, ℕ, ◌+◌, ◌<◌, ◌≤◌, false, Option, Some, None, List, drop, map, length, get_or, ap, sym, ◌∙◌}
 use Rattle.std.specs.Prelude.{find, bytes_eq, if◌then◌else◌}
 use Rattle.std.proofs.lemmas.List.{at_drop_more, at_drop_all}
-use Rattle.gl_calculus.specs.Formula as F
-use Rattle.gl_language.specs.Text.{Bytes, fun_text}
+use Rattle.gl_calculus.specs.Formulas.Formula as F
+use Rattle.gl_language.specs.Texts.Text.{Bytes, fun_text}
 use Rattle.gl_ast.specs.declared.Fun.{Fun}
 use Rattle.gl_ast.specs.View.{fun_tree}
 

@@ -1,12 +1,12 @@
 -- What is refused of a form, and what is known of one that was read.
 use Rattle.std.specs.Prelude.{◌≡◌, ◌^◌, ◌<◌, ◌≤◌, Bool, IsTrue, List, [], ◌∷◌, length, Option, Some, None, Result, Ok, Err, ⊤, if◌then◌else◌}
 use Rattle.std.specs.Str.{is_utf8}
-use Rattle.gl_calculus.specs.Limits.{max_text}
-use Rattle.gl_calculus.specs.Grid.{Addr, grid, covers}
-use Rattle.gl_language.specs.Text.{Bytes}
-use Rattle.gl_language.specs.Token.{IsRow, is_lower}
-use Rattle.gl_language.specs.Grammar.{RawOperands, no_operand, operand_and, Raws, no_raw, raw_and, is_bad_range, is_bad_call, is_let, form_fault, tree}
-use Rattle.gl_language.specs.Grammar as G
+use Rattle.gl_calculus.specs.Grid.Limits.{max_text}
+use Rattle.gl_calculus.specs.Grid.Grid.{Addr, grid, covers}
+use Rattle.gl_language.specs.Texts.Text.{Bytes}
+use Rattle.gl_language.specs.Reading.Token.{IsRow, is_lower}
+use Rattle.gl_language.specs.Reading.Grammar.{RawOperands, no_operand, operand_and, Raws, no_raw, raw_and, is_bad_range, is_bad_call, is_let, form_fault, tree}
+use Rattle.gl_language.specs.Reading.Grammar as G
 use Rattle.gl_plane.specs.Parts.{is_ordered}
 use Rattle.gl_ast.specs.declared.Formula.{Formula}
 use Rattle.gl_ast.specs.View.{formula_tree}

@@ -1,9 +1,9 @@
 -- What the reader answers for a text: its formula, or the first of its faults.
 use Rattle.std.specs.Prelude.{Result, Ok, Err, ⊤}
-use Rattle.gl_language.specs.Text.{Bytes}
-use Rattle.gl_language.specs.Token as T
-use Rattle.gl_language.specs.Grammar.{Parses, IsParseFault}
-use Rattle.gl_language.specs.Grammar as G
+use Rattle.gl_language.specs.Texts.Text.{Bytes}
+use Rattle.gl_language.specs.Reading.Token as T
+use Rattle.gl_language.specs.Reading.Grammar.{Parses, IsParseFault}
+use Rattle.gl_language.specs.Reading.Grammar as G
 use Rattle.gl_lex.specs.declared.fault.LexFault.TheVariants as lex
 use Rattle.gl_ast.specs.View.{formula_tree}
 use Rattle.gl_ast.specs.declared.Formula.{Formula}

@@ -1,10 +1,10 @@
 -- The forms of the language that those of the code stand for, over the text that they were read from.
 use Rattle.std.specs.Prelude.{List, [], ◌∷◌, map, slice_range}
 use Rattle.std.specs.Rc.{rc_str_bytes}
-use Rattle.gl_calculus.specs.Formula as F
-use Rattle.gl_language.specs.Text.{Bytes}
-use Rattle.gl_language.specs.Grammar.{RawOperands, no_operand, operand_and, Raws, no_raw, raw_and}
-use Rattle.gl_language.specs.Grammar as G
+use Rattle.gl_calculus.specs.Formulas.Formula as F
+use Rattle.gl_language.specs.Texts.Text.{Bytes}
+use Rattle.gl_language.specs.Reading.Grammar.{RawOperands, no_operand, operand_and, Raws, no_raw, raw_and}
+use Rattle.gl_language.specs.Reading.Grammar as G
 use Rattle.gl_lex.specs.View.{number}
 use Rattle.gl_ast.specs.declared.Op.{Op}
 use Rattle.gl_ast.specs.View.{level_tree, op_tree}

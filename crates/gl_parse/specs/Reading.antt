@@ -1,12 +1,12 @@
 -- What a call of the reader answers.
 use Rattle.std.specs.Prelude.{◌≡◌, ℕ, ◌<◌, List, [], ◌∷◌, Option, Some, None, Result, Ok, Err}
 use Rattle.std.specs.Borrow.{Bor}
-use Rattle.gl_calculus.specs.Formula.{Level, Op}
-use Rattle.gl_calculus.specs.Formula as F
-use Rattle.gl_language.specs.Token.{Sign, Signed}
-use Rattle.gl_language.specs.Token as T
-use Rattle.gl_language.specs.Grammar.{Tokens, Raw, RawOperands, Raws, chained, IsExpr, IsChain, IsLinks, IsArguments, IsMore}
-use Rattle.gl_language.specs.Text.{Bytes}
+use Rattle.gl_calculus.specs.Formulas.Formula.{Level, Op}
+use Rattle.gl_calculus.specs.Formulas.Formula as F
+use Rattle.gl_language.specs.Reading.Token.{Sign, Signed}
+use Rattle.gl_language.specs.Reading.Token as T
+use Rattle.gl_language.specs.Reading.Grammar.{Tokens, Raw, RawOperands, Raws, chained, IsExpr, IsChain, IsLinks, IsArguments, IsMore}
+use Rattle.gl_language.specs.Texts.Text.{Bytes}
 use Rattle.gl_lex.specs.declared.Token.{Token}
 use Rattle.gl_lex.specs.View.{tokens_in}
 use Rattle.gl_ast.specs.declared.Level.{Level as CodeLevel}

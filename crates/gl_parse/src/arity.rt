@@ -1,9 +1,9 @@
 //! The arguments that functions take.
 
 ghost use Rattle.std.specs.Prelude.{◌≡◌, Option, option_map};
-ghost use Rattle.gl_calculus.specs.Formula as F;
-ghost use Rattle.gl_language.specs.Text.{Bytes};
-ghost use Rattle.gl_language.specs.Grammar as G;
+ghost use Rattle.gl_calculus.specs.Formulas.Formula as F;
+ghost use Rattle.gl_language.specs.Texts.Text.{Bytes};
+ghost use Rattle.gl_language.specs.Reading.Grammar as G;
 ghost use Rattle.gl_ast.specs.View.{fun_tree};
 ghost use Rattle.gl_parse.specs.Raws.{raw_tree, plains};
 

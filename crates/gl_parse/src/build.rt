@@ -2,10 +2,10 @@
 
 ghost use Rattle.std.specs.Prelude.{◌≡◌, IfOk};
 ghost use Rattle.std.specs.Rc.{rc_str_bytes};
-ghost use Rattle.gl_calculus.specs.Grid.{range};
-ghost use Rattle.gl_calculus.specs.Formula as F;
-ghost use Rattle.gl_language.specs.Token.{IsRow, is_lower};
-ghost use Rattle.gl_language.specs.Grammar as G;
+ghost use Rattle.gl_calculus.specs.Grid.Grid.{range};
+ghost use Rattle.gl_calculus.specs.Formulas.Formula as F;
+ghost use Rattle.gl_language.specs.Reading.Token.{IsRow, is_lower};
+ghost use Rattle.gl_language.specs.Reading.Grammar as G;
 ghost use Rattle.gl_ast.specs.View.{formula_tree, argument_trees, operand_trees, fun_tree};
 ghost use Rattle.gl_parse.specs.Raws.{raw_tree, plains, pairs, links, raws_of};
 ghost use Rattle.gl_parse.specs.Faults.{IsSpelled, AreSpelled, AreSpelledOperands, InOrder};

@@ -1,7 +1,7 @@
 //! The depth of tokens.
 
 ghost use Rattle.std.specs.Prelude.{◌≡◌};
-ghost use Rattle.gl_language.specs.Grammar as spec;
+ghost use Rattle.gl_language.specs.Reading.Grammar as spec;
 ghost use Rattle.gl_lex.specs.View.{tokens_in};
 
 use gl_lex::{Kind, Sign, Token};

@@ -1,8 +1,8 @@
 //! The words that are called.
 
 ghost use Rattle.std.specs.Prelude.{◌≡◌, bytes_eq, option_map};
-ghost use Rattle.gl_language.specs.Text.{fun_text};
-ghost use Rattle.gl_language.specs.Grammar as G;
+ghost use Rattle.gl_language.specs.Texts.Text.{fun_text};
+ghost use Rattle.gl_language.specs.Reading.Grammar as G;
 ghost use Rattle.gl_ast.specs.View.{fun_tree};
 
 use gl_ast::Fun;

@@ -1,12 +1,12 @@
 //! The grammar, read from left to right. Each call of the reader decides whether a front of the tokens is its form.
 
 ghost use Rattle.std.specs.Prelude.{◌≡◌, ◌<◌, ◌≤◌, ◌∷◌, length, IfOk, MatchResult, ⊤};
-ghost use Rattle.gl_language.specs.Token.{Address, Word, Signed};
-ghost use Rattle.gl_language.specs.Grammar.{IsExpr, IsChain, IsOperand, IsUnary, IsAtom};
-ghost use Rattle.gl_language.specs.Grammar.{IsArguments};
-ghost use Rattle.gl_language.specs.Text.{Bytes};
-ghost use Rattle.gl_language.specs.Token as T;
-ghost use Rattle.gl_language.specs.Grammar as spec;
+ghost use Rattle.gl_language.specs.Reading.Token.{Address, Word, Signed};
+ghost use Rattle.gl_language.specs.Reading.Grammar.{IsExpr, IsChain, IsOperand, IsUnary, IsAtom};
+ghost use Rattle.gl_language.specs.Reading.Grammar.{IsArguments};
+ghost use Rattle.gl_language.specs.Texts.Text.{Bytes};
+ghost use Rattle.gl_language.specs.Reading.Token as T;
+ghost use Rattle.gl_language.specs.Reading.Grammar as spec;
 ghost use Rattle.gl_lex.specs.View.{tokens_in};
 ghost use Rattle.gl_ast.specs.View.{level_tree};
 ghost use Rattle.gl_parse.specs.Raws.{raw_tree, plains, pairs, links, raws_of, letters};

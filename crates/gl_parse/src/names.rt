@@ -3,8 +3,8 @@
 ghost use Rattle.std.specs.Prelude.{◌≡◌, IfOk, MatchOption, is_some, true, false, length, ⊤};
 ghost use Rattle.std.specs.Prelude.{◌||◌, [], ◌∷◌, bytes_eq};
 ghost use Rattle.std.specs.List.{list_any};
-ghost use Rattle.gl_language.specs.Text.{Bytes};
-ghost use Rattle.gl_language.specs.Grammar as G;
+ghost use Rattle.gl_language.specs.Texts.Text.{Bytes};
+ghost use Rattle.gl_language.specs.Reading.Grammar as G;
 ghost use Rattle.gl_parse.specs.Raws.{raw_tree, plains, pairs, links, raws_of, letters};
 ghost use Rattle.gl_parse.specs.Faults as spec;
 

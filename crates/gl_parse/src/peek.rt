@@ -1,10 +1,10 @@
 //! What stands in front of some tokens.
 
 ghost use Rattle.std.specs.Prelude.{◌≡◌, ◌+◌, ◌∷◌, length, MatchOption, ⊤};
-ghost use Rattle.gl_calculus.specs.Grid.{Addr};
-ghost use Rattle.gl_language.specs.Grammar.{Tokens, comparison, operator};
-ghost use Rattle.gl_language.specs.Token.{Address, Signed};
-ghost use Rattle.gl_language.specs.Token as T;
+ghost use Rattle.gl_calculus.specs.Grid.Grid.{Addr};
+ghost use Rattle.gl_language.specs.Reading.Grammar.{Tokens, comparison, operator};
+ghost use Rattle.gl_language.specs.Reading.Token.{Address, Signed};
+ghost use Rattle.gl_language.specs.Reading.Token as T;
 ghost use Rattle.gl_lex.specs.View.{sign_of, tokens_in};
 ghost use Rattle.gl_ast.specs.View.{level_tree, op_tree};
 ghost use Rattle.gl_parse.specs.{Raws.letters, Reading.after_sign, Reading.Front};

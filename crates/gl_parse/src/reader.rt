@@ -1,8 +1,9 @@
 //! A text as a formula.
 
 ghost use Rattle.std.specs.Prelude.{◌≤◌, length};
-ghost use Rattle.gl_calculus.specs.Limits.{max_formula};
-ghost use Rattle.gl_language.specs.{Text.Bytes, Token.Lexes};
+ghost use Rattle.gl_calculus.specs.Grid.Limits.{max_formula};
+ghost use Rattle.gl_language.specs.Texts.Text.{Bytes};
+ghost use Rattle.gl_language.specs.Reading.Token.{Lexes};
 ghost use Rattle.gl_lex.specs.View.{tokens_in};
 ghost use Rattle.gl_lex.specs.View as lex;
 ghost use Rattle.gl_parse.specs.{Raws.raw_tree, Faults.Checked, Outcome.Answers, Outcome.IsRefused};

@@ -1,7 +1,7 @@
 //! The faults that a form shows by itself: a range that is refused, and a call with arguments that its function doesn't take.
 
 ghost use Rattle.std.specs.Prelude.{◌≡◌};
-ghost use Rattle.gl_language.specs.Grammar as G;
+ghost use Rattle.gl_language.specs.Reading.Grammar as G;
 ghost use Rattle.gl_parse.specs.Raws.{raw_tree, plains, pairs, links, raws_of};
 ghost use Rattle.gl_parse.specs.Faults as spec;
 

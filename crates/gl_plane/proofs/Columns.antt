@@ -2,8 +2,8 @@
 use Rattle.std.proofs.Common.{◌≡◌, ℕ, ◌+◌, ◌-◌, ◌/◌, ◌%◌, ◌<◌, ◌≤◌, ◌++◌, nat_le, Bool, true, false, cond, List, [], ◌∷◌, length, Option, Some, None, IfNone, refl, ap, arith, ◌∙◌}
 use Rattle.std.specs.Fmt.{decimal}
 use Rattle.std.proofs.lemmas.Fmt.{decimal_nonempty}
-use Rattle.gl_calculus.specs.Grid.{Addr}
-use Rattle.gl_calculus.specs.Notation.{address_text}
+use Rattle.gl_calculus.specs.Grid.Grid.{Addr}
+use Rattle.gl_calculus.specs.Grid.Notation.{address_text}
 use Rattle.gl_plane.specs.Parts.{IsAddr}
 use Rattle.gl_plane.proofs.Numbers.{first_is_digit}
 

@@ -1,8 +1,8 @@
 -- The first root that spills over an address.
 use Rattle.std.proofs.Common.{◌≡◌, ℕ, ◌+◌, Bool, true, false, cond, [], ◌∷◌, Some, None, refl, ◌∙◌, ap}
-use Rattle.gl_calculus.specs.Grid.{Addr, single}
-use Rattle.gl_calculus.specs.Value.{Entry, Oracle}
-use Rattle.gl_calculus.specs.Oracle.{spills_over, cover}
+use Rattle.gl_calculus.specs.Grid.Grid.{Addr, single}
+use Rattle.gl_calculus.specs.Values.Value.{Entry, Oracle}
+use Rattle.gl_calculus.specs.Evaluation.Oracle.{spills_over, cover}
 use Rattle.gl_plane.specs.Reach.{first_from, spills_into}
 use Rattle.gl_plane.specs.Entries.{cover_by}
 

@@ -1,7 +1,7 @@
 -- The digest of an oracle with one entry more, and of equal oracles.
 use Rattle.std.proofs.Common.{◌≡◌, ◌≢◌, ℕ, Bool, true, false, [], ◌∷◌, ◌++◌, ◌==◌, refl, ap, ◌∙◌, sym, arith}
-use Rattle.gl_calculus.specs.Value.{Entry, Oracle}
-use Rattle.gl_calculus.specs.Same.{same_oracle}
+use Rattle.gl_calculus.specs.Values.Value.{Entry, Oracle}
+use Rattle.gl_calculus.specs.Values.Same.{same_oracle}
 use Rattle.gl_plane.specs.Digest.{stirred, digest_from, digest_of}
 use Rattle.gl_plane.specs.Exact.{exact_oracle}
 

@@ -6,8 +6,8 @@ use Rattle.std.proofs.lemmas.Option.{slice_get-get_or}
 use Rattle.std.proofs.lemmas.List.{drop_more, at_drop_all}
 use Rattle.std.proofs.lemmas.List.Folds.{list_any-append}
 use Rattle.std.specs.List.{list_any}
-use Rattle.gl_query.proofs.Members.{any_member, member_any, either, left, right}
-use Rattle.gl_calculus.specs.Grid.{Addr, Range, addresses, covers}
+use Rattle.gl_calculus.proofs.Members.{any_member, member_any, either, left, right}
+use Rattle.gl_calculus.specs.Grid.Grid.{Addr, Range, addresses, covers}
 use Rattle.gl_calculus.proofs.Grants.{clash}
 use Rattle.gl_plane.specs.Changes.{is_covered, hull_covers, Within, IsHull, AreHulls, AreWider}
 use Rattle.gl_plane.proofs.Ranges.{not_true}

@@ -2,12 +2,12 @@
 use Rattle.std.specs.Prelude.{if◌then◌else◌}
 use Rattle.std.proofs.Common.{◌≡◌, ℕ, zero, suc, ◌+◌, List, [], ◌∷◌, ◌++◌, drop, slice_get, Bool, true, false, Option, Some, None, refl, sym, ap, ◌∙◌, arith, append_assoc}
 use Rattle.std.specs.List.{list_any, flat_map}
-use Rattle.gl_calculus.specs.Grid.{Addr, same_addr, Range, covers, single}
-use Rattle.gl_calculus.specs.Value.{Entry, Oracle}
-use Rattle.gl_calculus.specs.Same.{same_permit}
-use Rattle.gl_calculus.specs.Memory.{differs_at}
-use Rattle.gl_calculus.specs.Oracle.{IsInOrder, area_of, entry_at}
-use Rattle.gl_calculus.specs.Differences.{AreApart, spills, areas_apart, by_both, by_entry, by_new, differences}
+use Rattle.gl_calculus.specs.Grid.Grid.{Addr, same_addr, Range, covers, single}
+use Rattle.gl_calculus.specs.Values.Value.{Entry, Oracle}
+use Rattle.gl_calculus.specs.Values.Same.{same_permit}
+use Rattle.gl_calculus.specs.Calculation.Memory.{differs_at}
+use Rattle.gl_calculus.specs.Evaluation.Oracle.{IsInOrder, area_of, entry_at}
+use Rattle.gl_calculus.specs.Calculation.Differences.{AreApart, spills, areas_apart, by_both, by_entry, by_new, differences}
 use Rattle.gl_calculus.proofs.Tells.{tells}
 use Rattle.gl_plane.proofs.Search.{around, entry_here}
 use Rattle.std.proofs.lemmas.Option.{slice_get_within, get_or_from_slice_get}

@@ -3,10 +3,10 @@ use Rattle.std.proofs.Common.{◌≡◌, ℕ, zero, suc, ◌+◌, ◌-◌, ◌/�
 use Rattle.std.proofs.lemmas.Bool.Decides.{nat_tests}
 use Rattle.std.proofs.lemmas.Option.{slice_get-get_or}
 use Rattle.std.proofs.lemmas.List.{drop_more, at_drop_all}
-use Rattle.gl_calculus.specs.Grid.{Addr, addr, size, Range, is_before, lies_in, grid}
-use Rattle.gl_calculus.specs.Same.{is_permitted}
-use Rattle.gl_calculus.specs.Value.{Refused, Entry, Oracle}
-use Rattle.gl_calculus.specs.Oracle.{IsInOrder, area_of}
+use Rattle.gl_calculus.specs.Grid.Grid.{Addr, addr, size, Range, is_before, lies_in, grid}
+use Rattle.gl_calculus.specs.Values.Same.{is_permitted}
+use Rattle.gl_calculus.specs.Values.Value.{Refused, Entry, Oracle}
+use Rattle.gl_calculus.specs.Evaluation.Oracle.{IsInOrder, area_of}
 use Rattle.gl_plane.specs.Reach.{first_from, spills_into, lowest_row, last_column, AreReaches, AreBounds, IsPassed}
 
 -- ---- passing entries

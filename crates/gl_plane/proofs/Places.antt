@@ -5,7 +5,7 @@ use Rattle.std.proofs.Math.Nat.{mod-lt, div-lt_iff_lt-mul}
 use Rattle.std.proofs.lemmas.Bool.{leb-true}
 use Rattle.std.proofs.lemmas.Nat.{div-add-mod'}
 use Rattle.std.proofs.lemmas.List.FromFn.{length-map-range_with_len}
-use Rattle.gl_calculus.specs.Grid.{Addr, addr, Range, extents, addresses}
+use Rattle.gl_calculus.specs.Grid.Grid.{Addr, addr, Range, extents, addresses}
 use Rattle.gl_calculus.proofs.Tests.{both}
 use Rattle.gl_plane.specs.Addresses.{addresses_from}
 use Rattle.gl_plane.specs.Parts.{is_ordered}

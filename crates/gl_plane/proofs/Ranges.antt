@@ -4,8 +4,8 @@ use Rattle.std.specs.List.{list_any}
 use Rattle.std.proofs.lemmas.Bool.{cases_order}
 use Rattle.std.proofs.lemmas.List.{take_more}
 use Rattle.std.proofs.lemmas.List.Folds.{list_any-append}
-use Rattle.gl_query.proofs.Members.{any_member, member_any, either, left, right}
-use Rattle.gl_calculus.specs.Grid.{Addr, same_addr, Range, range, single, addresses, covers}
+use Rattle.gl_calculus.proofs.Members.{any_member, member_any, either, left, right}
+use Rattle.gl_calculus.specs.Grid.Grid.{Addr, same_addr, Range, range, single, addresses, covers}
 use Rattle.gl_calculus.proofs.Tests.{addr_exact, addr_same}
 use Rattle.gl_calculus.proofs.Grants.{clash}
 use Rattle.gl_calculus.proofs.Tells.{same_bools, within, covered}

@@ -1,7 +1,7 @@
 -- The reaches of entries with one more.
 use Rattle.std.proofs.Common.{◌≡◌, ℕ, zero, suc, ◌/◌, ◌≤◌, ◌+◌, ◌⊎◌, inl, inr, List, [], ◌∷◌, ◌++◌, length, Some, slice_get, slice_index, refl, ap, sym, subst, arith, rules}
 use Rattle.std.proofs.lemmas.Grind.{common_steps}
-use Rattle.gl_calculus.specs.Value.{Entry}
+use Rattle.gl_calculus.specs.Values.Value.{Entry}
 use Rattle.gl_plane.specs.Reach.{AreReaches, IsRaised}
 
 more_length : (es : List Entry) (x : Entry) → length (es ++ x ∷ []) ≡ length es + 1

@@ -1,7 +1,7 @@
 -- The addresses of a range from one of them on.
 use Rattle.std.specs.Prelude.{ℕ, ◌+◌, ◌-◌, Option, Some, None, List, [], ◌++◌, map, flat_map}
 use Rattle.std.specs.List.{range_with_len}
-use Rattle.gl_calculus.specs.Grid.{Addr, Range, addr, extents}
+use Rattle.gl_calculus.specs.Grid.Grid.{Addr, Range, addr, extents}
 
 -- so many addresses of a row, from a column on
 abbrev pub in_row : ℕ → ℕ → ℕ → List Addr

@@ -1,7 +1,7 @@
 -- What changed, as a list of ranges.
 use Rattle.std.specs.Prelude.{◌≡◌, ℕ, ◌+◌, ◌*◌, ◌/◌, ◌<◌, ◌≤◌, Bool, true, false, ◌||◌, List, length, Option, Some, None, slice_get}
 use Rattle.std.specs.List.{list_any}
-use Rattle.gl_calculus.specs.Grid.{Addr, Range, addresses, covers}
+use Rattle.gl_calculus.specs.Grid.Grid.{Addr, Range, addresses, covers}
 
 -- some range of the list covers the address
 abbrev pub is_covered : List Range → Addr → Bool

@@ -1,8 +1,8 @@
 -- A digest of an oracle's entries, from the first to the last.
 use Rattle.std.specs.Prelude.{ℕ, ◌+◌, ◌*◌, ◌%◌, ◌^◌, [], ◌∷◌, bit_xor}
 use Rattle.std.specs.Int.{w64, rotate_left}
-use Rattle.gl_calculus.specs.Grid.{Addr}
-use Rattle.gl_calculus.specs.Value.{Permit, Permitted, Refused, Entry, Oracle}
+use Rattle.gl_calculus.specs.Grid.Grid.{Addr}
+use Rattle.gl_calculus.specs.Values.Value.{Permit, Permitted, Refused, Entry, Oracle}
 
 -- the digest with one word more: the factor is odd, so other words give other digests
 abbrev pub mixed : ℕ → ℕ → ℕ

@@ -1,11 +1,11 @@
 -- The differences of two oracles, part by part.
 use Rattle.std.specs.Prelude.{◌≡◌, ℕ, ◌+◌, List, [], ◌∷◌, ◌++◌, drop, Option, Some, None, if◌then◌else◌}
 use Rattle.std.specs.List.{flat_map}
-use Rattle.gl_calculus.specs.Grid.{Range, single}
-use Rattle.gl_calculus.specs.Value.{Entry, Oracle}
-use Rattle.gl_calculus.specs.Same.{same_permit}
-use Rattle.gl_calculus.specs.Oracle.{entry_at}
-use Rattle.gl_calculus.specs.Differences.{minus, by_entry, by_new}
+use Rattle.gl_calculus.specs.Grid.Grid.{Range, single}
+use Rattle.gl_calculus.specs.Values.Value.{Entry, Oracle}
+use Rattle.gl_calculus.specs.Values.Same.{same_permit}
+use Rattle.gl_calculus.specs.Evaluation.Oracle.{entry_at}
+use Rattle.gl_calculus.specs.Calculation.Differences.{minus, by_entry, by_new}
 
 -- what these entries say that those of the oracle don't
 abbrev pub by_entries : Oracle → Oracle → List Range

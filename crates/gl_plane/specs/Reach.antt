@@ -1,9 +1,9 @@
 -- What entries meet, and how far down and right they reach.
 use Rattle.std.specs.Prelude.{◌≡◌, ℕ, ◌*◌, ◌/◌, ◌<◌, ◌≤◌, Bool, ◌&&◌, List, ◌+◌, length, Option, Some, None, [], ◌∷◌, slice_get, slice_index, if◌then◌else◌, drop}
-use Rattle.gl_calculus.specs.Grid.{Range, lies_in, meets, grid}
-use Rattle.gl_calculus.specs.Value.{Entry, Oracle}
-use Rattle.gl_calculus.specs.Same.{is_permitted}
-use Rattle.gl_calculus.specs.Oracle.{area_of}
+use Rattle.gl_calculus.specs.Grid.Grid.{Range, lies_in, meets, grid}
+use Rattle.gl_calculus.specs.Values.Value.{Entry, Oracle}
+use Rattle.gl_calculus.specs.Values.Same.{is_permitted}
+use Rattle.gl_calculus.specs.Evaluation.Oracle.{area_of}
 
 -- the entry is permitted, and its area exists and meets the range
 abbrev pub spills_into : Range → Entry → Bool

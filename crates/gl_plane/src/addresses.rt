@@ -1,7 +1,7 @@
 //! The addresses of a range, one after the other.
 ghost use Rattle.std.specs.Prelude.{◌≡◌, ◌∷◌, IfSome, IsTrue, Some};
 ghost use Rattle.std.specs.Option.{ForSome};
-ghost use Rattle.gl_calculus.specs.Grid.{addresses, covers};
+ghost use Rattle.gl_calculus.specs.Grid.Grid.{addresses, covers};
 ghost use Rattle.gl_plane.specs.Addresses.{addresses_from};
 
 use crate::{Addr, Range};

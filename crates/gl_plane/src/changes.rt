@@ -2,7 +2,7 @@
 ghost use Rattle.std.specs.Prelude.{◌≡◌, ◌++◌, ◌==◌, ◌||◌, ◌*◌, ◌^◌, ◌<◌, ◌≤◌, [], true, length};
 ghost use Rattle.std.specs.Prelude.{OnOk, OnErr, vec_len};
 ghost use Rattle.std.specs.List.{list_any};
-ghost use Rattle.gl_calculus.specs.Grid.{addresses, covers};
+ghost use Rattle.gl_calculus.specs.Grid.Grid.{addresses, covers};
 ghost use Rattle.gl_plane.specs.Changes.{is_covered, reaches, hull_covers, Within, AreHulls};
 ghost use Rattle.gl_plane.specs.Changes.{AreWider, IsWithin};
 
@@ -25,7 +25,7 @@ pub struct Changes {
 
 impl Model for Changes {
     ghost use Rattle.std.specs.Prelude.{List};
-    ghost use Rattle.gl_calculus.specs.Grid.{Range as Plain};
+    ghost use Rattle.gl_calculus.specs.Grid.Grid.{Range as Plain};
     ghost use Rattle.gl_plane.specs.Changes.{IsHull, AreHulls};
 
     ghost Value = { List Plain };

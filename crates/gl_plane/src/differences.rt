@@ -1,8 +1,10 @@
 //! Where two oracles differ, as ranges.
 ghost use Rattle.std.specs.Prelude.{◌≡◌, ◌++◌, [], ◌<◌, length, IfOk, OnOk};
-ghost use Rattle.gl_calculus.specs.Differences.{AreApart, minus, own_places, by_both, by_entry};
-ghost use Rattle.gl_calculus.specs.Differences.{by_new, differences};
-ghost use Rattle.gl_calculus.specs.{Memory.differs_at, Oracle.IsInOrder, Oracle.entry_at};
+ghost use Rattle.gl_calculus.specs.Calculation.Differences.{AreApart, minus, own_places, by_both};
+ghost use Rattle.gl_calculus.specs.Calculation.Differences.{by_entry};
+ghost use Rattle.gl_calculus.specs.Calculation.Differences.{by_new, differences};
+ghost use Rattle.gl_calculus.specs.Calculation.Memory.{differs_at};
+ghost use Rattle.gl_calculus.specs.Evaluation.Oracle.{IsInOrder, entry_at};
 ghost use Rattle.gl_plane.specs.Listed.{between, by_entries, by_news, root_apart, ListsEntry};
 ghost use Rattle.gl_plane.specs.Listed.{ListsNew};
 ghost use Rattle.gl_plane.specs.{Changes.AreWhere, Entries.spilt_area};

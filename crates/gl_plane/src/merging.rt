@@ -1,7 +1,7 @@
 //! Few ranges for many addresses.
 ghost use Rattle.std.specs.Prelude.{◌≡◌, map, IsTrue, IfOk, IfSome, OnOk};
 ghost use Rattle.std.specs.List.{list_any};
-ghost use Rattle.gl_calculus.specs.Grid.{range, same_addr, single};
+ghost use Rattle.gl_calculus.specs.Grid.Grid.{range, same_addr, single};
 ghost use Rattle.gl_plane.specs.Changes.{AreWhere, is_covered, beside, beside_two, IsBoth};
 ghost use Rattle.gl_plane.specs.Parts.{is_ordered};
 

@@ -1,7 +1,7 @@
 //! The entries that meet a range, by how far down and right each block of entries reaches.
 ghost use Rattle.std.specs.Prelude.{◌≡◌, ◌≤◌, ◌<◌, ◌⊎◌, [], drop, length, slice_index, IsTrue};
 ghost use Rattle.std.specs.Prelude.{IfOk, OnOk, OnErr, vec_len};
-ghost use Rattle.gl_calculus.specs.Oracle.{IsInOrder};
+ghost use Rattle.gl_calculus.specs.Evaluation.Oracle.{IsInOrder};
 ghost use Rattle.gl_plane.specs.Reach.{first_from, spills_into, lowest_row, last_column, AreBounds};
 ghost use Rattle.gl_plane.specs.Reach.{IsRaised, IsPassed};
 

@@ -1,8 +1,8 @@
 -- One round more, and the ways to end.
 use Rattle.std.proofs.Common.{◌≡◌, ◌≢◌, ◌↔◌, ℕ, suc, ◌+◌, Bool, [], Some, Err, ap, sym, ◌∙◌, subst, arith}
-use Rattle.gl_calculus.specs.Grid.{Addr, Range}
-use Rattle.gl_calculus.specs.Value.{Oracle}
-use Rattle.gl_calculus.specs.Oracle.{Sizes, grant, first_difference}
+use Rattle.gl_calculus.specs.Grid.Grid.{Addr, Range}
+use Rattle.gl_calculus.specs.Values.Value.{Oracle}
+use Rattle.gl_calculus.specs.Evaluation.Oracle.{Sizes, grant, first_difference}
 use Rattle.gl_rounds.specs.Rounds.{Calls, Reaches, first, later}
 use Rattle.gl_rounds.specs.Answers.{Settles, RunsOut, Goes, Once, Answers}
 use Rattle.gl_rounds.specs.declared.IterFault.{IterFault}

@@ -1,8 +1,8 @@
 -- What iteration answers.
 use Rattle.std.specs.Prelude.{◌≡◌, ℕ, suc, Bool, Result, Ok, Err, Some}
-use Rattle.gl_calculus.specs.Grid.{Addr, Range}
-use Rattle.gl_calculus.specs.Value.{Oracle}
-use Rattle.gl_calculus.specs.Oracle.{Sizes, grant, first_difference}
+use Rattle.gl_calculus.specs.Grid.Grid.{Addr, Range}
+use Rattle.gl_calculus.specs.Values.Value.{Oracle}
+use Rattle.gl_calculus.specs.Evaluation.Oracle.{Sizes, grant, first_difference}
 use Rattle.gl_rounds.specs.Rounds.{Calls, LastCall}
 use Rattle.gl_rounds.specs.declared.Settled.{Settled}
 use Rattle.gl_rounds.specs.declared.IterFault.{IterFault}

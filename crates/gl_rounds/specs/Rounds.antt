@@ -1,8 +1,8 @@
 -- Rounds: each oracle gives sizes, and their granted permits are the next oracle.
 use Rattle.std.specs.Prelude.{◌≢◌, ℕ, suc, Bool, [], Result, Ok}
-use Rattle.gl_calculus.specs.Grid.{Addr, Range}
-use Rattle.gl_calculus.specs.Value.{Oracle}
-use Rattle.gl_calculus.specs.Oracle.{Sizes, grant}
+use Rattle.gl_calculus.specs.Grid.Grid.{Addr, Range}
+use Rattle.gl_calculus.specs.Values.Value.{Oracle}
+use Rattle.gl_calculus.specs.Evaluation.Oracle.{Sizes, grant}
 
 -- what the call of one round does: the object and the count before it, the oracle, the answer, and the object and the count after it
 abbrev pub Calls : Type 0 → Type 0 → Type 0 → Type 1

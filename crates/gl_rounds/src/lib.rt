@@ -2,8 +2,9 @@
 #![tactic(auto)]
 
 ghost use Rattle.std.specs.Prelude.{◌≡◌, ◌≤◌, ◌↔◌, [], IfOk};
-ghost use Rattle.gl_calculus.specs.{Value.Oracle as Plain, Oracle.Sizes as Found};
-ghost use Rattle.gl_calculus.specs.{Oracle.ArePermits};
+ghost use Rattle.gl_calculus.specs.Values.Value.{Oracle as Plain};
+ghost use Rattle.gl_calculus.specs.Evaluation.Oracle.{Sizes as Found};
+ghost use Rattle.gl_calculus.specs.Evaluation.Oracle.{ArePermits};
 ghost use Rattle.gl_rounds.specs.Answers.{Answers, Once};
 
 use gl_grant::{Blocks, grant};
@@ -13,7 +14,8 @@ use std::alloc::Global;
 /// What evaluates the sheet, or a copy, once under an oracle.
 pub trait Round {
     ghost use Rattle.std.specs.Prelude.{◌≡◌, ◌↔◌, IfOk, IfErr, Result};
-    ghost use Rattle.gl_calculus.specs.{Value.Oracle as Plain, Oracle.Sizes as Found};
+    ghost use Rattle.gl_calculus.specs.Values.Value.{Oracle as Plain};
+    ghost use Rattle.gl_calculus.specs.Evaluation.Oracle.{Sizes as Found};
 
     /// Why a round has no sizes.
     type Fault;

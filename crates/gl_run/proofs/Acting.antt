@@ -1,18 +1,18 @@
 -- How an item that is answered leads from one state to the next.
 use Rattle.std.proofs.Common.{◌≡◌, ◌∙◌, ℕ, Bool, true, false, Option, None, Some, IfSome, Result, Ok, Err, IfOk, sym, subst, codes}
-use Rattle.gl_calculus.specs.Formula as F
-use Rattle.gl_language.specs.Text.{Bytes}
-use Rattle.gl_protocol.specs.Framing.{Item}
-use Rattle.gl_protocol.specs.Commands.{LineWord, TruncatedWord, error_line, ok_line}
-use Rattle.gl_protocol.specs.Script.{Script}
-use Rattle.gl_protocol.specs.Acts.{Acts}
-use Rattle.gl_protocol.specs.Output.{is_line}
-use Rattle.gl_csvin.specs.Import.{csv_records}
-use Rattle.gl_run.specs.Known.{Known}
+use Rattle.gl_calculus.specs.Formulas.Formula as F
+use Rattle.gl_language.specs.Texts.Text.{Bytes}
+use Rattle.gl_protocol.specs.Framing.Framing.{Item}
+use Rattle.gl_protocol.specs.Scripts.Commands.{LineWord, TruncatedWord, error_line, ok_line}
+use Rattle.gl_protocol.specs.Scripts.Script.{Script}
+use Rattle.gl_protocol.specs.Scripts.Acts.{Acts}
+use Rattle.gl_protocol.specs.Scripts.Output.{is_line}
+use Rattle.gl_protocol.specs.Run.Records.{csv_records}
+use Rattle.gl_protocol.specs.Run.Known.{Known}
 use Rattle.gl_run.specs.State.{fresh, begun, state_by}
 use Rattle.gl_run.specs.Act as A
 use Rattle.gl_run.specs.Act.{Act}
-use Rattle.gl_run.specs.Spends.{Spends}
+use Rattle.gl_protocol.specs.Run.Spends.{Spends}
 
 module _ (o : Option Item) (K : Known) (n : ℕ) where
   -- the first item is the version line

@@ -2,20 +2,20 @@
 use Rattle.std.proofs.Common.{◌≡◌, ◌∙◌, ℕ, [], true, Result, IfOk, Vec, Global, Option, Some, None, refl, sym, ap, subst}
 use Rattle.std.specs.Prelude.{codes}
 use Rattle.std.proofs.lemmas.Result.{IfOk-weaker}
-use Rattle.gl_calculus.specs.Grid.{Addr}
-use Rattle.gl_calculus.specs.Formula.{Version, Cells, content}
-use Rattle.gl_language.specs.Text.{Bytes}
-use Rattle.gl_protocol.specs.Framing.{Line}
-use Rattle.gl_protocol.specs.Header.{payload_len}
-use Rattle.gl_protocol.specs.Tables.{line}
-use Rattle.gl_protocol.specs.Commands as C
-use Rattle.gl_protocol.specs.Commands.{Read, Is, Not, ReadsLine, error_line, get_text, list_text}
-use Rattle.gl_protocol.specs.Script.{Script, change, is_change, merge}
-use Rattle.gl_forecast.specs.Forecast.{IsForecast}
-use Rattle.gl_protocol.specs.Acts as T
-use Rattle.gl_protocol.specs.Acts.{Does, Acts}
-use Rattle.gl_csvin.specs.Import.{csv_records}
-use Rattle.gl_edits.specs.Replicas.{Edit, Replica}
+use Rattle.gl_calculus.specs.Grid.Grid.{Addr}
+use Rattle.gl_calculus.specs.Formulas.Formula.{Version, Cells, content}
+use Rattle.gl_language.specs.Texts.Text.{Bytes}
+use Rattle.gl_protocol.specs.Framing.Framing.{Line}
+use Rattle.gl_protocol.specs.Framing.Header.{payload_len}
+use Rattle.gl_protocol.specs.Replies.Tables.{line}
+use Rattle.gl_protocol.specs.Scripts.Commands as C
+use Rattle.gl_protocol.specs.Scripts.Commands.{Read, Is, Not, ReadsLine, error_line, get_text, list_text}
+use Rattle.gl_protocol.specs.Scripts.Script.{Script, change, is_change, merge}
+use Rattle.gl_calculus.specs.Forecast.{IsForecast}
+use Rattle.gl_protocol.specs.Scripts.Acts as T
+use Rattle.gl_protocol.specs.Scripts.Acts.{Does, Acts}
+use Rattle.gl_protocol.specs.Run.Records.{csv_records}
+use Rattle.gl_calculus.specs.Edits.Replicas.{Edit, Replica}
 use Rattle.gl_run.specs.Changed.{IsChanged}
 use Rattle.gl_run.specs.Merged.{IsMerged, IsExport}
 use Rattle.gl_run.specs.Replies.{IsProperRequest, TellsForecast}

@@ -3,9 +3,9 @@ use Rattle.std.proofs.Common.{◌≡◌, ℕ, ◌+◌, ◌-◌, ◌<◌, ◌≤�
 use Rattle.std.specs.Option.{option_to_list}
 use Rattle.std.specs.Io.KnownBytes.{Appends}
 use Rattle.std.proofs.KnownBytes.{Appends-nil, Appends-trans}
-use Rattle.gl_protocol.specs.Framing.{Item, has_quit}
-use Rattle.gl_protocol.specs.Stream.{Stream, step, gained}
-use Rattle.gl_protocol.specs.FramingLaw.{up_to_quit}
+use Rattle.gl_protocol.specs.Framing.Framing.{Item, has_quit}
+use Rattle.gl_protocol.specs.Framing.Stream.{Stream, step, gained}
+use Rattle.laws_protocol.specs.FramingLaw.{up_to_quit}
 use Rattle.gl_run.specs.State.{State, state_of}
 use Rattle.gl_run.specs.Emitted.{Emitted, EmittedPart, EmittedCut, Leaves}
 use Rattle.gl_run.specs.Sending.{WroteWhole, WroteFront, Sends, Passes, full}

@@ -1,6 +1,6 @@
 -- The text of an edit, part by part.
 use Rattle.std.proofs.Common.{◌≡◌, ◌++◌, append_assoc, ap, ◌∙◌}
-use Rattle.gl_language.specs.Text.{Bytes}
+use Rattle.gl_language.specs.Texts.Text.{Bytes}
 
 -- one more part behind what was put
 onward : (o t y p q : Bytes) → p ≡ o ++ t → q ≡ p ++ y → q ≡ o ++ (t ++ y)

@@ -1,11 +1,11 @@
 -- Edits within the limits of a sheet, and refused ones.
 use Rattle.std.proofs.Common.{◌≡◌, ◌∙◌, ℕ, ◌≤◌, ◌<◌, nat_lt, Bool, true, false, [], ◌∷◌, ◌++◌, Result, Ok, Err, OnOk, OnErr, if◌then◌else◌, length, append-nil, ap, refl, sym, arith}
 use Rattle.std.proofs.lemmas.Bool.Decides.{nat_tests}
-use Rattle.gl_calculus.specs.Limits.{max_formulas, max_contents}
-use Rattle.gl_calculus.specs.Grid.{Addr}
-use Rattle.gl_calculus.specs.Formula.{Cells, formula_addresses}
-use Rattle.gl_protocol.specs.Commands as C
-use Rattle.gl_protocol.specs.Commands.{Read, Is, Not, allowed}
+use Rattle.gl_calculus.specs.Grid.Limits.{max_formulas, max_contents}
+use Rattle.gl_calculus.specs.Grid.Grid.{Addr}
+use Rattle.gl_calculus.specs.Formulas.Formula.{Cells, formula_addresses}
+use Rattle.gl_protocol.specs.Scripts.Commands as C
+use Rattle.gl_protocol.specs.Scripts.Commands.{Read, Is, Not, allowed}
 use Rattle.gl_cells.specs.Sheet.{Answers}
 use Rattle.gl_cells.specs.declared.fault.PutFault.{PutFault}
 use Rattle.gl_cells.specs.declared.fault.PutFault.TheVariants as f

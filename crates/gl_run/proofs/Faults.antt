@@ -1,6 +1,7 @@
 -- Counts of faults from one call to the next.
 use Rattle.std.proofs.Common.{ℕ, ◌≤◌, refl, ◌∙◌, arith}
-use Rattle.gl_port.specs.Causes.{Rose, Stays}
+use Rattle.gl_protocol.specs.Run.Causes.{Rose}
+use Rattle.gl_port.specs.Causes.{Stays}
 
 pub stays_none : (F : Type 0) (f : ℕ) → Stays F F f f
 stays_none F f = record { later = omega arith; same = λ exact. (refl, exact) }

@@ -4,12 +4,12 @@ use Rattle.std.specs.List.{concat}
 use Rattle.std.proofs.lemmas.List.Folds.{concat-append}
 use Rattle.std.proofs.lemmas.Bool.Decides.{nat_tests}
 use Rattle.gl_run.proofs.Runs.{IsPrefix-trans}
-use Rattle.gl_protocol.specs.Framing.{Item}
-use Rattle.gl_protocol.specs.Output.{AreReplies}
-use Rattle.gl_csvin.specs.Import.{csv_records}
-use Rattle.gl_replies.proofs.Fronts.{first_replies_first}
-use Rattle.gl_replies.proofs.Outputs.{one_output}
-use Rattle.gl_run.specs.Out.{IsPrefix, Fits, Exceeds}
+use Rattle.gl_protocol.specs.Framing.Framing.{Item}
+use Rattle.gl_protocol.specs.Scripts.Output.{AreReplies}
+use Rattle.gl_protocol.specs.Run.Records.{csv_records}
+use Rattle.laws_protocol.proofs.Scripts.Fronts.{first_replies_first}
+use Rattle.laws_protocol.proofs.Scripts.Outputs.{one_output}
+use Rattle.gl_protocol.specs.Run.Out.{IsPrefix, Fits, Exceeds}
 
 shorter : (rs qs : List (List ℕ)) → length (concat rs) ≤ length (concat (rs ++ qs))
 shorter rs qs = let e : length (concat (rs ++ qs)) ≡ length (concat rs) + length (concat qs) = ap length (concat-append rs qs) ∙ length-append (concat rs) (concat qs) in omega (arith, e)

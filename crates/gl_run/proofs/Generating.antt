@@ -2,7 +2,7 @@
 use Rattle.std.proofs.Common.{◌≡◌, ◌∙◌, ℕ, suc, ◌+◌, ◌-◌, ◌<◌, ◌≤◌, List, [], ◌++◌, sym, ap, rules, arith, append_assoc, append-nil}
 use Rattle.std.specs.Prelude.{flat_map}
 use Rattle.std.specs.List.{range_with_len}
-use Rattle.gl_protocol.specs.Output.{row_number}
+use Rattle.gl_protocol.specs.Scripts.Output.{row_number}
 
 pub one_number : (o a d b e : List ℕ) → ((o ++ a) ++ d) ++ (b ++ e) ≡ o ++ ((a ++ (d ++ b)) ++ e)
 one_number o a d b e = search (rules, append_assoc)

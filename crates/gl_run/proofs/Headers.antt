@@ -1,10 +1,10 @@
 -- What the machine by bytes tells is framed, and what it begins has its header.
 use Rattle.std.proofs.Common.{◌≡◌, ℕ, zero, suc, ◌-◌, ◌==◌, nat_le, Bool, true, false, List, [], ◌∷◌, ◌++◌, length, Option, None, Some, IfSome, IsSome, refl, if◌then◌else◌}
 use Rattle.std.specs.Prelude.{nat_lt}
-use Rattle.gl_calculus.specs.Limits.{max_line}
-use Rattle.gl_protocol.specs.Header.{payload_len}
-use Rattle.gl_protocol.specs.Framing.{Item, Kind, past_limit, plain, header, drop_cr, kind_by, kind_of, last_item}
-use Rattle.gl_protocol.specs.Stream.{Stream, nothing, in_line, skipped, in_payload, close_by, step_line, step, after, closing}
+use Rattle.gl_calculus.specs.Grid.Limits.{max_line}
+use Rattle.gl_protocol.specs.Framing.Header.{payload_len}
+use Rattle.gl_protocol.specs.Framing.Framing.{Item, Kind, past_limit, plain, header, drop_cr, kind_by, kind_of, last_item}
+use Rattle.gl_protocol.specs.Framing.Stream.{Stream, nothing, in_line, skipped, in_payload, close_by, step_line, step, after, closing}
 use Rattle.gl_run.specs.Framed.{IsFramed, HasHeader}
 
 -- what a kind says of its line

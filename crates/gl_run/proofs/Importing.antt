@@ -1,15 +1,16 @@
 -- The replies to imports.
 use Rattle.std.proofs.Common.{◌≡◌, ◌∙◌, Some, None, Err, ap, refl, sym, subst}
-use Rattle.gl_calculus.specs.Grid.{Addr}
-use Rattle.gl_calculus.specs.Formula.{Version, Cells}
-use Rattle.gl_language.specs.Text.{Bytes}
-use Rattle.gl_protocol.specs.Framing.{Import}
-use Rattle.gl_protocol.specs.Commands as C
-use Rattle.gl_protocol.specs.Commands.{Read, Is, Not, Word, imported, error_line}
-use Rattle.gl_protocol.specs.Script.{Script}
-use Rattle.gl_protocol.specs.Acts as T
-use Rattle.gl_protocol.specs.Acts.{Acts}
-use Rattle.gl_csvin.specs.Import.{csv_records, records_of, Imports}
+use Rattle.gl_calculus.specs.Grid.Grid.{Addr}
+use Rattle.gl_calculus.specs.Formulas.Formula.{Version, Cells}
+use Rattle.gl_language.specs.Texts.Text.{Bytes}
+use Rattle.gl_protocol.specs.Framing.Framing.{Import}
+use Rattle.gl_protocol.specs.Scripts.Commands as C
+use Rattle.gl_protocol.specs.Scripts.Commands.{Read, Is, Not, Word, imported, error_line}
+use Rattle.gl_protocol.specs.Scripts.Script.{Script}
+use Rattle.gl_protocol.specs.Scripts.Acts as T
+use Rattle.gl_protocol.specs.Scripts.Acts.{Acts}
+use Rattle.gl_protocol.specs.Run.Records.{csv_records, records_of}
+use Rattle.gl_csvin.specs.Import.{Imports}
 use Rattle.gl_csvin.specs.declared.fault.CsvFault.{CsvFault}
 use Rattle.gl_csvin.specs.declared.fault.CsvFault.TheVariants as f
 use Rattle.gl_run.specs.Changed.{IsChanged, imported_state}

@@ -1,19 +1,19 @@
 -- What edits of other replicas come to.
 use Rattle.std.proofs.Common.{◌≡◌, ◌∙◌, ◌⊎◌, inl, inr, ℕ, ◌+◌, ◌<◌, ◌≤◌, true, false, Bool, cond, List, [], ◌∷◌, length, Option, Some, None, IsSome, option_map, ◌++◌, take, slice_get, append-nil, append_assoc, IsTrue, Result, Ok, Err, refl, sym, ap, subst, arith}
 use Rattle.std.proofs.lemmas.Grind.{common_steps}
-use Rattle.gl_calculus.specs.Grid.{Addr, AreInOrder}
-use Rattle.gl_calculus.specs.Formula.{Cells}
-use Rattle.gl_edits.specs.Limits.{max_registers}
-use Rattle.gl_edits.specs.Replicas as R
-use Rattle.gl_edits.specs.Replicas.{Stamp, Edit, Replica, Judged, IsJudged, IsTakeable, register_at, taking, missing, has_room, is_earlier}
-use Rattle.gl_language.specs.Text.{Bytes}
-use Rattle.gl_protocol.specs.Commands as C
-use Rattle.gl_protocol.specs.Commands.{Is, Not, Word, SiteWord, ConflictWord, EditsWord, error_line, ok_line}
-use Rattle.gl_protocol.specs.Script as P
-use Rattle.gl_protocol.specs.Script.{register_of, merge, allowed_change}
-use Rattle.gl_protocol.specs.Tables.{line, edit_text, export_text}
-use Rattle.gl_edits.specs.Steps.{History, no_history}
-use Rattle.gl_language.specs.Content.{IsProperContent}
+use Rattle.gl_calculus.specs.Grid.Grid.{Addr, AreInOrder}
+use Rattle.gl_calculus.specs.Formulas.Formula.{Cells}
+use Rattle.gl_calculus.specs.Edits.Limits.{max_registers}
+use Rattle.gl_calculus.specs.Edits.Replicas as R
+use Rattle.gl_calculus.specs.Edits.Replicas.{Stamp, Edit, Replica, Judged, IsJudged, IsTakeable, register_at, taking, missing, has_room, is_earlier}
+use Rattle.gl_language.specs.Texts.Text.{Bytes}
+use Rattle.gl_protocol.specs.Scripts.Commands as C
+use Rattle.gl_protocol.specs.Scripts.Commands.{Is, Not, Word, SiteWord, ConflictWord, EditsWord, error_line, ok_line}
+use Rattle.gl_protocol.specs.Scripts.Script as P
+use Rattle.gl_protocol.specs.Scripts.Script.{register_of, merge, allowed_change}
+use Rattle.gl_protocol.specs.Replies.Tables.{line, edit_text, export_text}
+use Rattle.gl_calculus.specs.Edits.Steps.{History, no_history}
+use Rattle.gl_language.specs.Reading.Content.{IsProperContent}
 use Rattle.gl_cells.specs.Content.{content_tree}
 use Rattle.gl_cells.specs.declared.content.Content.{Content as Code}
 use Rattle.gl_calc.proofs.Marks.{take_more}
@@ -31,7 +31,7 @@ use Rattle.gl_run.specs.Changed.{IsChanged, Puts}
 use Rattle.gl_run.specs.Merged.{IsMerged, IsJudgedIn, IsLater, IsKnown, Judges, HasRoom, IsFull, Rooms, CanTakeOne, Takes, IsExport}
 use Rattle.gl_run.specs.Replies.{IsRefusal, put_word, edit_lines}
 use Rattle.gl_run.specs.Script.{script_of}
-use Rattle.gl_run.specs.Touched.{is_later, touched_by, touched_by_one}
+use Rattle.gl_protocol.specs.Run.Touched.{is_later, touched_by, touched_by_one}
 use Rattle.gl_run.specs.declared.script.Script.{Script}
 use Rattle.gl_run.proofs.OwnEdits.{places_of, one_if_none, missing_one, length_with, room_there, room_gone}
 use Rattle.gl_run.proofs.Readying.{changed_to, changed_not, same_sheet}

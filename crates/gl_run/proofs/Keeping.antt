@@ -1,20 +1,20 @@
 -- Each item leaves a state that is kept.
 use Rattle.std.proofs.Common.{◌≡◌, ◌<◌, List, [], ◌∷◌, length, Result, Ok, Err, IfOk, OnErr, sym, subst, arith}
-use Rattle.gl_calculus.specs.Formula.{Version, Cells}
-use Rattle.gl_language.specs.Text.{Bytes}
-use Rattle.gl_edits.specs.Replicas.{Changes}
-use Rattle.gl_edits.specs.Steps.{Step, befores, afters}
-use Rattle.gl_protocol.specs.Framing.{Item}
-use Rattle.gl_protocol.specs.Script.{Script, new_script}
-use Rattle.gl_protocol.specs.Acts.{Acts}
-use Rattle.gl_csvin.specs.Import.{csv_records}
-use Rattle.gl_replies.specs.Rooms.{HasRoom, RoomBack, RoomOn}
-use Rattle.gl_replies.proofs.Roomy.{acts_keep_rooms}
-use Rattle.gl_replies.proofs.States.{acts_keep_states, new_state}
+use Rattle.gl_calculus.specs.Formulas.Formula.{Version, Cells}
+use Rattle.gl_language.specs.Texts.Text.{Bytes}
+use Rattle.gl_calculus.specs.Edits.Replicas.{Changes}
+use Rattle.gl_calculus.specs.Edits.Steps.{Step, befores, afters}
+use Rattle.gl_protocol.specs.Framing.Framing.{Item}
+use Rattle.gl_protocol.specs.Scripts.Script.{Script, new_script}
+use Rattle.gl_protocol.specs.Scripts.Acts.{Acts}
+use Rattle.gl_protocol.specs.Run.Records.{csv_records}
+use Rattle.laws_protocol.specs.Rooms.{HasRoom, RoomBack, RoomOn}
+use Rattle.laws_protocol.proofs.Scripts.Roomy.{acts_keep_rooms}
+use Rattle.laws_protocol.proofs.Scripts.States.{acts_keep_states, new_state}
 use Rattle.std.proofs.Math.Logic.{∥∥₁_elim, ∥∥₁_map}
 use Rattle.std.proofs.Props.{props}
 use Rattle.gl_run.specs.Kept.{IsKept}
-use Rattle.gl_run.specs.Touched.{latest_changes}
+use Rattle.gl_protocol.specs.Run.Touched.{latest_changes}
 
 pub new_kept : IsKept new_script
 new_kept = ∣ record { state = new_state; roomy = record { back = tt; on = tt } } ∣₁

@@ -1,15 +1,15 @@
 -- The addresses of listed changes.
 use Rattle.std.proofs.Common.{◌≡◌, Bool, true, false, cond, List, [], ◌∷◌, ◌++◌, map, filter, Option, None, option_map, refl, sym, ap, subst}
-use Rattle.gl_query.specs.Lists.{AreDistinct}
-use Rattle.gl_calculus.specs.Grid.{Addr, Range, covers, AreInOrder}
-use Rattle.gl_calculus.specs.Formula.{Cells, IsSheet}
-use Rattle.gl_calculus.specs.Formula as F
-use Rattle.gl_edits.specs.Replicas.{Changes}
+use Rattle.gl_calculus.specs.Computation.Lists.{AreDistinct}
+use Rattle.gl_calculus.specs.Grid.Grid.{Addr, Range, covers, AreInOrder}
+use Rattle.gl_calculus.specs.Formulas.Formula.{Cells, IsSheet}
+use Rattle.gl_calculus.specs.Formulas.Formula as F
+use Rattle.gl_calculus.specs.Edits.Replicas.{Changes}
 use Rattle.gl_cells.specs.Content.{content_tree}
 use Rattle.gl_cells.specs.declared.content.Content.{Content}
-use Rattle.gl_protocol.specs.Commands.{places_in}
-use Rattle.gl_protocol.specs.Script.{settings, removals}
-use Rattle.gl_protocol.proofs.SheetOrders.{order_filter}
+use Rattle.gl_calculus.specs.Edits.Sheets.{places_in}
+use Rattle.gl_calculus.specs.Edits.Sheets.{settings, removals}
+use Rattle.laws_calculus.proofs.SheetEdits.SheetOrders.{order_filter}
 use Rattle.gl_undo.specs.View.{AreProperChanges, changes_tree, places}
 use Rattle.gl_run.proofs.Restoring.{plain_places}
 

@@ -3,15 +3,15 @@ use Rattle.std.proofs.Common.{◌≡◌, ◌∙◌, ℕ, ◌+◌, ◌<◌, ◌�
 use Rattle.std.proofs.lemmas.Bool.Decides.{nat_tests}
 use Rattle.std.proofs.lemmas.Grind.{common_steps}
 use Rattle.std.proofs.lemmas.List.Sums.{length-filter}
-use Rattle.gl_calculus.specs.Grid.{Addr, same_addr, is_before, AreInOrder}
-use Rattle.gl_calculus.specs.Formula.{Content}
-use Rattle.gl_edits.specs.Limits.{max_registers}
-use Rattle.gl_edits.specs.Replicas.{Stamp, Edit, Changes, Replica, IsJudged, Wins, AreOlder, register_at, with_edit, taking, taking_all, stamped, missing, has_room, is_earlier}
-use Rattle.gl_edits.proofs.Orders.{tail}
-use Rattle.gl_edits.proofs.Taking.{order_with_edit}
-use Rattle.gl_protocol.proofs.SameSheets.{before_all}
-use Rattle.gl_protocol.proofs.Registers.{register_with}
-use Rattle.gl_protocol.proofs.Own.{edit_of, judged, before_apart, still_older, tail_order}
+use Rattle.gl_calculus.specs.Grid.Grid.{Addr, same_addr, is_before, AreInOrder}
+use Rattle.gl_calculus.specs.Formulas.Formula.{Content}
+use Rattle.gl_calculus.specs.Edits.Limits.{max_registers}
+use Rattle.gl_calculus.specs.Edits.Replicas.{Stamp, Edit, Changes, Replica, IsJudged, Wins, AreOlder, register_at, with_edit, taking, taking_all, stamped, missing, has_room, is_earlier}
+use Rattle.laws_calculus.proofs.Edits.Orders.{tail}
+use Rattle.laws_calculus.proofs.Edits.Taking.{order_with_edit}
+use Rattle.laws_calculus.proofs.SheetEdits.SameSheets.{before_all}
+use Rattle.laws_calculus.proofs.SheetEdits.Registers.{register_with}
+use Rattle.laws_calculus.proofs.SheetEdits.Own.{edit_of, judged, before_apart, still_older, tail_order}
 
 abbrev pub places_of : List Edit → List Addr
 places_of rs = map (λ (r : Edit). r.place) rs

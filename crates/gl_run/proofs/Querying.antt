@@ -2,23 +2,23 @@
 use Rattle.std.specs.Prelude.{◌++◌, codes}
 use Rattle.std.specs.Fmt.{decimal}
 use Rattle.std.proofs.Common.{◌≡◌, ◌∙◌, ℕ, true, false, Option, Some, None, IsSome, is_some, option_map, ap, refl, sym, subst}
-use Rattle.gl_calculus.specs.Grid.{Addr}
-use Rattle.gl_calculus.specs.Value.{Oracle}
-use Rattle.gl_calculus.specs.Formula.{Version, Cells}
-use Rattle.gl_calculus.specs.Calculation as A
-use Rattle.gl_calculus.specs.Calculation.{IsAnswer, why}
-use Rattle.gl_language.specs.Text.{Bytes, shown_text}
-use Rattle.gl_protocol.specs.Commands as C
-use Rattle.gl_protocol.specs.Commands.{SettledReply, why_text, spent_line}
-use Rattle.gl_protocol.specs.Script.{Script}
-use Rattle.gl_protocol.specs.Acts as T
-use Rattle.gl_protocol.specs.Acts.{Does}
-use Rattle.gl_protocol.specs.Tables.{line, oracle_text}
+use Rattle.gl_calculus.specs.Grid.Grid.{Addr}
+use Rattle.gl_calculus.specs.Values.Value.{Oracle}
+use Rattle.gl_calculus.specs.Formulas.Formula.{Version, Cells}
+use Rattle.gl_calculus.specs.Calculation.Calculation as A
+use Rattle.gl_calculus.specs.Calculation.Calculation.{IsAnswer, why}
+use Rattle.gl_language.specs.Texts.Text.{Bytes, shown_text}
+use Rattle.gl_protocol.specs.Scripts.Commands as C
+use Rattle.gl_protocol.specs.Scripts.Commands.{SettledReply, why_text, spent_line}
+use Rattle.gl_protocol.specs.Scripts.Script.{Script}
+use Rattle.gl_protocol.specs.Scripts.Acts as T
+use Rattle.gl_protocol.specs.Scripts.Acts.{Does}
+use Rattle.gl_protocol.specs.Replies.Tables.{line, oracle_text}
 use Rattle.gl_calc.specs.View.{View, sheet_of}
 use Rattle.gl_calc.specs.Answers.{Answers, spent_tree}
 use Rattle.gl_calc.specs.declared.answers.Answer.TheVariants.{Settled, Spent}
 use Rattle.gl_calc.specs.declared.answers.SpentKind.{SpentKind}
-use Rattle.gl_csvin.specs.Import.{csv_records}
+use Rattle.gl_protocol.specs.Run.Records.{csv_records}
 use Rattle.gl_run.specs.Replies.{Holds, IsExplanation, IsShownIn, RepliesBy, query_tree}
 use Rattle.gl_run.specs.declared.queries.Query.{Query}
 use Rattle.gl_run.specs.declared.queries.Query.TheVariants as q

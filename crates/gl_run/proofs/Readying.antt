@@ -1,16 +1,16 @@
 -- What an edit of the sheet becomes: what must hold before it, and what it comes to.
 use Rattle.std.proofs.Common.{◌≡◌, ◌∙◌, ◌⊎◌, inl, inr, ℕ, ◌+◌, ◌<◌, ◌≤◌, true, false, List, [], ◌∷◌, length, Option, Some, None, IsSome, option_map, Err, refl, sym, ap, subst, arith}
-use Rattle.gl_calculus.specs.Grid.{Addr, AreInOrder}
-use Rattle.gl_calculus.specs.Formula.{Cells}
-use Rattle.gl_edits.specs.Limits.{max_registers}
-use Rattle.gl_edits.specs.Replicas.{Stamp, Edit, Changes, Replica, IsJudged, IsTakeable, Wins, IsOlder, AreOlder, register_at, with_edit, next_stamp, taking, taking_all, stamped, missing, has_room}
-use Rattle.gl_edits.specs.Steps.{Step, step_of, pushed}
-use Rattle.gl_language.specs.Text.{Bytes}
-use Rattle.gl_protocol.specs.Commands.{Read, Is, Not, Word, error_line, ok_line}
-use Rattle.gl_protocol.specs.Script as P
-use Rattle.gl_protocol.specs.Script.{edited}
-use Rattle.gl_protocol.proofs.Edited.{alone_done, alone_over, no_stamp, no_room, replica_done}
-use Rattle.gl_protocol.proofs.Own.{edit_of, judged, still_older, tail_order}
+use Rattle.gl_calculus.specs.Grid.Grid.{Addr, AreInOrder}
+use Rattle.gl_calculus.specs.Formulas.Formula.{Cells}
+use Rattle.gl_calculus.specs.Edits.Limits.{max_registers}
+use Rattle.gl_calculus.specs.Edits.Replicas.{Stamp, Edit, Changes, Replica, IsJudged, IsTakeable, Wins, IsOlder, AreOlder, register_at, with_edit, next_stamp, taking, taking_all, stamped, missing, has_room}
+use Rattle.gl_calculus.specs.Edits.Steps.{Step, step_of, pushed}
+use Rattle.gl_language.specs.Texts.Text.{Bytes}
+use Rattle.gl_protocol.specs.Scripts.Commands.{Read, Is, Not, Word, error_line, ok_line}
+use Rattle.gl_protocol.specs.Scripts.Script as P
+use Rattle.gl_protocol.specs.Scripts.Script.{edited}
+use Rattle.laws_protocol.proofs.Scripts.Edited.{alone_done, alone_over, no_stamp, no_room, replica_done}
+use Rattle.laws_calculus.proofs.SheetEdits.Own.{edit_of, judged, still_older, tail_order}
 use Rattle.gl_cells.specs.declared.fault.PutFault.{PutFault}
 use Rattle.gl_cells.specs.declared.fault.PutFault.TheVariants as put
 use Rattle.gl_calc.specs.View.{View, sheet_of}

@@ -1,14 +1,14 @@
 -- The replies to refused lines.
 use Rattle.std.proofs.Common.{Option, Some, None, MatchOption, Err, sym, subst}
-use Rattle.gl_calculus.specs.Formula.{Version}
-use Rattle.gl_language.specs.Text.{Bytes}
-use Rattle.gl_protocol.specs.Framing.{Line}
-use Rattle.gl_protocol.specs.Commands as C
-use Rattle.gl_protocol.specs.Commands.{Word, Not, ReadsLine}
-use Rattle.gl_protocol.specs.Script.{Script}
-use Rattle.gl_protocol.specs.Acts as T
-use Rattle.gl_protocol.specs.Acts.{Acts}
-use Rattle.gl_csvin.specs.Import.{csv_records}
+use Rattle.gl_calculus.specs.Formulas.Formula.{Version}
+use Rattle.gl_language.specs.Texts.Text.{Bytes}
+use Rattle.gl_protocol.specs.Framing.Framing.{Line}
+use Rattle.gl_protocol.specs.Scripts.Commands as C
+use Rattle.gl_protocol.specs.Scripts.Commands.{Word, Not, ReadsLine}
+use Rattle.gl_protocol.specs.Scripts.Script.{Script}
+use Rattle.gl_protocol.specs.Scripts.Acts as T
+use Rattle.gl_protocol.specs.Scripts.Acts.{Acts}
+use Rattle.gl_protocol.specs.Run.Records.{csv_records}
 use Rattle.gl_script.specs.Command.{Answers, parse_word, word_of}
 use Rattle.gl_script.specs.declared.requests.CommandFault.{CommandFault}
 use Rattle.gl_script.specs.declared.requests.CommandFault.TheVariants as f

@@ -1,17 +1,17 @@
 -- The replies of a run from the start are those of the script, and its steps are the script's.
 use Rattle.std.proofs.Common.{◌≡◌, ℕ, List, [], ◌∷◌, Option, Some, None, option_map, refl, sym, subst}
-use Rattle.gl_calculus.specs.Formula as F
-use Rattle.gl_calculus.specs.Formula.{Version}
-use Rattle.gl_language.specs.Text.{Bytes}
-use Rattle.gl_protocol.specs.Framing.{Item}
-use Rattle.gl_protocol.specs.Script.{Script}
-use Rattle.gl_protocol.specs.Output as Output
-use Rattle.gl_protocol.specs.Output.{Runs, AreReplies}
-use Rattle.gl_csvin.specs.Import.{csv_records}
-use Rattle.gl_run.specs.Spends as S
-use Rattle.gl_run.specs.Spends.{SpendsAll, SpendsScript}
+use Rattle.gl_calculus.specs.Formulas.Formula as F
+use Rattle.gl_calculus.specs.Formulas.Formula.{Version}
+use Rattle.gl_language.specs.Texts.Text.{Bytes}
+use Rattle.gl_protocol.specs.Framing.Framing.{Item}
+use Rattle.gl_protocol.specs.Scripts.Script.{Script}
+use Rattle.gl_protocol.specs.Scripts.Output as Output
+use Rattle.gl_protocol.specs.Scripts.Output.{Runs, AreReplies}
+use Rattle.gl_protocol.specs.Run.Records.{csv_records}
+use Rattle.gl_protocol.specs.Run.Spends as S
+use Rattle.gl_protocol.specs.Run.Spends.{SpendsAll, SpendsScript}
 use Rattle.gl_ast.specs.View.{version_tree}
-use Rattle.gl_run.specs.Known.{Known, new_known}
+use Rattle.gl_protocol.specs.Run.Known.{Known, new_known}
 use Rattle.gl_run.specs.Script.{known_of}
 use Rattle.gl_run.specs.State.{State, fresh, begun, start, state_by, state_of}
 use Rattle.gl_run.specs.declared.session.Session.{Session}

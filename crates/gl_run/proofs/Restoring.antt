@@ -1,18 +1,18 @@
 -- Changes that are put all at once and then cleared one by one.
 use Rattle.std.proofs.Common.{◌≡◌, ◌∙◌, inl, inr, Bool, true, false, cond, not, List, [], ◌∷◌, map, Option, Some, None, refl, sym, ap, subst}
-use Rattle.gl_query.specs.Lists.{Member, AreDistinct}
-use Rattle.gl_calculus.specs.Grid.{Addr, same_addr, single, covers}
-use Rattle.gl_calculus.specs.Formula.{Content, Cells, IsSheet, content}
+use Rattle.gl_calculus.specs.Computation.Lists.{Member, AreDistinct}
+use Rattle.gl_calculus.specs.Grid.Grid.{Addr, same_addr, single, covers}
+use Rattle.gl_calculus.specs.Formulas.Formula.{Content, Cells, IsSheet, content}
 use Rattle.gl_calculus.proofs.Tests.{addr_exact}
-use Rattle.gl_edits.specs.Replicas.{Changes}
-use Rattle.gl_protocol.specs.Commands.{with_contents, without}
-use Rattle.gl_protocol.specs.Script.{with_changes, settings}
-use Rattle.gl_protocol.proofs.SameSheets.{same_sheets}
-use Rattle.gl_protocol.proofs.SheetChanges.{found, order_changes}
-use Rattle.gl_protocol.proofs.SheetOrders.{order_with_all, order_filter}
-use Rattle.gl_protocol.proofs.TakenBack.{after_changes, found_changes, is_changed, unchanged, contents_are_changes}
-use Rattle.gl_protocol.specs.Script.{and_content, coming}
-use Rattle.gl_run.specs.Touched.{and_address, going, without_these}
+use Rattle.gl_calculus.specs.Edits.Replicas.{Changes}
+use Rattle.gl_calculus.specs.Edits.Sheets.{with_contents, without}
+use Rattle.gl_calculus.specs.Edits.Sheets.{with_changes, settings}
+use Rattle.laws_calculus.proofs.SheetEdits.SameSheets.{same_sheets}
+use Rattle.laws_calculus.proofs.SheetEdits.SheetChanges.{found, order_changes}
+use Rattle.laws_calculus.proofs.SheetEdits.SheetOrders.{order_with_all, order_filter}
+use Rattle.laws_calculus.proofs.SheetEdits.TakenBack.{after_changes, found_changes, is_changed, unchanged, contents_are_changes}
+use Rattle.gl_calculus.specs.Edits.Sheets.{and_content, coming}
+use Rattle.gl_protocol.specs.Run.Touched.{and_address, going, without_these}
 
 abbrev pub plain_places : Changes → List Addr
 plain_places cs = map (λ (c : Addr × Option Content). c.0) cs

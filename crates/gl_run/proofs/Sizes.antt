@@ -6,11 +6,11 @@ use Rattle.std.specs.Str.Parse.{ParsesUnsigned}
 use Rattle.std.proofs.lemmas.Bool.Decides.{nat_tests}
 use Rattle.std.proofs.lemmas.Result.{OkIff-at_ok}
 use Rattle.std.proofs.lemmas.Str.Parse.{IsNumeralModel, numerals_by_fold, parse_plain}
-use Rattle.gl_calculus.specs.Limits.{max_generated}
-use Rattle.gl_language.specs.Text.{Bytes}
-use Rattle.gl_language.specs.Token.{is_digit, digits_value}
-use Rattle.gl_protocol.specs.Pieces.{is_number}
-use Rattle.gl_protocol.specs.Words.{size_of}
+use Rattle.gl_calculus.specs.Grid.Limits.{max_generated}
+use Rattle.gl_language.specs.Texts.Text.{Bytes}
+use Rattle.gl_language.specs.Reading.Token.{is_digit, digits_value}
+use Rattle.gl_protocol.specs.Framing.Pieces.{is_number}
+use Rattle.gl_protocol.specs.Run.Words.{size_of}
 use Rattle.gl_script.proofs.Headers.{number_led}
 
 -- ---- a zero, or a sign, at the front

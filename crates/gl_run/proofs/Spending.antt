@@ -1,35 +1,35 @@
 -- What items touch, and the steps that they take.
 use Rattle.std.proofs.Common.{◌≡◌, ◌∙◌, ℕ, true, false, Bool, List, [], ◌++◌, Some, None, Option, Result, Ok, Err, IfOk, Vec, Global, refl, sym, subst, ap, append-nil, map, if◌then◌else◌}
 use Rattle.std.proofs.lemmas.Result.{IfOk-weaker}
-use Rattle.gl_calculus.specs.Grid.{Addr}
-use Rattle.gl_calculus.specs.Formula.{Version, Cells}
-use Rattle.gl_calculus.specs.Value.{Oracle}
-use Rattle.gl_calculus.specs.Calculation as A
-use Rattle.gl_calculus.proofs.Proved.{at_most_one_answer}
-use Rattle.gl_calculus.specs.Memory.{AreTables, tables_for}
-use Rattle.gl_language.specs.Text.{Bytes}
-use Rattle.gl_protocol.specs.Framing.{Item, Line, Import}
-use Rattle.gl_protocol.specs.Header.{payload_len}
-use Rattle.gl_protocol.specs.Commands as C
-use Rattle.gl_protocol.specs.Commands.{Is, Word, ReadsLine, imported, asks_calculation, error_line, ok_line}
-use Rattle.gl_protocol.specs.Output.{is_refusal}
+use Rattle.gl_calculus.specs.Grid.Grid.{Addr}
+use Rattle.gl_calculus.specs.Formulas.Formula.{Version, Cells}
+use Rattle.gl_calculus.specs.Values.Value.{Oracle}
+use Rattle.gl_calculus.specs.Calculation.Calculation as A
+use Rattle.laws_calculus.proofs.Calculus.Proved.{at_most_one_answer}
+use Rattle.gl_calculus.specs.Calculation.Memory.{AreTables, tables_for}
+use Rattle.gl_language.specs.Texts.Text.{Bytes}
+use Rattle.gl_protocol.specs.Framing.Framing.{Item, Line, Import}
+use Rattle.gl_protocol.specs.Framing.Header.{payload_len}
+use Rattle.gl_protocol.specs.Scripts.Commands as C
+use Rattle.gl_protocol.specs.Scripts.Commands.{Is, Word, ReadsLine, imported, asks_calculation, error_line, ok_line}
+use Rattle.gl_protocol.specs.Scripts.Output.{is_refusal}
 use Rattle.gl_calc.specs.View.{View, sheet_of}
 use Rattle.gl_calc.specs.Answers.{Answers, Takes, spent_tree}
 use Rattle.gl_calc.proofs.Rounds.{costs_answer}
 use Rattle.gl_calc.specs.declared.answers.Answer.{Answer}
 use Rattle.gl_calc.specs.declared.answers.Answer.TheVariants.{Settled, Spent}
 use Rattle.gl_calc.specs.declared.answers.SpentKind.{SpentKind}
-use Rattle.gl_csvin.specs.Import.{csv_records, records_of}
+use Rattle.gl_protocol.specs.Run.Records.{csv_records, records_of}
 use Rattle.gl_script.specs.Command.{Asks}
 use Rattle.gl_script.specs.declared.requests.Request.{Request}
 use Rattle.gl_run.specs.Replies.{HasPlace, IsRefusal}
-use Rattle.gl_run.specs.Known.{Known, memory_in}
+use Rattle.gl_protocol.specs.Run.Known.{Known, memory_in}
 use Rattle.gl_run.specs.Changed.{Marks}
 use Rattle.gl_run.specs.Script.{known_of}
-use Rattle.gl_run.specs.Spends as S
+use Rattle.gl_protocol.specs.Run.Spends as S
 use Rattle.gl_run.specs.Replies.{FollowsBy, query_tree}
-use Rattle.gl_run.specs.Spends.{Touches, Calculates, Follows, Spends, SpendsAsked}
-use Rattle.gl_run.specs.Touched.{touched_by}
+use Rattle.gl_protocol.specs.Run.Spends.{Touches, Calculates, Follows, Spends, SpendsAsked}
+use Rattle.gl_protocol.specs.Run.Touched.{touched_by}
 use Rattle.gl_run.specs.declared.queries.Query.{Query}
 use Rattle.gl_run.specs.declared.queries.Query.TheVariants as q
 use Rattle.gl_run.specs.declared.script.Script.{Script}

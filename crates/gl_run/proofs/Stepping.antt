@@ -1,21 +1,23 @@
 -- Steps that are undone and done again.
 use Rattle.std.proofs.Common.{◌≡◌, ◌∙◌, true, false, List, [], ◌∷◌, ◌++◌, map, Option, Some, None, option_map, is_some, refl, sym, ap, append_assoc, append-nil}
-use Rattle.gl_query.specs.Lists.{AreDistinct}
-use Rattle.gl_calculus.specs.Grid.{Addr, single}
-use Rattle.gl_calculus.specs.Formula.{Content, Cells, IsSheet}
-use Rattle.gl_edits.specs.Replicas.{Changes, Replica}
-use Rattle.gl_edits.specs.Steps.{Step, History, befores, afters, latest_step, MovesBack, MovesForward}
-use Rattle.gl_language.specs.Text.{Bytes}
-use Rattle.gl_protocol.specs.Commands.{Is, Not, SiteWord, UndoWord, RedoWord, places_in, with_contents, without, error_line, ok_line}
-use Rattle.gl_protocol.specs.Script as P
-use Rattle.gl_protocol.specs.Script.{undone, redone, with_changes}
+use Rattle.gl_calculus.specs.Computation.Lists.{AreDistinct}
+use Rattle.gl_calculus.specs.Grid.Grid.{Addr, single}
+use Rattle.gl_calculus.specs.Formulas.Formula.{Content, Cells, IsSheet}
+use Rattle.gl_calculus.specs.Edits.Replicas.{Changes, Replica}
+use Rattle.gl_calculus.specs.Edits.Steps.{Step, History, befores, afters, latest_step, MovesBack, MovesForward}
+use Rattle.gl_language.specs.Texts.Text.{Bytes}
+use Rattle.gl_protocol.specs.Scripts.Commands.{Is, Not, SiteWord, UndoWord, RedoWord, error_line, ok_line}
+use Rattle.gl_calculus.specs.Edits.Sheets.{places_in, with_contents, without}
+use Rattle.gl_protocol.specs.Scripts.Script as P
+use Rattle.gl_protocol.specs.Scripts.Script.{undone, redone}
+use Rattle.gl_calculus.specs.Edits.Sheets.{with_changes}
 use Rattle.gl_calc.specs.View.{View, sheet_of}
 use Rattle.gl_merge.specs.Replica.{ReplicaValue, replica_tree}
 use Rattle.gl_run.specs.Changed.{IsChanged, Marks}
 use Rattle.gl_run.specs.Script.{script_of}
 use Rattle.gl_run.specs.declared.script.Script.{Script}
-use Rattle.gl_protocol.specs.Script.{and_content, coming}
-use Rattle.gl_run.specs.Touched.{and_address, going, without_these, cleared, touched_by_all, latest_changes}
+use Rattle.gl_calculus.specs.Edits.Sheets.{and_content, coming}
+use Rattle.gl_protocol.specs.Run.Touched.{and_address, going, without_these, cleared, touched_by_all, latest_changes}
 use Rattle.gl_run.proofs.Readying.{changed_to, changed_not}
 use Rattle.gl_run.proofs.Restoring.{plain_places, put_and_cleared}
 

@@ -4,18 +4,18 @@ use Rattle.std.proofs.Math.ListN.{get_or-append}
 use Rattle.std.proofs.Math.Seq.{get_or-append_seam, take-append_seam, drop-append_seam}
 use Rattle.std.specs.Prelude.{nat_le, IsTrue}
 use Rattle.std.proofs.lemmas.Bool.{leb-true}
-use Rattle.gl_calculus.specs.Grid.{Range, addr, extents}
+use Rattle.gl_calculus.specs.Grid.Grid.{Range, addr, extents}
 use Rattle.gl_calculus.proofs.Tests.{both}
 use Rattle.gl_plane.specs.Parts.{is_ordered}
-use Rattle.gl_calculus.specs.Value.{Oracle}
-use Rattle.gl_calculus.specs.Formula.{Version}
-use Rattle.gl_calculus.specs.Calculation.{Shown, IsShown}
-use Rattle.gl_language.specs.Text.{Bytes}
-use Rattle.gl_protocol.specs.Commands as C
-use Rattle.gl_protocol.specs.Commands.{AreShown, SettledReply}
-use Rattle.gl_protocol.specs.Tables.{table_text}
+use Rattle.gl_calculus.specs.Values.Value.{Oracle}
+use Rattle.gl_calculus.specs.Formulas.Formula.{Version}
+use Rattle.gl_calculus.specs.Calculation.Calculation.{Shown, IsShown}
+use Rattle.gl_language.specs.Texts.Text.{Bytes}
+use Rattle.gl_protocol.specs.Scripts.Commands as C
+use Rattle.gl_protocol.specs.Scripts.Commands.{AreShown, SettledReply}
+use Rattle.gl_protocol.specs.Replies.Tables.{table_text}
 use Rattle.gl_calc.specs.View.{View, sheet_of}
-use Rattle.gl_csvin.specs.Import.{csv_records}
+use Rattle.gl_protocol.specs.Run.Records.{csv_records}
 use Rattle.gl_views.specs.Rows.{in_rows}
 use Rattle.gl_run.specs.Replies.{AreShownIn, IsRowShown, IsShownIn, RepliesBy}
 

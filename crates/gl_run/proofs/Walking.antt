@@ -3,14 +3,14 @@ use Rattle.std.proofs.Common.{◌≡◌, inl, inr, Bool, true, false, cond, ◌&
 use Rattle.std.proofs.lemmas.Grind.{common_steps}
 use Rattle.std.proofs.lemmas.List.Elements.{All-head, All-tail}
 use Rattle.std.specs.Map.{keys_of}
-use Rattle.gl_query.specs.Lists.{Member}
-use Rattle.gl_calculus.specs.Grid.{Addr, same_addr, is_before, AreInOrder, covers, grid}
-use Rattle.gl_calculus.specs.Formula.{Content, Cells, IsSheet, content}
+use Rattle.gl_calculus.specs.Computation.Lists.{Member}
+use Rattle.gl_calculus.specs.Grid.Grid.{Addr, same_addr, is_before, AreInOrder, covers, grid}
+use Rattle.gl_calculus.specs.Formulas.Formula.{Content, Cells, IsSheet, content}
 use Rattle.gl_calculus.proofs.Tests.{addr_same}
 use Rattle.gl_calculus.proofs.Grants.{Before}
-use Rattle.gl_language.specs.Text.{Bytes}
+use Rattle.gl_language.specs.Texts.Text.{Bytes}
 use Rattle.gl_plane.specs.Parts.{IsAddr}
-use Rattle.gl_protocol.specs.Tables.{line, set_text}
+use Rattle.gl_protocol.specs.Replies.Tables.{line, set_text}
 use Rattle.gl_cells.specs.Search.{is_in_play}
 use Rattle.gl_cells.specs.Sheet.{Table, sheet, ArePlaced}
 use Rattle.gl_cells.proofs.Clearing.{covers_yes}

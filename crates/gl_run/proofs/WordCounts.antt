@@ -2,7 +2,7 @@
 use Rattle.std.proofs.Common.{◌≡◌, ◌<◌, ◌≤◌, List, [], ◌∷◌, length, None, refl, arith}
 use Rattle.std.specs.declared.string.String.{String}
 use Rattle.std.specs.declared.alloc.Global.{Global}
-use Rattle.gl_run.specs.Call.{words_call}
+use Rattle.gl_protocol.specs.Run.Call.{words_call}
 
 pub one_word : (ws : List (String Global)) → 1 ≤ length ws → length ws < 2 → None ≡ words_call ws
 one_word [] l m = absurd (omega arith)

@@ -1,14 +1,14 @@
 -- What an item of a script does to the state, and what is replied.
 use Rattle.std.specs.Prelude.{◌≡◌, true, false, ℕ, List, [], ◌∷◌, codes}
-use Rattle.gl_calculus.specs.Formula.{Version, One, Two}
-use Rattle.gl_language.specs.Text.{Bytes}
-use Rattle.gl_protocol.specs.Framing.{Item}
-use Rattle.gl_protocol.specs.Commands.{ok_line}
-use Rattle.gl_protocol.specs.Acts.{Acts}
-use Rattle.gl_protocol.specs.Output.{is_line}
-use Rattle.gl_csvin.specs.Import.{csv_records}
-use Rattle.gl_run.specs.Known.{Known}
-use Rattle.gl_run.specs.Spends.{Spends}
+use Rattle.gl_calculus.specs.Formulas.Formula.{Version, One, Two}
+use Rattle.gl_language.specs.Texts.Text.{Bytes}
+use Rattle.gl_protocol.specs.Framing.Framing.{Item}
+use Rattle.gl_protocol.specs.Scripts.Commands.{ok_line}
+use Rattle.gl_protocol.specs.Scripts.Acts.{Acts}
+use Rattle.gl_protocol.specs.Scripts.Output.{is_line}
+use Rattle.gl_protocol.specs.Run.Records.{csv_records}
+use Rattle.gl_protocol.specs.Run.Known.{Known}
+use Rattle.gl_protocol.specs.Run.Spends.{Spends}
 use Rattle.gl_run.specs.State.{State, fresh, begun}
 
 -- the item leaves this and has this reply, and its steps go from n to m

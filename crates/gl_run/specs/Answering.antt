@@ -1,28 +1,28 @@
 -- What the functions that answer leave of a script, and what they reply.
 use Rattle.std.specs.Prelude.{◌≡◌, ℕ, List, map, None, Result, IfOk, OnErr, IfSome, Option, Vec}
 use Rattle.std.specs.declared.alloc.Global.{Global}
-use Rattle.gl_calculus.specs.Grid.{Addr}
-use Rattle.gl_calculus.specs.Formula.{Version, Content, Cells}
-use Rattle.gl_edits.specs.Replicas.{Edit}
-use Rattle.gl_language.specs.Text.{Bytes}
-use Rattle.gl_protocol.specs.Acts.{Acts}
-use Rattle.gl_protocol.specs.Commands as C
-use Rattle.gl_protocol.specs.Commands.{Read}
-use Rattle.gl_protocol.specs.Framing.{Item, Line}
-use Rattle.gl_protocol.specs.Header.{payload_len}
-use Rattle.gl_protocol.specs.Script as P
-use Rattle.gl_protocol.specs.Script.{change}
+use Rattle.gl_calculus.specs.Grid.Grid.{Addr}
+use Rattle.gl_calculus.specs.Formulas.Formula.{Version, Content, Cells}
+use Rattle.gl_calculus.specs.Edits.Replicas.{Edit}
+use Rattle.gl_language.specs.Texts.Text.{Bytes}
+use Rattle.gl_protocol.specs.Scripts.Acts.{Acts}
+use Rattle.gl_protocol.specs.Scripts.Commands as C
+use Rattle.gl_protocol.specs.Scripts.Commands.{Read}
+use Rattle.gl_protocol.specs.Framing.Framing.{Item, Line}
+use Rattle.gl_protocol.specs.Framing.Header.{payload_len}
+use Rattle.gl_protocol.specs.Scripts.Script as P
+use Rattle.gl_protocol.specs.Scripts.Script.{change}
 use Rattle.gl_plane.specs.declared.NoMemory.{NoMemory}
-use Rattle.gl_csvin.specs.Import.{csv_records}
+use Rattle.gl_protocol.specs.Run.Records.{csv_records}
 use Rattle.gl_script.specs.Command.{Asks}
 use Rattle.gl_script.specs.declared.requests.Request.{Request}
 use Rattle.gl_run.specs.Act.{Act}
 use Rattle.gl_run.specs.Changed.{IsChanged, imported_state}
 use Rattle.gl_run.specs.Merged.{IsMerged, TouchesMerged}
 use Rattle.gl_run.specs.Script.{known_of, script_of}
-use Rattle.gl_run.specs.Spends.{Spends, Touches}
+use Rattle.gl_protocol.specs.Run.Spends.{Spends, Touches}
 use Rattle.gl_run.specs.State.{State}
-use Rattle.gl_run.specs.Touched.{touched_by}
+use Rattle.gl_protocol.specs.Run.Touched.{touched_by}
 use Rattle.gl_run.specs.declared.script.Script.{Script}
 
 -- a reply, or no memory

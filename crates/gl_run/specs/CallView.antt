@@ -1,7 +1,7 @@
 -- What the words of a call are read as.
 use Rattle.std.specs.Prelude.{◌≤◌, IfSome}
-use Rattle.gl_calculus.specs.Limits.{max_generated}
-use Rattle.gl_protocol.specs.Words as W
+use Rattle.gl_calculus.specs.Grid.Limits.{max_generated}
+use Rattle.gl_protocol.specs.Run.Words as W
 use Rattle.gl_run.specs.declared.words.Call.{Call}
 
 abbrev pub call_tree : Call → W.Call

@@ -1,10 +1,12 @@
 -- What comes of changes of the sheet and of the state.
 use Rattle.std.specs.Prelude.{◌≡◌, List, [], ◌++◌, Result, Ok, Err}
-use Rattle.gl_calculus.specs.Grid.{Addr}
-use Rattle.gl_calculus.specs.Formula.{Cells}
-use Rattle.gl_language.specs.Text.{Bytes}
-use Rattle.gl_protocol.specs.Commands.{Read, Is, Not, FormulasWord, ContentsWord, allowed, with_contents, error_line, ok_line}
-use Rattle.gl_protocol.specs.Script.{Script, edited, settings}
+use Rattle.gl_calculus.specs.Grid.Grid.{Addr}
+use Rattle.gl_calculus.specs.Formulas.Formula.{Cells}
+use Rattle.gl_language.specs.Texts.Text.{Bytes}
+use Rattle.gl_protocol.specs.Scripts.Commands.{Read, Is, Not, FormulasWord, ContentsWord, allowed, error_line, ok_line}
+use Rattle.gl_calculus.specs.Edits.Sheets.{with_contents}
+use Rattle.gl_protocol.specs.Scripts.Script.{Script, edited}
+use Rattle.gl_calculus.specs.Edits.Sheets.{settings}
 use Rattle.gl_cells.specs.declared.fault.PutFault.{PutFault}
 use Rattle.gl_cells.specs.declared.fault.PutFault.TheVariants as put
 use Rattle.gl_calc.specs.View.{View}

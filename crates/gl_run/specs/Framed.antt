@@ -1,8 +1,8 @@
 -- What a framer says of its items beyond their bytes: a line is no header of an import, and an import has one.
 use Rattle.std.specs.Prelude.{◌≡◌, ⊤, None, IsSome}
-use Rattle.gl_protocol.specs.Header.{payload_len}
-use Rattle.gl_protocol.specs.Framing.{Item, Line, Import, Long, Truncated}
-use Rattle.gl_protocol.specs.Stream.{Stream, nothing, in_line, skipped, in_payload}
+use Rattle.gl_protocol.specs.Framing.Header.{payload_len}
+use Rattle.gl_protocol.specs.Framing.Framing.{Item, Line, Import, Long, Truncated}
+use Rattle.gl_protocol.specs.Framing.Stream.{Stream, nothing, in_line, skipped, in_payload}
 
 abbrev pub IsFramed : Item → Type 0
 IsFramed (Line line) = payload_len line ≡ None

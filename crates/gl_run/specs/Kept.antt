@@ -1,7 +1,7 @@
 -- What every state of a script keeps.
-use Rattle.gl_protocol.specs.Script.{Script}
-use Rattle.gl_replies.specs.States.{IsState}
-use Rattle.gl_replies.specs.Rooms.{IsRoomy}
+use Rattle.gl_protocol.specs.Scripts.Script.{Script}
+use Rattle.laws_protocol.specs.States.{IsState}
+use Rattle.laws_protocol.specs.Rooms.{IsRoomy}
 
 -- Its steps lead back and on, and pass no limit on the way.
 pub record Keeps (s : Script) : Type 0 where

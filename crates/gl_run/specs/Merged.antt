@@ -1,15 +1,15 @@
 -- What comes of an edit of another replica, and what is told of the edits of this one.
 use Rattle.std.specs.Prelude.{◌≡◌, ◌+◌, ◌<◌, ◌≤◌, ◌⊎◌, ⊤, [], ◌∷◌, length, Option, Some, None, IsSome, Result, Ok, Err}
-use Rattle.gl_calculus.specs.Grid.{Addr}
-use Rattle.gl_language.specs.Text.{Bytes}
-use Rattle.gl_edits.specs.Limits.{max_registers}
-use Rattle.gl_edits.specs.Replicas as R
-use Rattle.gl_edits.specs.Replicas.{IsJudged, IsTakeable, missing, register_at, taking}
-use Rattle.gl_protocol.specs.Commands as C
-use Rattle.gl_protocol.specs.Commands.{SiteWord, error_line}
-use Rattle.gl_protocol.specs.Script as P
-use Rattle.gl_protocol.specs.Script.{register_of, merge}
-use Rattle.gl_protocol.specs.Tables.{export_text}
+use Rattle.gl_calculus.specs.Grid.Grid.{Addr}
+use Rattle.gl_language.specs.Texts.Text.{Bytes}
+use Rattle.gl_calculus.specs.Edits.Limits.{max_registers}
+use Rattle.gl_calculus.specs.Edits.Replicas as R
+use Rattle.gl_calculus.specs.Edits.Replicas.{IsJudged, IsTakeable, missing, register_at, taking}
+use Rattle.gl_protocol.specs.Scripts.Commands as C
+use Rattle.gl_protocol.specs.Scripts.Commands.{SiteWord, error_line}
+use Rattle.gl_protocol.specs.Scripts.Script as P
+use Rattle.gl_protocol.specs.Scripts.Script.{register_of, merge}
+use Rattle.gl_protocol.specs.Replies.Tables.{export_text}
 use Rattle.gl_merge.specs.Edit.{EditValue, edit_tree}
 use Rattle.gl_merge.specs.Judging.{judged_tree}
 use Rattle.gl_merge.specs.Replica.{ReplicaValue, registers_of, AreOrdered}
@@ -18,9 +18,9 @@ use Rattle.gl_merge.specs.declared.judging.Judged.{Judged}
 use Rattle.gl_merge.specs.declared.fault.RoomFault.{RoomFault}
 use Rattle.gl_merge.specs.declared.fault.RoomFault.TheVariants as fault
 use Rattle.gl_run.specs.Changed.{IsChanged}
-use Rattle.gl_run.specs.Known.{Known}
-use Rattle.gl_run.specs.Spends.{Touches}
-use Rattle.gl_run.specs.Touched.{touched_by}
+use Rattle.gl_protocol.specs.Run.Known.{Known}
+use Rattle.gl_protocol.specs.Run.Spends.{Touches}
+use Rattle.gl_protocol.specs.Run.Touched.{touched_by}
 use Rattle.gl_run.specs.declared.script.Script.{Script}
 
 -- what an edit leaves, and what is replied, by what it is to the register of its address

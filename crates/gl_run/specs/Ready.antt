@@ -1,12 +1,12 @@
 -- What an edit of the sheet becomes, with all room taken.
 use Rattle.std.specs.Prelude.{◌≡◌, ◌≤◌, ⊤, true, false, List, map, Option, None, Some, Result, Ok, Err}
-use Rattle.gl_calculus.specs.Grid.{Addr, AreInOrder}
-use Rattle.gl_calculus.specs.Formula.{Content, Cells}
-use Rattle.gl_edits.specs.Replicas.{Stamp, Changes, AreOlder, missing, next_stamp, stamped, taking_all, has_room}
-use Rattle.gl_edits.specs.Steps.{step_of, pushed}
-use Rattle.gl_protocol.specs.Commands.{Read, Not, Word, StampWord, EditsWord}
-use Rattle.gl_protocol.specs.Script as P
-use Rattle.gl_protocol.specs.Script.{edited}
+use Rattle.gl_calculus.specs.Grid.Grid.{Addr, AreInOrder}
+use Rattle.gl_calculus.specs.Formulas.Formula.{Content, Cells}
+use Rattle.gl_calculus.specs.Edits.Replicas.{Stamp, Changes, AreOlder, missing, next_stamp, stamped, taking_all, has_room}
+use Rattle.gl_calculus.specs.Edits.Steps.{step_of, pushed}
+use Rattle.gl_protocol.specs.Scripts.Commands.{Read, Not, Word, StampWord, EditsWord}
+use Rattle.gl_protocol.specs.Scripts.Script as P
+use Rattle.gl_protocol.specs.Scripts.Script.{edited}
 use Rattle.gl_calc.specs.View.{sheet_of}
 use Rattle.gl_merge.specs.Edit.{EditValue}
 use Rattle.gl_merge.specs.Index.{trees}

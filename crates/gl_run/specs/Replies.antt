@@ -1,27 +1,27 @@
 -- What parts of the replies say.
 use Rattle.std.specs.Prelude.{◌≡◌, ℕ, ◌+◌, ◌<◌, List, [], ◌++◌, length, flat_map, get_or, Option, Some, None, MatchOption, IsTrue, ⊤}
-use Rattle.gl_calculus.specs.Grid.{Addr, Range, addr, extents}
-use Rattle.gl_calculus.specs.Value.{Oracle}
-use Rattle.gl_calculus.specs.Formula.{Version, Cells}
-use Rattle.gl_calculus.specs.Formula as F
-use Rattle.gl_calculus.specs.Calculation as A
-use Rattle.gl_calculus.specs.Calculation.{IsAnswer, IsShown}
-use Rattle.gl_calculus.specs.Key.{Key, Outcome}
-use Rattle.gl_explanation.specs.Certificate.{verdict}
-use Rattle.gl_explanation.specs.Walk.{Claim}
-use Rattle.gl_language.specs.Text.{Bytes}
-use Rattle.gl_language.specs.Content.{IsProperContent}
-use Rattle.gl_protocol.specs.Commands as C
-use Rattle.gl_protocol.specs.Commands.{Word, Is, ImportWords, IsAddress, NoAddress, ReadsLine, words_of, AreShown, SettledReply, error_line}
-use Rattle.gl_forecast.specs.Forecast.{Forecast, IsForecast}
-use Rattle.gl_protocol.specs.Explanations.{note_line, loop_line, explanation_text, forecast_line}
-use Rattle.gl_protocol.specs.Tables.{line, set_text, edit_text}
-use Rattle.gl_edits.specs.Replicas.{Edit, is_stamp}
+use Rattle.gl_calculus.specs.Grid.Grid.{Addr, Range, addr, extents}
+use Rattle.gl_calculus.specs.Values.Value.{Oracle}
+use Rattle.gl_calculus.specs.Formulas.Formula.{Version, Cells}
+use Rattle.gl_calculus.specs.Formulas.Formula as F
+use Rattle.gl_calculus.specs.Calculation.Calculation as A
+use Rattle.gl_calculus.specs.Calculation.Calculation.{IsAnswer, IsShown}
+use Rattle.gl_calculus.specs.Evaluation.Key.{Key, Outcome}
+use Rattle.gl_calculus.specs.Explanation.Certificate.{verdict}
+use Rattle.gl_calculus.specs.Explanation.Walk.{Claim}
+use Rattle.gl_language.specs.Texts.Text.{Bytes}
+use Rattle.gl_language.specs.Reading.Content.{IsProperContent}
+use Rattle.gl_protocol.specs.Scripts.Commands as C
+use Rattle.gl_protocol.specs.Scripts.Commands.{Word, Is, ImportWords, IsAddress, NoAddress, ReadsLine, words_of, AreShown, SettledReply, error_line}
+use Rattle.gl_calculus.specs.Forecast.{Forecast, IsForecast}
+use Rattle.gl_protocol.specs.Replies.Explanations.{note_line, loop_line, explanation_text, forecast_line}
+use Rattle.gl_protocol.specs.Replies.Tables.{line, set_text, edit_text}
+use Rattle.gl_calculus.specs.Edits.Replicas.{Edit, is_stamp}
 use Rattle.gl_cells.specs.Content.{content_tree}
 use Rattle.gl_cells.specs.declared.fault.PutFault.{PutFault}
 use Rattle.gl_cells.specs.declared.fault.PutFault.TheVariants as put
 use Rattle.gl_calc.specs.View.{View, sheet_of}
-use Rattle.gl_csvin.specs.Import.{csv_records}
+use Rattle.gl_protocol.specs.Run.Records.{csv_records}
 use Rattle.gl_csvin.specs.declared.fault.CsvFault.{CsvFault}
 use Rattle.gl_csvin.specs.declared.fault.CsvFault.TheVariants as csv
 use Rattle.gl_merge.specs.Edit.{IsProperOption}
@@ -29,7 +29,7 @@ use Rattle.gl_script.specs.Command.{Asks}
 use Rattle.gl_script.specs.declared.requests.Request.{Request}
 use Rattle.gl_script.specs.declared.requests.Request.TheVariants as r
 use Rattle.gl_views.specs.Rows.{in_rows}
-use Rattle.gl_run.specs.Spends.{Explaining, Follows}
+use Rattle.gl_protocol.specs.Run.Spends.{Explaining, Follows}
 use Rattle.gl_run.specs.declared.queries.Query.{Query}
 use Rattle.gl_run.specs.declared.queries.Query.TheVariants as q
 

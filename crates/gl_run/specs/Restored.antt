@@ -1,15 +1,15 @@
 -- What is listed of the step that is undone or done again.
 use Rattle.std.specs.Prelude.{◌≡◌, ◌<◌, List, length, Option, None}
-use Rattle.gl_query.specs.Lists.{AreDistinct}
-use Rattle.gl_calculus.specs.Grid.{Addr}
-use Rattle.gl_edits.specs.Steps.{befores, afters}
+use Rattle.gl_calculus.specs.Computation.Lists.{AreDistinct}
+use Rattle.gl_calculus.specs.Grid.Grid.{Addr}
+use Rattle.gl_calculus.specs.Edits.Steps.{befores, afters}
 use Rattle.gl_cells.specs.declared.content.Content.{Content}
 use Rattle.gl_calc.specs.View.{sheet_of}
-use Rattle.gl_replies.specs.Rooms.{HasRoom}
+use Rattle.laws_protocol.specs.Rooms.{HasRoom}
 use Rattle.gl_undo.specs.View.{AreProperChanges, changes_tree, places}
 use Rattle.gl_undo.specs.History.{done, undone}
 use Rattle.gl_run.specs.declared.script.Script.{Script}
-use Rattle.gl_run.specs.Touched.{latest_changes}
+use Rattle.gl_protocol.specs.Run.Touched.{latest_changes}
 
 -- outside a replica, these are what the addresses of the latest step had before it
 pub record StepsBack (x : Script) (cs : List (Addr × Option Content)) : Type 0 where

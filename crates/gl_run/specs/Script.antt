@@ -1,10 +1,10 @@
 -- The plain state that a script of the code stands for.
 use Rattle.std.specs.Prelude.{option_map}
-use Rattle.gl_protocol.specs.Script as P
+use Rattle.gl_protocol.specs.Scripts.Script as P
 use Rattle.gl_calc.specs.View.{sheet_of}
 use Rattle.gl_merge.specs.Replica.{replica_tree}
 use Rattle.gl_undo.specs.History.{history_tree}
-use Rattle.gl_run.specs.Known.{Known}
+use Rattle.gl_protocol.specs.Run.Known.{Known}
 use Rattle.gl_run.specs.declared.script.Script.{Script}
 
 abbrev pub script_of : Script → P.Script

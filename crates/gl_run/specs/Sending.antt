@@ -2,8 +2,9 @@
 -- Of a sink stand here the bytes taken, where these are told, `room`, for which n it tells that it takes so many more bytes, whether its count of failed writes is exact, and that count: at one moment and at a later one.
 use Rattle.std.specs.Prelude.{◌≡◌, ◌++◌, ℕ, ◌<◌, ◌≤◌, ◌-◌, List, length, take, Result, Err, OnOk, IfErr, ◌⊎◌, Option, Some}
 use Rattle.std.specs.Io.KnownBytes.{Appends}
-use Rattle.gl_protocol.specs.Framing.{Item}
-use Rattle.gl_port.specs.Causes.{Rose, Stays}
+use Rattle.gl_protocol.specs.Framing.Framing.{Item}
+use Rattle.gl_protocol.specs.Run.Causes.{Rose}
+use Rattle.gl_port.specs.Causes.{Stays}
 use Rattle.gl_run.specs.Emitted.{Emits}
 use Rattle.gl_run.specs.declared.session.Session.{Session}
 use Rattle.gl_run.specs.declared.session.Stop.{Stop}

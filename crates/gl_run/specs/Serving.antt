@@ -2,8 +2,8 @@
 use Rattle.std.specs.Prelude.{◌≡◌, ℕ, Bool, List, Option, Result, IfOk, IfErr, OnOk}
 use Rattle.std.specs.Option.{option_to_list}
 use Rattle.gl_port.specs.Causes.{Stays}
-use Rattle.gl_protocol.specs.Framing.{Item, has_quit}
-use Rattle.gl_protocol.specs.Stream.{step, closing}
+use Rattle.gl_protocol.specs.Framing.Framing.{Item, has_quit}
+use Rattle.gl_protocol.specs.Framing.Stream.{step, closing}
 use Rattle.gl_script.specs.Framer.{told, stream_at}
 use Rattle.gl_script.specs.declared.framer.Ended.{Ended}
 use Rattle.gl_script.specs.declared.framer.Framer.{Framer}

@@ -1,8 +1,8 @@
 -- The state of a run: what is known of the script, the count of steps, and, once an item has come, the script's version.
 use Rattle.std.specs.Prelude.{ℕ, Option, Some, None, option_map}
-use Rattle.gl_calculus.specs.Formula.{Version}
+use Rattle.gl_calculus.specs.Formulas.Formula.{Version}
 use Rattle.gl_ast.specs.View.{version_tree}
-use Rattle.gl_run.specs.Known.{Known, new_known}
+use Rattle.gl_protocol.specs.Run.Known.{Known, new_known}
 use Rattle.gl_run.specs.Script.{known_of}
 use Rattle.gl_run.specs.declared.session.Session.{Session}
 

@@ -1,9 +1,11 @@
 //! The replies to the items of a script.
 ghost use Rattle.std.specs.Prelude.{◌≡◌, None, IfOk, codes};
-ghost use Rattle.gl_protocol.specs.Commands.{LineWord, TruncatedWord, error_line};
-ghost use Rattle.gl_protocol.specs.{Framing.Line, Header.payload_len, Output.is_line};
+ghost use Rattle.gl_protocol.specs.Scripts.Commands.{LineWord, TruncatedWord, error_line};
+ghost use Rattle.gl_protocol.specs.Framing.Framing.{Line};
+ghost use Rattle.gl_protocol.specs.Framing.Header.{payload_len};
+ghost use Rattle.gl_protocol.specs.Scripts.Output.{is_line};
 ghost use Rattle.gl_ast.specs.View.{version_tree};
-ghost use Rattle.gl_order.specs.Rule.{PicksBelow};
+ghost use Rattle.gl_calculus.specs.Steps.Rule.{PicksBelow};
 ghost use Rattle.gl_run.specs.Replies.{IsNoQuery, IsProperRequest, IsQueryOf};
 ghost use Rattle.gl_run.specs.Answering.{StaysOnErr, ActsOn, SpendsOn, ActsOnLines, SpendsOnLines};
 ghost use Rattle.gl_run.specs.Answering.{SpendsNothing};

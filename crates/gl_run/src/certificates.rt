@@ -1,11 +1,12 @@
 //! The text of an explanation.
 ghost use Rattle.std.specs.Prelude.{◌≡◌, ◌++◌, codes, map, IfOk, OnOk};
 ghost use Rattle.std.specs.{Fmt.decimal, String.string_bytes};
-ghost use Rattle.gl_calculus.specs.Key as K;
-ghost use Rattle.gl_language.specs.Text as text;
-ghost use Rattle.gl_protocol.specs.Explanations.{key_text, outcome_text, verdict_text, note_line};
-ghost use Rattle.gl_protocol.specs.Explanations.{loop_line, explanation_text};
-ghost use Rattle.gl_protocol.specs.Tables.{line};
+ghost use Rattle.gl_calculus.specs.Evaluation.Key as K;
+ghost use Rattle.gl_language.specs.Texts.Text as text;
+ghost use Rattle.gl_protocol.specs.Replies.Explanations.{key_text, outcome_text, verdict_text};
+ghost use Rattle.gl_protocol.specs.Replies.Explanations.{note_line};
+ghost use Rattle.gl_protocol.specs.Replies.Explanations.{loop_line, explanation_text};
+ghost use Rattle.gl_protocol.specs.Replies.Tables.{line};
 ghost use Rattle.gl_cert.specs.{Claims.claim_trees, View.cert_tree, View.verdict_tree};
 ghost use Rattle.gl_demand.specs.View.{key_tree, outcome_tree};
 ghost use Rattle.gl_value.specs.View.{frame_tree, scalar_tree, sheet_tree, value_tree};

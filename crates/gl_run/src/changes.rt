@@ -1,9 +1,9 @@
 //! Lists of what edits of the sheet change.
 ghost use Rattle.std.specs.Prelude.{◌≡◌, ◌∷◌, [], Some, IfOk};
 ghost use Rattle.std.specs.Option.{option_copied};
-ghost use Rattle.gl_language.specs.Content.{IsProperContent};
-ghost use Rattle.gl_calculus.specs.Grid.{AreInOrder};
-ghost use Rattle.gl_protocol.specs.Script.{settings, removals};
+ghost use Rattle.gl_language.specs.Reading.Content.{IsProperContent};
+ghost use Rattle.gl_calculus.specs.Grid.Grid.{AreInOrder};
+ghost use Rattle.gl_calculus.specs.Edits.Sheets.{settings, removals};
 ghost use Rattle.gl_cells.specs.{Content.content_tree, Sheet.sheet, Sheet.AreProper};
 ghost use Rattle.gl_undo.specs.View.{AreProperChanges, IsShared, changes_tree};
 ghost use Rattle.gl_run.specs.Ready.{places};

@@ -1,8 +1,8 @@
 //! Edits of the sheet.
 ghost use Rattle.std.specs.Prelude.{◌∷◌, [], Some, IfOk};
-ghost use Rattle.gl_language.specs.Content.{IsProperContent};
-ghost use Rattle.gl_protocol.specs.Script.{removals};
-ghost use Rattle.gl_protocol.specs.Commands as C;
+ghost use Rattle.gl_language.specs.Reading.Content.{IsProperContent};
+ghost use Rattle.gl_calculus.specs.Edits.Sheets.{removals};
+ghost use Rattle.gl_protocol.specs.Scripts.Commands as C;
 ghost use Rattle.gl_cells.specs.Content.{content_tree};
 ghost use Rattle.gl_calc.specs.View.{sheet_of};
 ghost use Rattle.gl_run.specs.{Ready.IsReady, Replies.IsRefusal, Replies.put_word};

@@ -1,17 +1,18 @@
 //! Why an address shows what it shows.
 ghost use Rattle.std.specs.Prelude.{◌≡◌, ◌≤◌, ◌+◌, ℕ, Some, length, map, IfOk};
-ghost use Rattle.gl_calculus.specs.{Calculation.IsAnswer, Value.Oracle};
-ghost use Rattle.gl_calculus.specs.Calculation as A;
-ghost use Rattle.gl_explanation.specs.Certificate.{verdict};
-ghost use Rattle.gl_protocol.specs.Explanations.{explanation_text};
-ghost use Rattle.gl_protocol.specs.Commands as C;
+ghost use Rattle.gl_calculus.specs.Calculation.Calculation.{IsAnswer};
+ghost use Rattle.gl_calculus.specs.Values.Value.{Oracle};
+ghost use Rattle.gl_calculus.specs.Calculation.Calculation as A;
+ghost use Rattle.gl_calculus.specs.Explanation.Certificate.{verdict};
+ghost use Rattle.gl_protocol.specs.Replies.Explanations.{explanation_text};
+ghost use Rattle.gl_protocol.specs.Scripts.Commands as C;
 ghost use Rattle.gl_ast.specs.View.{version_tree};
 ghost use Rattle.gl_calc.specs.View.{sheet_of};
 ghost use Rattle.gl_cells.specs.Sheet.{sheet};
 ghost use Rattle.gl_cert.specs.View.{cert_tree};
 ghost use Rattle.gl_demand.specs.Sound.{AreSoundKeys};
 ghost use Rattle.gl_run.specs.Replies.{Holds, RepliesBy, IsExplanation};
-ghost use Rattle.gl_run.specs.Spends.{Explaining};
+ghost use Rattle.gl_protocol.specs.Run.Spends.{Explaining};
 
 use crate::certificates::explanation;
 use gl_ast::Version;

@@ -1,7 +1,7 @@
 //! The reply that tells the edits of a replica.
 ghost use Rattle.std.specs.Prelude.{◌≡◌, ◌++◌, Some, IfOk, OnOk, option_map};
 ghost use Rattle.std.specs.{Option.option_copied, String.string_bytes};
-ghost use Rattle.gl_protocol.specs.Tables.{line, edit_text, export_text, text_behind_place};
+ghost use Rattle.gl_protocol.specs.Replies.Tables.{line, edit_text, export_text, text_behind_place};
 ghost use Rattle.gl_cells.specs.Content.{content_tree};
 ghost use Rattle.gl_merge.specs.{Edit.edit_tree, Replica.registers_of};
 ghost use Rattle.gl_run.specs.{Merged.IsExport, Replies.edit_lines, Script.script_of};

@@ -1,7 +1,8 @@
 //! Whether the calculation surely settles.
 ghost use Rattle.std.specs.Prelude.{◌≡◌, ◌++◌, IfOk, codes};
 ghost use Rattle.std.specs.Fmt.{decimal};
-ghost use Rattle.gl_protocol.specs.{Explanations.forecast_line, Tables.line};
+ghost use Rattle.gl_protocol.specs.Replies.Explanations.{forecast_line};
+ghost use Rattle.gl_protocol.specs.Replies.Tables.{line};
 ghost use Rattle.gl_cells.specs.Sheet.{sheet};
 ghost use Rattle.gl_flow.specs.View.{forecast_tree};
 ghost use Rattle.gl_run.specs.Replies.{TellsForecast};

@@ -1,10 +1,10 @@
 //! The generated script.
 ghost use Rattle.std.specs.Prelude.{◌≡◌, ◌≤◌, ◌++◌, IfOk, OnOk, codes, length};
 ghost use Rattle.std.specs.{Fmt.decimal, String.string_bytes};
-ghost use Rattle.gl_calculus.specs.Limits.{max_generated};
-ghost use Rattle.gl_protocol.specs.Output.{row_number, generated_payload, recursion_line};
-ghost use Rattle.gl_protocol.specs.Output.{generated};
-ghost use Rattle.gl_protocol.specs.Tables.{line};
+ghost use Rattle.gl_calculus.specs.Grid.Limits.{max_generated};
+ghost use Rattle.gl_protocol.specs.Scripts.Output.{row_number, generated_payload, recursion_line};
+ghost use Rattle.gl_protocol.specs.Scripts.Output.{generated};
+ghost use Rattle.gl_protocol.specs.Replies.Tables.{line};
 
 use gl_ast::{put, put_number};
 use gl_plane::NoMemory;

@@ -1,14 +1,18 @@
 //! Imports.
 ghost use Rattle.std.specs.Prelude.{ℕ, Some, IfOk, IsSome};
-ghost use Rattle.gl_calculus.specs.Formula.{Version as PlainVersion, IsSheet};
-ghost use Rattle.gl_language.specs.Text.{Bytes};
-ghost use Rattle.gl_protocol.specs.{Acts.Acts, Script.settings, Framing.Import, Header.payload_len};
+ghost use Rattle.gl_calculus.specs.Formulas.Formula.{Version as PlainVersion, IsSheet};
+ghost use Rattle.gl_language.specs.Texts.Text.{Bytes};
+ghost use Rattle.gl_protocol.specs.Scripts.Acts.{Acts};
+ghost use Rattle.gl_protocol.specs.Framing.Framing.{Import};
+ghost use Rattle.gl_protocol.specs.Framing.Header.{payload_len};
+ghost use Rattle.gl_calculus.specs.Edits.Sheets.{settings};
 ghost use Rattle.gl_cells.specs.Sheet.{sheet, AreProper};
-ghost use Rattle.gl_csvin.specs.Import.{csv_records};
+ghost use Rattle.gl_protocol.specs.Run.Records.{csv_records};
 ghost use Rattle.gl_script.specs.Command.{Asks};
 ghost use Rattle.gl_run.specs.Replies.{HasPlace, IsRefusal, csv_word};
 ghost use Rattle.gl_run.specs.{Kept.IsKept, Ready.IsReady, Script.known_of, Script.script_of};
-ghost use Rattle.gl_run.specs.{Spends.Spends, Answering.StaysOnErr, Answering.Imports};
+ghost use Rattle.gl_run.specs.{Answering.StaysOnErr, Answering.Imports};
+ghost use Rattle.gl_protocol.specs.Run.Spends.{Spends};
 
 use crate::changes::settings;
 use crate::edits::put_refusal;

@@ -1,7 +1,7 @@
 //! Replies of one line.
 ghost use Rattle.std.specs.Prelude.{◌≡◌, ◌++◌, IfOk, codes};
-ghost use Rattle.gl_calculus.specs.Notation.{address_text};
-ghost use Rattle.gl_protocol.specs.Tables.{line};
+ghost use Rattle.gl_calculus.specs.Grid.Notation.{address_text};
+ghost use Rattle.gl_protocol.specs.Replies.Tables.{line};
 
 use gl_ast::{put, put_address};
 use gl_plane::{Addr, NoMemory};

@@ -1,10 +1,10 @@
 //! The replies that tell contents.
 ghost use Rattle.std.specs.Prelude.{◌≡◌, ◌++◌, IfOk, OnOk};
 ghost use Rattle.std.specs.String.{string_bytes};
-ghost use Rattle.gl_calculus.specs.Formula.{content};
-ghost use Rattle.gl_language.specs.Text as text;
-ghost use Rattle.gl_protocol.specs.Commands.{get_text, list_text, version_lines};
-ghost use Rattle.gl_protocol.specs.Tables.{line, set_text};
+ghost use Rattle.gl_calculus.specs.Formulas.Formula.{content};
+ghost use Rattle.gl_language.specs.Texts.Text as text;
+ghost use Rattle.gl_protocol.specs.Scripts.Commands.{get_text, list_text, version_lines};
+ghost use Rattle.gl_protocol.specs.Replies.Tables.{line, set_text};
 ghost use Rattle.gl_ast.specs.View.{version_tree};
 ghost use Rattle.gl_cells.specs.{Content.content_tree, Sheet.sheet};
 ghost use Rattle.gl_run.specs.Replies.{set_line, set_lines};

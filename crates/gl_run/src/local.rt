@@ -1,7 +1,7 @@
 //! What an edit of the sheet becomes: a step that can be undone, or edits of the replica.
 ghost use Rattle.std.specs.Prelude.{◌≡◌, Some, IfOk};
-ghost use Rattle.gl_calculus.specs.Grid.{AreInOrder};
-ghost use Rattle.gl_edits.specs.Replicas.{stamped, taking_all};
+ghost use Rattle.gl_calculus.specs.Grid.Grid.{AreInOrder};
+ghost use Rattle.gl_calculus.specs.Edits.Replicas.{stamped, taking_all};
 ghost use Rattle.gl_merge.specs.{Index.trees, Replica.AreOrdered, Replica.replica_tree};
 ghost use Rattle.gl_undo.specs.View.{AreProperChanges, changes_tree};
 ghost use Rattle.gl_undo.specs.View as undo;

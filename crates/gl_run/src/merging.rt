@@ -1,15 +1,16 @@
 //! Replicas: how a script becomes one, and the edits that it takes.
 ghost use Rattle.std.specs.Prelude.{◌≡◌, IsTrue, IsSome, option_map};
-ghost use Rattle.gl_edits.specs.Replicas.{is_stamp};
-ghost use Rattle.gl_protocol.specs.Script.{allowed_change};
-ghost use Rattle.gl_protocol.specs.Commands as C;
+ghost use Rattle.gl_calculus.specs.Edits.Replicas.{is_stamp};
+ghost use Rattle.gl_protocol.specs.Scripts.Script.{allowed_change};
+ghost use Rattle.gl_protocol.specs.Scripts.Commands as C;
 ghost use Rattle.gl_cells.specs.Content.{content_tree};
 ghost use Rattle.gl_calc.specs.View.{sheet_of};
 ghost use Rattle.gl_merge.specs.Edit.{IsProperOption, edit_tree};
 ghost use Rattle.gl_script.specs.Command.{edit_of};
 ghost use Rattle.gl_run.specs.Changed.{Marks, Puts, marked_by};
 ghost use Rattle.gl_run.specs.Merged.{CanTakeOne, HasRoom, IsKnown, IsLater, Judges, Rooms, Takes};
-ghost use Rattle.gl_run.specs.{Script.known_of, Script.script_of, Touched.touched_by_one};
+ghost use Rattle.gl_run.specs.{Script.known_of, Script.script_of};
+ghost use Rattle.gl_protocol.specs.Run.Touched.{touched_by_one};
 ghost use Rattle.gl_run.specs.{Answering.DoesRequest, Answering.Merges};
 
 use crate::changes::shared;

@@ -1,18 +1,21 @@
 //! The replies to what asks for the calculation.
 ghost use Rattle.std.specs.Prelude.{◌≡◌, ◌++◌, ℕ, IfOk, IsSome, codes};
 ghost use Rattle.std.specs.Fmt.{decimal};
-ghost use Rattle.gl_calculus.specs.Calculation.{Blocked};
-ghost use Rattle.gl_language.specs.Text as text;
-ghost use Rattle.gl_protocol.specs.{Acts.Does, Commands.why_text, Tables.line};
-ghost use Rattle.gl_protocol.specs.Commands as C;
+ghost use Rattle.gl_calculus.specs.Calculation.Calculation.{Blocked};
+ghost use Rattle.gl_language.specs.Texts.Text as text;
+ghost use Rattle.gl_protocol.specs.Scripts.Acts.{Does};
+ghost use Rattle.gl_protocol.specs.Scripts.Commands.{why_text};
+ghost use Rattle.gl_protocol.specs.Replies.Tables.{line};
+ghost use Rattle.gl_protocol.specs.Scripts.Commands as C;
 ghost use Rattle.gl_ast.specs.View.{version_tree};
 ghost use Rattle.gl_grant.specs.Obstacle.{obstacle_tree};
-ghost use Rattle.gl_order.specs.Rule.{PicksBelow};
+ghost use Rattle.gl_calculus.specs.Steps.Rule.{PicksBelow};
 ghost use Rattle.gl_value.specs.Made.{shown_tree};
 ghost use Rattle.gl_calc.specs.{Answers.spent_tree, Why.why_tree, Engine.rule_in};
-ghost use Rattle.gl_csvin.specs.Import.{csv_records};
+ghost use Rattle.gl_protocol.specs.Run.Records.{csv_records};
 ghost use Rattle.gl_run.specs.Replies.{FollowsBy, Holds, RepliesBy, query_tree};
-ghost use Rattle.gl_run.specs.{Script.known_of, Script.script_of, Spends.SpendsAsked};
+ghost use Rattle.gl_run.specs.{Script.known_of, Script.script_of};
+ghost use Rattle.gl_protocol.specs.Run.Spends.{SpendsAsked};
 
 use crate::explaining::explain;
 use crate::lines::{address_line, text_line};

@@ -1,6 +1,6 @@
 //! The words of refusals.
 ghost use Rattle.std.specs.Prelude.{◌≡◌, IfOk, option_map};
-ghost use Rattle.gl_protocol.specs.Commands.{word_text};
+ghost use Rattle.gl_protocol.specs.Scripts.Commands.{word_text};
 ghost use Rattle.gl_script.specs.Command.{parse_word, word_of};
 ghost use Rattle.gl_run.specs.Replies.{IsRefusal};
 

@@ -1,6 +1,7 @@
 //! The state of a script.
 ghost use Rattle.std.specs.Prelude.{◌≡◌, IfOk};
-ghost use Rattle.gl_run.specs.{Known.new_known, Script.known_of};
+ghost use Rattle.gl_run.specs.{Script.known_of};
+ghost use Rattle.gl_protocol.specs.Run.Known.{new_known};
 
 use gl_calc::Calc;
 use gl_merge::Replica;

@@ -1,7 +1,7 @@
 //! What the addresses of a range show.
 ghost use Rattle.std.specs.Prelude.{◌≡◌, ◌≤◌, ◌*◌, ℕ, length, map, IfOk, OnOk, IsSome};
-ghost use Rattle.gl_calculus.specs.Grid.{extents};
-ghost use Rattle.gl_protocol.specs.Commands as C;
+ghost use Rattle.gl_calculus.specs.Grid.Grid.{extents};
+ghost use Rattle.gl_protocol.specs.Scripts.Commands as C;
 ghost use Rattle.gl_value.specs.Made.{shown_tree};
 ghost use Rattle.gl_run.specs.Replies.{AreShownIn, IsRowShown, IsShownIn, RepliesBy};
 

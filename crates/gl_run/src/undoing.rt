@@ -1,16 +1,17 @@
 //! Steps that are undone, and done again.
 ghost use Rattle.std.specs.Prelude.{◌≡◌, ◌++◌, [], IfOk, OnOk, OnErr, option_map};
-ghost use Rattle.gl_query.specs.Lists.{AreDistinct};
-ghost use Rattle.gl_calculus.specs.Formula.{IsSheet};
-ghost use Rattle.gl_protocol.specs.Script.{with_changes, and_content, coming};
-ghost use Rattle.gl_protocol.specs.Commands as C;
+ghost use Rattle.gl_calculus.specs.Computation.Lists.{AreDistinct};
+ghost use Rattle.gl_calculus.specs.Formulas.Formula.{IsSheet};
+ghost use Rattle.gl_calculus.specs.Edits.Sheets.{with_changes, and_content, coming};
+ghost use Rattle.gl_protocol.specs.Scripts.Commands as C;
 ghost use Rattle.gl_cells.specs.{Sheet.sheet, Sheet.AreProper, Content.content_tree};
 ghost use Rattle.gl_calc.specs.View.{sheet_of};
 ghost use Rattle.gl_undo.specs.View.{AreProperChanges, IsProperOption, changes_tree, places};
-ghost use Rattle.gl_run.specs.Touched.{and_address, going, cleared, without_these, touched_by_all};
+ghost use Rattle.gl_protocol.specs.Run.Touched.{and_address, going, cleared, without_these};
+ghost use Rattle.gl_protocol.specs.Run.Touched.{touched_by_all};
 ghost use Rattle.gl_run.specs.{Changed.Marks, Kept.IsKept, Restored.StepsBack};
 ghost use Rattle.gl_run.specs.{Restored.StepsForward, Script.script_of, Answering.DoesRequest};
-ghost use Rattle.gl_replies.specs.Rooms.{HasRoom};
+ghost use Rattle.laws_protocol.specs.Rooms.{HasRoom};
 
 use crate::changes::{Change, Parts};
 use crate::lines::{error_line, text_line};

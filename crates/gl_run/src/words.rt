@@ -1,10 +1,11 @@
 //! The words with which the program is called.
 ghost use Rattle.std.specs.Prelude.{◌≡◌, ◌≤◌, ◌==◌, ◌&&◌, ◌||◌, nat_lt, nat_le, slice_index, Some};
 ghost use Rattle.std.specs.Prelude.{None, IfSome, option_map, if◌then◌else◌};
-ghost use Rattle.gl_calculus.specs.Limits.{max_generated};
-ghost use Rattle.gl_protocol.specs.Words.{kind_of, size_of, order_pair, gen_pair, then_pair};
-ghost use Rattle.gl_protocol.specs.Words.{or_else, plain_call};
-ghost use Rattle.gl_run.specs.{Call.words_call, CallView.call_tree, CallView.IsPossible};
+ghost use Rattle.gl_calculus.specs.Grid.Limits.{max_generated};
+ghost use Rattle.gl_protocol.specs.Run.Words.{kind_of, size_of, order_pair, gen_pair, then_pair};
+ghost use Rattle.gl_protocol.specs.Run.Words.{or_else, plain_call};
+ghost use Rattle.gl_run.specs.{CallView.call_tree, CallView.IsPossible};
+ghost use Rattle.gl_protocol.specs.Run.Call.{words_call};
 
 /// The most rows of the generated script.
 pub const MAX_GENERATED: u32 = 1600;

@@ -1,8 +1,8 @@
 -- The operators on numbers are one form with four rules.
 use Rattle.std.proofs.Common.{◌≡◌, IsTrue, refl}
-use Rattle.gl_calculus.specs.Operators as O
-use Rattle.gl_calculus.specs.Formula as F
-use Rattle.gl_calculus.specs.Value as V
+use Rattle.gl_calculus.specs.Values.Operators as O
+use Rattle.gl_calculus.specs.Formulas.Formula as F
+use Rattle.gl_calculus.specs.Values.Value as V
 use Rattle.gl_scalar.specs.Rules.{is_arithmetic, calculated}
 
 pub operate_is : (op : F.Op) (x y : V.Scalar) → IsTrue (is_arithmetic op) → O.operate op x y ≡ O.numeric (calculated op) x y

@@ -2,9 +2,9 @@
 use Rattle.std.proofs.Common.{◌≡◌, ℤ, pos, negsuc, arith, Some, None, sym, SomeIff, FitsSigned}
 use Rattle.std.proofs.lemmas.Bool.Decides.{nat_tests}
 use Rattle.std.specs.Int.{w64}
-use Rattle.gl_calculus.specs.Operators as O
-use Rattle.gl_calculus.specs.Value as V
-use Rattle.gl_calculus.specs.ErrKind.{ErrKind}
+use Rattle.gl_calculus.specs.Values.Operators as O
+use Rattle.gl_calculus.specs.Values.Value as V
+use Rattle.gl_calculus.specs.Values.ErrKind.{ErrKind}
 
 fits : (z : ℤ) → FitsSigned w64 z → O.exact z ≡ V.Scalar.Int z
 fits (pos n) h = grind (arith, nat_tests)

@@ -2,10 +2,10 @@
 use Rattle.std.specs.Prelude.{◌≡◌, ℤ, ◌+ℤ◌, ◌-ℤ◌, ◌*ℤ◌, Bool, true, false, Option, Some, None}
 use Rattle.std.specs.declared.cmp.Ordering.{Ordering}
 use Rattle.std.specs.declared.cmp.Ordering.TheVariants.{Less, Equal, Greater}
-use Rattle.gl_calculus.specs.ErrKind.{ErrKind}
-use Rattle.gl_calculus.specs.Formula.{Op, Add, Sub, Mul, Div}
-use Rattle.gl_calculus.specs.Value.{Scalar}
-use Rattle.gl_calculus.specs.Operators.{exact, quotient, below, equal}
+use Rattle.gl_calculus.specs.Values.ErrKind.{ErrKind}
+use Rattle.gl_calculus.specs.Formulas.Formula.{Op, Add, Sub, Mul, Div}
+use Rattle.gl_calculus.specs.Values.Value.{Scalar}
+use Rattle.gl_calculus.specs.Values.Operators.{exact, quotient, below, equal}
 
 -- an operator on numbers
 abbrev pub is_arithmetic : Op → Bool

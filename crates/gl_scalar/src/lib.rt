@@ -11,8 +11,8 @@ mod texts;
 
 ghost use Rattle.std.specs.Prelude.{◌≡◌, IsTrue, IfOk};
 ghost use Rattle.gl_ast.specs.View.{op_tree};
-ghost use Rattle.gl_calculus.specs.Sound.{is_sound_scalar};
-ghost use Rattle.gl_calculus.specs.Operators as O;
+ghost use Rattle.gl_calculus.specs.Evaluation.Sound.{is_sound_scalar};
+ghost use Rattle.gl_calculus.specs.Values.Operators as O;
 ghost use Rattle.gl_value.specs.View.{scalar_tree};
 ghost use Rattle.gl_scalar.specs.Rules.{is_arithmetic};
 

@@ -2,7 +2,7 @@
 ghost use Rattle.std.specs.Prelude.{◌≡◌, ℤ, FitsSigned, SomeIff};
 ghost use Rattle.std.specs.Int.{w64};
 ghost use Rattle.gl_ast.specs.View.{op_tree};
-ghost use Rattle.gl_calculus.specs.Operators as O;
+ghost use Rattle.gl_calculus.specs.Values.Operators as O;
 ghost use Rattle.gl_value.specs.View.{scalar_tree};
 ghost use Rattle.gl_scalar.specs.Rules.{calculated};
 

@@ -1,7 +1,7 @@
 //! What operators, and functions on scalars, read of their operands.
 ghost use Rattle.std.specs.Prelude.{◌≡◌, option_map};
-ghost use Rattle.gl_calculus.specs.Operators as O;
-ghost use Rattle.gl_calculus.specs.Value as V;
+ghost use Rattle.gl_calculus.specs.Values.Operators as O;
+ghost use Rattle.gl_calculus.specs.Values.Value as V;
 ghost use Rattle.gl_value.specs.View.{scalar_tree, error_tree};
 ghost use Rattle.gl_scalar.specs.Rules.{unless_fault};
 

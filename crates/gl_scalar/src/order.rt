@@ -1,8 +1,8 @@
 //! The order of scalars.
 ghost use Rattle.std.specs.Prelude.{◌≡◌};
 ghost use Rattle.gl_ast.specs.View.{op_tree};
-ghost use Rattle.gl_calculus.specs.Operators as O;
-ghost use Rattle.gl_calculus.specs.Value as V;
+ghost use Rattle.gl_calculus.specs.Values.Operators as O;
+ghost use Rattle.gl_calculus.specs.Values.Value as V;
 ghost use Rattle.gl_value.specs.View.{scalar_tree};
 ghost use Rattle.gl_scalar.specs.Rules.{Stands};
 

@@ -1,8 +1,8 @@
 //! Plain texts.
 ghost use Rattle.std.specs.Prelude.{◌≡◌, ◌++◌, IsTrue, IfOk, OnOk};
 ghost use Rattle.std.specs.{Fmt.signed_decimal, String.string_bytes};
-ghost use Rattle.gl_calculus.specs.Sound.{is_sound_scalar};
-ghost use Rattle.gl_calculus.specs.Operators as O;
+ghost use Rattle.gl_calculus.specs.Evaluation.Sound.{is_sound_scalar};
+ghost use Rattle.gl_calculus.specs.Values.Operators as O;
 ghost use Rattle.gl_value.specs.View.{scalar_tree};
 
 use gl_plane::NoMemory;

@@ -1,10 +1,10 @@
 -- What a feed says after a byte is what the stream does.
 use Rattle.std.proofs.Common.{◌≡◌, ℕ, Bool, true, false, cond, eqb, ltb, leb, List, [], ◌∷◌, ◌++◌, ◌-◌, length, Option, None, Some, refl, ap, sym, subst, ◌∙◌, zero, suc, arith}
 use Rattle.std.proofs.lemmas.Bool.Decides.{nat_tests}
-use Rattle.gl_protocol.specs.Header.{payload_len}
-use Rattle.gl_calculus.specs.Limits.{max_line}
-use Rattle.gl_protocol.specs.Framing.{Item, Kind, past_limit, plain, header, last_item, kind_by, kind_of, drop_cr}
-use Rattle.gl_protocol.specs.Stream.{Stream, nothing, in_line, skipped, in_payload, step, step_line, close_by, closing}
+use Rattle.gl_protocol.specs.Framing.Header.{payload_len}
+use Rattle.gl_calculus.specs.Grid.Limits.{max_line}
+use Rattle.gl_protocol.specs.Framing.Framing.{Item, Kind, past_limit, plain, header, last_item, kind_by, kind_of, drop_cr}
+use Rattle.gl_protocol.specs.Framing.Stream.{Stream, nothing, in_line, skipped, in_payload, step, step_line, close_by, closing}
 use Rattle.gl_script.specs.Feed.{Begun, idle, some_line, skipping, some_payload, Seen, quiet, line_done, line_pushed, pushed, finished}
 use Rattle.gl_script.specs.FeedView.{begun_of, piece_of, seen_of}
 use Rattle.gl_script.specs.Framer.{stream_by, told}

@@ -3,14 +3,14 @@ use Rattle.std.proofs.Common.{◌≡◌, ◌∙◌, ℕ, ◌<◌, Bool, true, fa
 use Rattle.std.specs.Prelude.{MatchOption, ◌==◌}
 use Rattle.std.specs.Str.{is_utf8}
 use Rattle.std.proofs.lemmas.Bool.Decides.{nat_tests}
-use Rattle.gl_calculus.specs.Grid.{Addr}
-use Rattle.gl_calculus.specs.Limits.{max_payload}
-use Rattle.gl_language.specs.Text.{Bytes}
-use Rattle.gl_language.specs.Token.{digits_value}
-use Rattle.gl_protocol.specs.Pieces.{pieces, is_number}
-use Rattle.gl_protocol.specs.Header.{payload_len, count_of, count_by}
-use Rattle.gl_protocol.specs.Commands as C
-use Rattle.gl_protocol.specs.Commands.{Read, ReadsLine, ReadsWords, IsAddress, NoAddress, ImportWords, words_of, words_of_pieces, is_comment}
+use Rattle.gl_calculus.specs.Grid.Grid.{Addr}
+use Rattle.gl_calculus.specs.Grid.Limits.{max_payload}
+use Rattle.gl_language.specs.Texts.Text.{Bytes}
+use Rattle.gl_language.specs.Reading.Token.{digits_value}
+use Rattle.gl_protocol.specs.Framing.Pieces.{pieces, is_number}
+use Rattle.gl_protocol.specs.Framing.Header.{payload_len, count_of, count_by}
+use Rattle.gl_protocol.specs.Scripts.Commands as C
+use Rattle.gl_protocol.specs.Scripts.Commands.{Read, ReadsLine, ReadsWords, IsAddress, NoAddress, ImportWords, words_of, words_of_pieces, is_comment}
 use Rattle.gl_script.specs.Command.{IsHeader}
 use Rattle.gl_script.proofs.Headers.{first_piece}
 use Rattle.gl_script.proofs.Says.{Says, says}

@@ -6,16 +6,17 @@ use Rattle.std.specs.List.{AllByRecursion}
 use Rattle.std.specs.Str.{IsUtf8, is_utf8}
 use Rattle.std.proofs.lemmas.Bool.Decides.{nat_tests}
 use Rattle.std.proofs.lemmas.Str.{is_utf8-from_IsUtf8}
-use Rattle.gl_calculus.specs.Limits.{max_text}
-use Rattle.gl_calculus.specs.Value as V
-use Rattle.gl_calculus.specs.Formula.{Formula, Const, Form}
-use Rattle.gl_language.specs.Text.{Bytes}
-use Rattle.gl_language.specs.Token as T
-use Rattle.gl_language.specs.Token.{Token, Reads, Spells, Decodes, IsToken}
-use Rattle.gl_language.specs.Grammar.{Parses, IsWellFormed}
-use Rattle.gl_language.specs.Content.{IsProperContent}
-use Rattle.gl_protocol.specs.Commands as C
-use Rattle.gl_protocol.specs.Commands.{Is, Not, ReadsContent, plain_scalar}
+use Rattle.gl_calculus.specs.Grid.Limits.{max_text}
+use Rattle.gl_calculus.specs.Values.Value as V
+use Rattle.gl_calculus.specs.Formulas.Formula.{Formula, Const, Form}
+use Rattle.gl_language.specs.Texts.Text.{Bytes}
+use Rattle.gl_language.specs.Reading.Token as T
+use Rattle.gl_language.specs.Reading.Token.{Token, Reads, Spells, Decodes, IsToken}
+use Rattle.gl_language.specs.Reading.Grammar.{Parses, IsWellFormed}
+use Rattle.gl_language.specs.Reading.Content.{IsProperContent}
+use Rattle.gl_protocol.specs.Scripts.Commands as C
+use Rattle.gl_protocol.specs.Scripts.Commands.{Is, Not, ReadsContent}
+use Rattle.gl_language.specs.Texts.Plain.{plain_scalar}
 use Rattle.gl_lex.specs.declared.fault.LexFault.TheVariants as lex
 use Rattle.gl_parse.specs.Outcome.{IsRefused}
 use Rattle.gl_parse.specs.declared.fault.ParseFault.{ParseFault}

@@ -3,9 +3,9 @@ use Rattle.std.proofs.Common.{◌≡◌, ◌∙◌, ℕ, zero, suc, ◌+◌, ◌
 use Rattle.std.specs.Str.{IsUtf8, IsAscii}
 use Rattle.std.proofs.lemmas.Bool.Decides.{nat_tests}
 use Rattle.std.proofs.lemmas.Str.{IsUtf8-take, IsUtf8-drop, IsCharBoundary-before_ascii, IsCharBoundary-after_ascii, IsUtf8-append, IsUtf8-from_ascii}
-use Rattle.gl_language.specs.Text.{Bytes, hex_digit}
-use Rattle.gl_language.specs.Token.{IsHexDigit, Decodes}
-use Rattle.gl_language.specs.Token as T
+use Rattle.gl_language.specs.Texts.Text.{Bytes, hex_digit}
+use Rattle.gl_language.specs.Reading.Token.{IsHexDigit, Decodes}
+use Rattle.gl_language.specs.Reading.Token as T
 
 -- ---- cuts beside an ASCII byte
 

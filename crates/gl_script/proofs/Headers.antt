@@ -9,11 +9,11 @@ use Rattle.std.specs.Str.Parse.{ParsesUnsigned}
 use Rattle.std.proofs.lemmas.Bool.Decides.{nat_tests}
 use Rattle.std.proofs.lemmas.Result.{OkIff-at_ok}
 use Rattle.std.proofs.lemmas.Str.Parse.{IsNumeralModel, numerals_by_fold, parse_digits}
-use Rattle.gl_calculus.specs.Limits.{max_payload}
-use Rattle.gl_language.specs.Text.{Bytes}
-use Rattle.gl_language.specs.Token.{is_digit, digits_value}
-use Rattle.gl_protocol.specs.Pieces.{pieces, is_number}
-use Rattle.gl_protocol.specs.Header.{payload_len, count_of, count_by}
+use Rattle.gl_calculus.specs.Grid.Limits.{max_payload}
+use Rattle.gl_language.specs.Texts.Text.{Bytes}
+use Rattle.gl_language.specs.Reading.Token.{is_digit, digits_value}
+use Rattle.gl_protocol.specs.Framing.Pieces.{pieces, is_number}
+use Rattle.gl_protocol.specs.Framing.Header.{payload_len, count_of, count_by}
 
 -- ---- pieces
 

@@ -3,15 +3,15 @@ use Rattle.std.proofs.Common.{◌≡◌, ◌≢◌, ◌∙◌, ℕ, ◌*◌, ◌
 use Rattle.std.specs.Prelude.{MatchOption, IfSome, IfNone, IsFalse, bytes_eq, codes}
 use Rattle.std.specs.Str.{is_utf8}
 use Rattle.std.proofs.lemmas.Bool.Decides.{nat_tests}
-use Rattle.gl_calculus.specs.Limits.{max_payload, max_cells}
-use Rattle.gl_calculus.specs.Grid.{Addr, Range, addresses, extents}
+use Rattle.gl_calculus.specs.Grid.Limits.{max_payload, max_cells}
+use Rattle.gl_calculus.specs.Grid.Grid.{Addr, Range, addresses, extents}
 use Rattle.gl_plane.proofs.Cells.{addresses_count}
-use Rattle.gl_language.specs.Text.{Bytes}
-use Rattle.gl_language.specs.Token.{digits_value}
-use Rattle.gl_protocol.specs.Pieces.{is_number}
-use Rattle.gl_protocol.specs.Header.{payload_len, count_of}
-use Rattle.gl_protocol.specs.Commands as C
-use Rattle.gl_protocol.specs.Commands.{Read, Is, Not, Word, ReadsLine, ReadsWords, ReadsRange, SetWords, EditWords, SiteWords, ImportWords, ClearWords, ViewWords, IsAddress, NoAddress, is_viewable, is_text, words_of, is_comment}
+use Rattle.gl_language.specs.Texts.Text.{Bytes}
+use Rattle.gl_language.specs.Reading.Token.{digits_value}
+use Rattle.gl_protocol.specs.Framing.Pieces.{is_number}
+use Rattle.gl_protocol.specs.Framing.Header.{payload_len, count_of}
+use Rattle.gl_protocol.specs.Scripts.Commands as C
+use Rattle.gl_protocol.specs.Scripts.Commands.{Read, Is, Not, Word, ReadsLine, ReadsWords, ReadsRange, SetWords, EditWords, SiteWords, ImportWords, ClearWords, ViewWords, IsAddress, NoAddress, is_viewable, is_text, words_of, is_comment}
 use Rattle.gl_cells.specs.declared.content.Content.{Content}
 use Rattle.gl_cells.specs.Content.{content_tree}
 use Rattle.gl_script.specs.Asked.{asked_words, asked_request}
@@ -20,7 +20,7 @@ use Rattle.gl_script.specs.declared.requests.Asked.TheVariants as asked
 use Rattle.gl_script.specs.declared.requests.CommandFault.{CommandFault}
 use Rattle.gl_script.specs.declared.requests.CommandFault.TheVariants as f
 use Rattle.gl_script.specs.declared.requests.Request.TheVariants as r
-use Rattle.gl_edits.specs.Replicas.{is_stamp}
+use Rattle.gl_calculus.specs.Edits.Replicas.{is_stamp}
 use Rattle.gl_script.specs.Numbers.{is_site, pair_if, stamp_in}
 use Rattle.gl_script.specs.Command.{Answers, Asks, IsHeader, GivesText, sets, edits, edit_of, is_version_line}
 use Rattle.gl_script.specs.Parts.{HasWords, IsContent, IsText, IsRange}

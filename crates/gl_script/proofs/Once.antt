@@ -3,22 +3,23 @@ use Rattle.std.proofs.Common.{◌≡◌, ◌≢◌, ◌∙◌, ℕ, ◌+◌, ◌
 use Rattle.std.specs.Prelude.{ℤ, IsFalse, ◌==◌}
 use Rattle.std.specs.Str.{is_utf8}
 use Rattle.std.proofs.lemmas.Bool.Decides.{nat_tests}
-use Rattle.gl_calculus.specs.Limits.{max_text}
-use Rattle.gl_calculus.specs.Grid.{Addr, Range, range}
-use Rattle.gl_calculus.specs.Value as V
-use Rattle.gl_calculus.specs.Formula as F
-use Rattle.gl_calculus.specs.Formula.{Formula, Const, Form}
-use Rattle.gl_language.specs.Text.{Bytes}
-use Rattle.gl_language.specs.Token.{Decodes, digits_value}
-use Rattle.gl_language.specs.Grammar.{Parses, IsParseFault, ParseFault}
+use Rattle.gl_calculus.specs.Grid.Limits.{max_text}
+use Rattle.gl_calculus.specs.Grid.Grid.{Addr, Range, range}
+use Rattle.gl_calculus.specs.Values.Value as V
+use Rattle.gl_calculus.specs.Formulas.Formula as F
+use Rattle.gl_calculus.specs.Formulas.Formula.{Formula, Const, Form}
+use Rattle.gl_language.specs.Texts.Text.{Bytes}
+use Rattle.gl_language.specs.Reading.Token.{Decodes, digits_value}
+use Rattle.gl_language.specs.Reading.Grammar.{Parses, IsParseFault, ParseFault}
 use Rattle.gl_lex.specs.Quote.{Scan, decode}
 use Rattle.gl_lex.specs.declared.quote.State.TheVariants as state
 use Rattle.gl_lex.proofs.Decoding.{decoded}
 use Rattle.gl_lex.proofs.Once.{one_address}
-use Rattle.gl_grammar.proofs.Readings.{one_formula, one_fault, formula_or_fault}
-use Rattle.gl_edits.specs.Replicas.{stamp, is_stamp}
-use Rattle.gl_protocol.specs.Commands as C
-use Rattle.gl_protocol.specs.Commands.{Read, Is, Not, ReadsContent, ReadsRange, ReadsWords, ReadsLine, IsAddress, IsPlace, in_order, plain_scalar, fault_word, is_comment, words_of, TextWord, FieldWord}
+use Rattle.laws_language.proofs.Grammar.Readings.{one_formula, one_fault, formula_or_fault}
+use Rattle.gl_calculus.specs.Edits.Replicas.{stamp, is_stamp}
+use Rattle.gl_protocol.specs.Scripts.Commands as C
+use Rattle.gl_protocol.specs.Scripts.Commands.{Read, Is, Not, ReadsContent, ReadsRange, ReadsWords, ReadsLine, IsAddress, IsPlace, in_order, fault_word, is_comment, words_of, TextWord, FieldWord}
+use Rattle.gl_language.specs.Texts.Plain.{plain_scalar}
 use Rattle.gl_script.proofs.Places.{Corners, corners, address_lacks, same_cut, holds_colon}
 use Rattle.gl_script.proofs.Headers.{Lacks}
 

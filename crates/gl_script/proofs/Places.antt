@@ -1,17 +1,17 @@
 -- Addresses and ranges by their texts.
 use Rattle.std.proofs.Common.{◌≡◌, ◌∙◌, ℕ, zero, suc, Bool, true, false, ◌&&◌, nat_le, [], ◌∷◌, ◌++◌, Option, Some, ◌⊎◌, inl, inr, refl, sym, ap, subst, arith}
 use Rattle.std.specs.Fmt.{decimal}
-use Rattle.gl_calculus.specs.Grid.{Addr, Range, range}
-use Rattle.gl_calculus.specs.Notation.{column_text}
-use Rattle.gl_language.specs.Text.{Bytes}
-use Rattle.gl_language.specs.Token.{is_digit, is_upper}
+use Rattle.gl_calculus.specs.Grid.Grid.{Addr, Range, range}
+use Rattle.gl_calculus.specs.Grid.Notation.{column_text}
+use Rattle.gl_language.specs.Texts.Text.{Bytes}
+use Rattle.gl_language.specs.Reading.Token.{is_digit, is_upper}
 use Rattle.gl_plane.specs.Parts.{is_ordered}
 use Rattle.gl_lex.proofs.Rows.{AllPass}
 use Rattle.gl_lex.proofs.Letters.{decimal_row, column_row}
 use Rattle.gl_lex.proofs.Starts.{on_grid}
-use Rattle.gl_protocol.specs.Pieces.{cut_at}
-use Rattle.gl_protocol.specs.Commands.{IsAddress, NoAddress, IsPlace, in_order, ReadsRange, Is, Not, RangeWord, AddressWord}
-use Rattle.gl_protocol.specs.Commands as C
+use Rattle.gl_protocol.specs.Framing.Pieces.{cut_at}
+use Rattle.gl_protocol.specs.Scripts.Commands.{IsAddress, NoAddress, IsPlace, in_order, ReadsRange, Is, Not, RangeWord, AddressWord}
+use Rattle.gl_protocol.specs.Scripts.Commands as C
 use Rattle.gl_script.proofs.Headers.{Lacks}
 use Rattle.gl_script.proofs.Cuts.{cut-at}
 

@@ -5,21 +5,22 @@ use Rattle.std.specs.List.{list_all, AllByRecursion}
 use Rattle.std.specs.Str.{is_utf8}
 use Rattle.std.specs.Fmt.{decimal, signed_decimal}
 use Rattle.std.proofs.lemmas.Bool.Decides.{nat_tests}
-use Rattle.gl_calculus.specs.Limits.{max_text}
-use Rattle.gl_calculus.specs.ErrKind.{ErrKind}
-use Rattle.gl_calculus.specs.Grid.{Addr, same_addr}
-use Rattle.gl_calculus.specs.Operators.{exact}
-use Rattle.gl_calculus.specs.Value as V
-use Rattle.gl_calculus.specs.Formula as F
-use Rattle.gl_calculus.specs.Formula.{Cells, Const, content}
-use Rattle.gl_language.specs.Text.{Bytes, escaped, is_control, hex_digit, truth_text, scalar_text, content_text}
-use Rattle.gl_language.specs.Token as T
-use Rattle.gl_language.specs.Token.{is_digit, digits_value, IsRow, Decodes}
+use Rattle.gl_calculus.specs.Grid.Limits.{max_text}
+use Rattle.gl_calculus.specs.Values.ErrKind.{ErrKind}
+use Rattle.gl_calculus.specs.Grid.Grid.{Addr, same_addr}
+use Rattle.gl_calculus.specs.Values.Operators.{exact}
+use Rattle.gl_calculus.specs.Values.Value as V
+use Rattle.gl_calculus.specs.Formulas.Formula as F
+use Rattle.gl_calculus.specs.Formulas.Formula.{Cells, Const, content}
+use Rattle.gl_language.specs.Texts.Text.{Bytes, escaped, is_control, hex_digit, truth_text, scalar_text, content_text}
+use Rattle.gl_language.specs.Reading.Token as T
+use Rattle.gl_language.specs.Reading.Token.{is_digit, digits_value, IsRow, Decodes}
 use Rattle.gl_lex.proofs.Letters.{decimal_row}
-use Rattle.gl_grammar.proofs.Printed.{prints_back}
-use Rattle.gl_protocol.specs.Commands as C
-use Rattle.gl_protocol.specs.Commands.{Read, Is, Not, Word, ReadsContent, signed_value, plain_scalar, field_fault, fields, contents, imported}
-use Rattle.gl_protocol.specs.Laws.{SetReadsBack, ImportReadsBack}
+use Rattle.laws_language.proofs.Grammar.Printed.{prints_back}
+use Rattle.gl_protocol.specs.Scripts.Commands as C
+use Rattle.gl_protocol.specs.Scripts.Commands.{Read, Is, Not, Word, ReadsContent, field_fault, fields, contents, imported}
+use Rattle.gl_language.specs.Texts.Plain.{signed_value, plain_scalar}
+use Rattle.gl_script.specs.Reading.{SetReadsBack, ImportReadsBack}
 use Rattle.gl_script.proofs.Contents.{plain_content, number_content}
 
 -- ---- texts: what a literal has between its quotes stands for the text, whatever its bytes are

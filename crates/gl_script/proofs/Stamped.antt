@@ -4,11 +4,11 @@ use Rattle.std.proofs.lemmas.Bool.Decides.{nat_tests}
 use Rattle.std.proofs.lemmas.Result.{OkIff-at_ok}
 use Rattle.std.specs.Str.Parse.{ParsesUnsigned}
 use Rattle.std.specs.Result.{result_ok}
-use Rattle.gl_language.specs.Text.{Bytes}
-use Rattle.gl_language.specs.Token.{digits_value}
-use Rattle.gl_edits.specs.Limits.{max_time, max_site}
-use Rattle.gl_protocol.specs.Pieces.{is_number}
-use Rattle.gl_protocol.specs.Commands as C
+use Rattle.gl_language.specs.Texts.Text.{Bytes}
+use Rattle.gl_language.specs.Reading.Token.{digits_value}
+use Rattle.gl_calculus.specs.Edits.Limits.{max_time, max_site}
+use Rattle.gl_protocol.specs.Framing.Pieces.{is_number}
+use Rattle.gl_protocol.specs.Scripts.Commands as C
 use Rattle.gl_script.specs.Numbers.{is_site, is_time, pair_if, stamp_in}
 use Rattle.gl_script.proofs.Headers.{counted, some_digit}
 

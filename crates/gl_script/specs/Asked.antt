@@ -1,7 +1,7 @@
 -- What is asked of one address.
-use Rattle.gl_calculus.specs.Grid.{Addr}
-use Rattle.gl_language.specs.Text.{Bytes}
-use Rattle.gl_protocol.specs.Commands as C
+use Rattle.gl_calculus.specs.Grid.Grid.{Addr}
+use Rattle.gl_language.specs.Texts.Text.{Bytes}
+use Rattle.gl_protocol.specs.Scripts.Commands as C
 use Rattle.gl_script.specs.declared.requests.Asked.{Asked}
 use Rattle.gl_script.specs.declared.requests.Asked.TheVariants.{Show, Get, Why, Explain}
 

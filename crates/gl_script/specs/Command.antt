@@ -1,18 +1,18 @@
 -- What a line asks, or why it is refused, in the words of the definitions.
 use Rattle.std.specs.Prelude.{◌≡◌, ℕ, ◌∷◌, Bool, Option, Some, None, MatchOption, option_map, IfSome, Result, Ok, Err, IsTrue, IsFalse, codes, ⊤}
-use Rattle.gl_calculus.specs.Grid.{Addr}
-use Rattle.gl_language.specs.Text.{Bytes}
-use Rattle.gl_language.specs.Content.{IsProperContent}
-use Rattle.gl_protocol.specs.Framing.{Line}
-use Rattle.gl_protocol.specs.Header.{payload_len}
-use Rattle.gl_protocol.specs.Output.{is_line}
-use Rattle.gl_protocol.specs.Commands as C
-use Rattle.gl_protocol.specs.Commands.{Word, Is, Not, ReadsLine, words_of, SetWords, EditWords, ImportWords, IsAddress, NoAddress}
+use Rattle.gl_calculus.specs.Grid.Grid.{Addr}
+use Rattle.gl_language.specs.Texts.Text.{Bytes}
+use Rattle.gl_language.specs.Reading.Content.{IsProperContent}
+use Rattle.gl_protocol.specs.Framing.Framing.{Line}
+use Rattle.gl_protocol.specs.Framing.Header.{payload_len}
+use Rattle.gl_protocol.specs.Scripts.Output.{is_line}
+use Rattle.gl_protocol.specs.Scripts.Commands as C
+use Rattle.gl_protocol.specs.Scripts.Commands.{Word, Is, Not, ReadsLine, words_of, SetWords, EditWords, ImportWords, IsAddress, NoAddress}
 use Rattle.gl_lex.specs.declared.fault.LexFault.TheVariants as lex
 use Rattle.gl_parse.specs.Outcome.{IsRefused}
 use Rattle.gl_parse.specs.declared.fault.ParseFault.{ParseFault}
 use Rattle.gl_parse.specs.declared.fault.ParseFault.TheVariants as parse
-use Rattle.gl_edits.specs.Replicas.{Edit, stamp, is_stamp}
+use Rattle.gl_calculus.specs.Edits.Replicas.{Edit, stamp, is_stamp}
 use Rattle.gl_cells.specs.declared.content.Content.{Content}
 use Rattle.gl_cells.specs.Content.{content_tree}
 use Rattle.gl_script.specs.declared.requests.Request.{Request}

@@ -1,7 +1,7 @@
 -- What a `Feed` says after each byte.
 use Rattle.std.specs.Prelude.{ℕ, ◌==◌, nat_lt, nat_le, ◌-◌, List, [], ◌∷◌, ◌++◌, length, if◌then◌else◌}
-use Rattle.gl_calculus.specs.Limits.{max_line}
-use Rattle.gl_protocol.specs.Framing.{drop_cr}
+use Rattle.gl_calculus.specs.Grid.Limits.{max_line}
+use Rattle.gl_protocol.specs.Framing.Framing.{drop_cr}
 use Rattle.gl_script.specs.declared.feed.Event.{Event}
 use Rattle.gl_script.specs.declared.feed.Event.TheVariants.{More, Line, Long, Payload, Truncated}
 

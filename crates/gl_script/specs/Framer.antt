@@ -2,8 +2,8 @@
 use Rattle.std.specs.Prelude.{ℕ, List, [], None, Some}
 use Rattle.std.specs.declared.option.Option.{Option}
 use Rattle.gl_script.specs.Feed.{Begun, idle, some_line, skipping, some_payload}
-use Rattle.gl_protocol.specs.Framing.{Item}
-use Rattle.gl_protocol.specs.Stream.{Stream, nothing, in_line, skipped, in_payload}
+use Rattle.gl_protocol.specs.Framing.Framing.{Item}
+use Rattle.gl_protocol.specs.Framing.Stream.{Stream, nothing, in_line, skipped, in_payload}
 use Rattle.gl_script.specs.FeedView.{begun_of, piece_of}
 use Rattle.gl_script.specs.declared.feed.Event.{Event}
 use Rattle.gl_script.specs.declared.feed.Event.TheVariants.{More, Line, Long, Payload, Truncated}

@@ -1,8 +1,8 @@
 -- What holds of the headers of imports.
 use Rattle.std.specs.Prelude.{◌≡◌, ℕ, Option}
-use Rattle.gl_calculus.specs.Grid.{Addr}
-use Rattle.gl_language.specs.Text.{Bytes}
-use Rattle.gl_protocol.specs.Commands.{Read, Request, ReadsLine}
+use Rattle.gl_calculus.specs.Grid.Grid.{Addr}
+use Rattle.gl_language.specs.Texts.Text.{Bytes}
+use Rattle.gl_protocol.specs.Scripts.Commands.{Read, Request, ReadsLine}
 use Rattle.gl_script.specs.Command.{IsHeader}
 
 -- A line is the header of one import at most, and such a line asks nothing else and is not refused.

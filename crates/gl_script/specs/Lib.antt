@@ -6,3 +6,4 @@ pub mod Numbers
 pub mod Command
 pub mod Parts
 pub mod Laws
+pub mod Reading

@@ -1,10 +1,10 @@
 -- The numbers of replicas in a line.
 use Rattle.std.specs.Prelude.{ℕ, Bool, true, false, nat_lt, nat_le, ◌&&◌, Option, Some, None}
-use Rattle.gl_language.specs.Text.{Bytes}
-use Rattle.gl_language.specs.Token.{digits_value}
-use Rattle.gl_edits.specs.Limits.{max_time, max_site}
-use Rattle.gl_edits.specs.Replicas.{is_stamp}
-use Rattle.gl_protocol.specs.Pieces.{is_number}
+use Rattle.gl_language.specs.Texts.Text.{Bytes}
+use Rattle.gl_language.specs.Reading.Token.{digits_value}
+use Rattle.gl_calculus.specs.Edits.Limits.{max_time, max_site}
+use Rattle.gl_calculus.specs.Edits.Replicas.{is_stamp}
+use Rattle.gl_protocol.specs.Framing.Pieces.{is_number}
 
 abbrev pub is_site : Bytes → Bool
 is_site n = is_number n && nat_le (digits_value n) max_site

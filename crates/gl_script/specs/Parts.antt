@@ -1,13 +1,13 @@
 -- The parts of a line: words, places and texts.
 use Rattle.std.specs.Prelude.{◌≡◌, ◌∷◌, ◌&&◌, nat_lt, length, Option, Some, None, option_map, option_copied, IfSome, Result, Ok, Err, IsTrue, IsFalse, Bool, true, false, ⊤}
 use Rattle.std.specs.Str.{is_utf8}
-use Rattle.gl_calculus.specs.Value as V
-use Rattle.gl_language.specs.Text.{Bytes}
-use Rattle.gl_language.specs.Content.{IsProperContent}
+use Rattle.gl_calculus.specs.Values.Value as V
+use Rattle.gl_language.specs.Texts.Text.{Bytes}
+use Rattle.gl_language.specs.Reading.Content.{IsProperContent}
 use Rattle.gl_plane.specs.declared.range.Range.{Range as GridRange}
-use Rattle.gl_protocol.specs.Pieces.{Cut, cut_at, is_number}
-use Rattle.gl_protocol.specs.Commands as C
-use Rattle.gl_protocol.specs.Commands.{Is, Not, ReadsContent, ReadsText, ReadsRange, words_of, is_comment}
+use Rattle.gl_protocol.specs.Framing.Pieces.{Cut, cut_at, is_number}
+use Rattle.gl_protocol.specs.Scripts.Commands as C
+use Rattle.gl_protocol.specs.Scripts.Commands.{Is, Not, ReadsContent, ReadsText, ReadsRange, words_of, is_comment}
 use Rattle.gl_lex.specs.declared.fault.LexFault.{LexFault}
 use Rattle.gl_lex.specs.declared.fault.LexFault.TheVariants as lex
 use Rattle.gl_parse.specs.Outcome.{IsRefused}

@@ -1,6 +1,6 @@
 //! The content of a text.
 ghost use Rattle.std.specs.Prelude.{◌≡◌, ◌≢◌, ◌<◌, ◌∷◌, IsTrue, length, slice_index, option_copied};
-ghost use Rattle.gl_protocol.specs.Commands.{is_text};
+ghost use Rattle.gl_protocol.specs.Scripts.Commands.{is_text};
 ghost use Rattle.gl_value.specs.View.{scalar_tree};
 ghost use Rattle.gl_script.specs.Parts.{IsContent, IsText, is_int, formula_fault, literal_fault};
 

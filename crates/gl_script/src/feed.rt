@@ -1,8 +1,8 @@
 //! Lines and payloads, one byte at a time.
 ghost use Rattle.std.specs.Prelude.{◌≡◌, ◌≤◌, ◌<◌, [], OnOk, OnErr, IfOk, IsOk, vec_len};
 ghost use Rattle.std.specs.Prelude.{vec_capacity};
-ghost use Rattle.gl_calculus.specs.Limits.{max_payload};
-ghost use Rattle.gl_protocol.specs.Framing.{drop_cr};
+ghost use Rattle.gl_calculus.specs.Grid.Limits.{max_payload};
+ghost use Rattle.gl_protocol.specs.Framing.Framing.{drop_cr};
 ghost use Rattle.gl_script.specs.Feed.{idle, some_payload, quiet, pushed, finished, line_pushed};
 ghost use Rattle.gl_script.specs.Feed.{line_done};
 ghost use Rattle.gl_script.specs.FeedView.{begun_of, piece_of, seen_of};

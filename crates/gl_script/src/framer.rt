@@ -2,8 +2,9 @@
 ghost use Rattle.std.specs.Prelude.{◌≡◌, IfOk, None, false};
 ghost use Rattle.gl_script.specs.Framer.{stream_at, told, payload_at};
 ghost use Rattle.gl_script.specs.{Feed.idle, FeedView.begun_of, FeedView.piece_of};
-ghost use Rattle.gl_protocol.specs.Stream.{nothing, step, closing, close_by};
-ghost use Rattle.gl_protocol.specs.{Framing.kind_by, Header.payload_len};
+ghost use Rattle.gl_protocol.specs.Framing.Stream.{nothing, step, closing, close_by};
+ghost use Rattle.gl_protocol.specs.Framing.Framing.{kind_by};
+ghost use Rattle.gl_protocol.specs.Framing.Header.{payload_len};
 
 use crate::feed::{Event, Feed};
 use crate::header::payload_due;

@@ -1,10 +1,10 @@
 //! The lines that say more than themselves.
 ghost use Rattle.std.specs.Prelude.{◌≡◌, ◌≤◌, ◌∷◌, IfSome, codes};
 ghost use Rattle.std.specs.List.{list_all};
-ghost use Rattle.gl_calculus.specs.Limits.{max_payload};
-ghost use Rattle.gl_language.specs.Token.{is_digit};
-ghost use Rattle.gl_protocol.specs.Header.{payload_len, count_of, count_by, is_quit_line};
-ghost use Rattle.gl_protocol.specs.Pieces.{pieces, is_number};
+ghost use Rattle.gl_calculus.specs.Grid.Limits.{max_payload};
+ghost use Rattle.gl_language.specs.Reading.Token.{is_digit};
+ghost use Rattle.gl_protocol.specs.Framing.Header.{payload_len, count_of, count_by, is_quit_line};
+ghost use Rattle.gl_protocol.specs.Framing.Pieces.{pieces, is_number};
 
 use std::str;
 

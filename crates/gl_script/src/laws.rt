@@ -1,5 +1,5 @@
 //! Laws of the reading of lines.
-ghost use Rattle.gl_protocol.specs.Laws.{OneContent, OneRequest, SetReadsBack, ImportReadsBack};
+ghost use Rattle.gl_script.specs.Reading.{OneContent, OneRequest, SetReadsBack, ImportReadsBack};
 ghost use Rattle.gl_script.specs.Laws.{OneHeader, HeaderAsksNothing};
 
 /// A text is read as one content or refused by one word, and a line as one request or by one word.

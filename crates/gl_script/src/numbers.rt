@@ -1,8 +1,8 @@
 //! The numbers of replicas in a line.
 ghost use Rattle.std.specs.Prelude.{◌≡◌, ◌&&◌, nat_lt, nat_le, IsTrue, Some, None, if◌then◌else◌};
-ghost use Rattle.gl_language.specs.Token.{digits_value};
-ghost use Rattle.gl_edits.specs.Limits.{max_time};
-ghost use Rattle.gl_protocol.specs.Pieces.{is_number};
+ghost use Rattle.gl_language.specs.Reading.Token.{digits_value};
+ghost use Rattle.gl_calculus.specs.Edits.Limits.{max_time};
+ghost use Rattle.gl_protocol.specs.Framing.Pieces.{is_number};
 ghost use Rattle.gl_script.specs.Numbers.{is_site, is_time, stamp_in};
 
 use crate::header::is_number;

@@ -1,7 +1,7 @@
 //! Addresses and ranges in a line.
 ghost use Rattle.std.specs.Prelude.{IfSome, IfNone};
-ghost use Rattle.gl_calculus.specs.Grid.{Addr as PlainAddr};
-ghost use Rattle.gl_protocol.specs.Commands.{IsAddress, NoAddress, IsPlace};
+ghost use Rattle.gl_calculus.specs.Grid.Grid.{Addr as PlainAddr};
+ghost use Rattle.gl_protocol.specs.Scripts.Commands.{IsAddress, NoAddress, IsPlace};
 ghost use Rattle.gl_script.specs.Parts.{IsRange};
 
 use crate::requests::CommandFault;

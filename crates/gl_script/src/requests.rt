@@ -1,8 +1,8 @@
 //! Lines as requests.
 ghost use Rattle.std.specs.Prelude.{◌≡◌, IsFalse, option_copied};
-ghost use Rattle.gl_language.specs.Text.{Bytes};
-ghost use Rattle.gl_protocol.specs.Commands.{ReadsLine, is_comment};
-ghost use Rattle.gl_protocol.specs.Commands as C;
+ghost use Rattle.gl_language.specs.Texts.Text.{Bytes};
+ghost use Rattle.gl_protocol.specs.Scripts.Commands.{ReadsLine, is_comment};
+ghost use Rattle.gl_protocol.specs.Scripts.Commands as C;
 ghost use Rattle.gl_script.specs.{Command.Answers, Command.Asks, Parts.HasWords, Parts.words_tree};
 ghost use Rattle.gl_script.specs.Asked.{asked_request, asked_words};
 ghost use Rattle.gl_script.specs.declared.requests.CommandFault.TheVariants.{NoMemory};

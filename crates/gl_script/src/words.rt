@@ -1,7 +1,7 @@
 //! The words of a line, cut at its spaces.
 ghost use Rattle.std.specs.Prelude.{◌≡◌, ◌∷◌, ◌&&◌, Some, None, option_copied};
-ghost use Rattle.gl_protocol.specs.Pieces.{cut_at, pieces, is_number};
-ghost use Rattle.gl_protocol.specs.Commands as C;
+ghost use Rattle.gl_protocol.specs.Framing.Pieces.{cut_at, pieces, is_number};
+ghost use Rattle.gl_protocol.specs.Scripts.Commands as C;
 ghost use Rattle.gl_script.specs.Parts.{edit_at, edit_behind, some_tree};
 ghost use Rattle.gl_script.specs.Numbers.{is_site};
 

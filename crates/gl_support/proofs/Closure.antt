@@ -5,8 +5,8 @@ use Rattle.std.specs.List.{list_any, IsDistinct, AllZip}
 use Rattle.std.specs.Prelude.{Vec, []}
 use Rattle.std.specs.declared.alloc.Global.{Global}
 use Rattle.indexmap.specs.IndexSet.{insert_all}
-use Rattle.gl_query.specs.Lists.{Member, has_member, distinct}
-use Rattle.gl_query.proofs.Members.{any_member, member_any}
+use Rattle.gl_calculus.specs.Computation.Lists.{Member, has_member, distinct}
+use Rattle.gl_calculus.proofs.Members.{any_member, member_any}
 use Rattle.gl_support.specs.Affected.{Triple, is_touched, IsClosed, IsAffected, Looked, Read, AreAffected}
 use Rattle.gl_support.specs.Nodes.{stands_at, reads_at, marked_keys}
 use Rattle.gl_support.specs.Reach.{is_marked, has, row_of, IsFollowed, Seed, Edge, IsLeast}

@@ -1,11 +1,12 @@
 -- What is affected is what one pass over notes in order drops.
 use Rattle.std.proofs.Common.{◌≡◌, ◌⊎◌, inl, inr, List, [], ◌∷◌, Bool, true, false, cond, refl, sym, ap, ◌∙◌, subst}
 use Rattle.std.specs.List.{list_any}
-use Rattle.gl_query.specs.Lists.{Member, AreDistinct, IsEquality, has_member}
-use Rattle.gl_query.specs.Remembered.{Note}
-use Rattle.gl_query.specs.InOrder.{AreOrdered, note_keys, must_go, gone_after}
-use Rattle.gl_query.proofs.Members.{any_member, member_any, either, left, right}
-use Rattle.gl_query.proofs.Quiet.{seen_member}
+use Rattle.gl_calculus.specs.Computation.Lists.{Member, AreDistinct, IsEquality, has_member}
+use Rattle.gl_calculus.specs.Computation.Notes.{Note}
+use Rattle.gl_machine.specs.InOrder.{AreOrdered, must_go, gone_after}
+use Rattle.gl_calculus.specs.Computation.Notes.{note_keys}
+use Rattle.gl_calculus.proofs.Members.{any_member, member_any, either, left, right}
+use Rattle.laws_calculus.proofs.Query.Quiet.{seen_member}
 use Rattle.gl_support.specs.Affected.{Triple, is_touched, IsAffected, Looked, Read, notes_of_triples, AffectedAreGone}
 use Rattle.gl_support.proofs.Keys.{has_member-any}
 use Rattle.gl_support.proofs.Closure.{iff}

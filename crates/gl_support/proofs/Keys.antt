@@ -7,7 +7,7 @@ use Rattle.std.proofs.lemmas.List.Sums.{fold-append}
 use Rattle.std.specs.Cmp.{IsEquivalence}
 use Rattle.std.specs.List.{list_any, AllZip}
 use Rattle.indexmap.specs.IndexSet.{insert_key, insert_all}
-use Rattle.gl_query.specs.Lists.{has_member, fresh, distinct}
+use Rattle.gl_calculus.specs.Computation.Lists.{has_member, fresh, distinct}
 
 pub or_false : (b : Bool) → (b || false) ≡ b
 or_false true = refl

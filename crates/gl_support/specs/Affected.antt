@@ -1,9 +1,10 @@
 -- Which keys an edit may affect.
 use Rattle.std.specs.Prelude.{◌≡◌, Bool, true, List, [], map, filter}
 use Rattle.std.specs.List.{list_any, AllZip}
-use Rattle.gl_query.specs.Lists.{Member, AreDistinct, IsEquality, has_member, distinct}
-use Rattle.gl_query.specs.Remembered.{Note}
-use Rattle.gl_query.specs.InOrder.{AreOrdered, note_keys, gone_after}
+use Rattle.gl_calculus.specs.Computation.Lists.{Member, AreDistinct, IsEquality, has_member, distinct}
+use Rattle.gl_calculus.specs.Computation.Notes.{Note}
+use Rattle.gl_machine.specs.InOrder.{AreOrdered, gone_after}
+use Rattle.gl_calculus.specs.Computation.Notes.{note_keys}
 
 -- a key, with the keys that it read and the places that it looked at
 pub record Triple (K A : Type 0) : Type 0 where

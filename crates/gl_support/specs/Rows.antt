@@ -1,8 +1,8 @@
 -- Rows of a table, whose keys are numbers, as notes.
 use Rattle.std.specs.Prelude.{◌≡◌, ℕ, ◌<◌, Bool, true, ◌||◌, ◌&&◌, List, [], ◌∷◌, map, nat_eq, All}
-use Rattle.gl_query.specs.Lists.{Member, has_member}
-use Rattle.gl_query.specs.Remembered.{Note, IsReached}
-use Rattle.gl_query.specs.InOrder.{must_go, gone_after}
+use Rattle.gl_calculus.specs.Computation.Lists.{Member, has_member}
+use Rattle.gl_calculus.specs.Computation.Notes.{Note, IsReached}
+use Rattle.gl_machine.specs.InOrder.{must_go, gone_after}
 use Rattle.gl_support.specs.Reach.{is_marked, has}
 use Rattle.gl_support.specs.declared.row.Row.{Row}
 

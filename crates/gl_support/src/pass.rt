@@ -1,9 +1,11 @@
 //! One pass over rows in the order of noting.
 ghost use Rattle.std.specs.Prelude.{◌≡◌, ◌<◌, ℕ, true, [], List, All, IfOk, vec_len};
 ghost use Rattle.std.specs.List.{list_any};
-ghost use Rattle.gl_query.specs.{Lists.Member, Lists.AreDistinct, InOrder.AreOrdered};
-ghost use Rattle.gl_query.specs.{InOrder.note_keys};
-ghost use Rattle.gl_support.specs.Rows.{notes_of, AreMarked, AreBelow, gone_numbers, gone_with, Goes};
+ghost use Rattle.gl_calculus.specs.Computation.Lists.{Member, AreDistinct};
+ghost use Rattle.gl_machine.specs.InOrder.{AreOrdered};
+ghost use Rattle.gl_calculus.specs.Computation.Notes.{note_keys};
+ghost use Rattle.gl_support.specs.Rows.{notes_of, AreMarked, AreBelow, gone_numbers, gone_with};
+ghost use Rattle.gl_support.specs.Rows.{Goes};
 ghost use Rattle.gl_support.specs.Rows.{marked_or_read, AreFollowed, AreReached};
 ghost use Rattle.gl_support.specs.Reach.{is_marked};
 

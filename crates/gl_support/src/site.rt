@@ -16,7 +16,7 @@ pub trait Site {
 }
 
 impl Site for Range {
-    ghost use Rattle.gl_calculus.specs.Grid.{meets};
+    ghost use Rattle.gl_calculus.specs.Grid.Grid.{meets};
 
     ghost touches = { meets };
 

@@ -1,12 +1,12 @@
 -- What rings of steps say of the history that they stand for.
 use Rattle.std.proofs.Common.{◌≡◌, ◌∙◌, List, [], ◌∷◌, map, take, Option, Some, None, Vec, slice_get, refl, sym, ap, arith}
 use Rattle.std.proofs.lemmas.List.{take-map}
-use Rattle.gl_query.specs.Lists.{AreDistinct}
-use Rattle.gl_calculus.specs.Grid.{Addr}
-use Rattle.gl_edits.specs.Limits.{max_steps}
-use Rattle.gl_edits.specs.Replicas as R
-use Rattle.gl_edits.specs.Steps as E
-use Rattle.gl_edits.specs.Steps.{pushed}
+use Rattle.gl_calculus.specs.Computation.Lists.{AreDistinct}
+use Rattle.gl_calculus.specs.Grid.Grid.{Addr}
+use Rattle.gl_calculus.specs.Edits.Limits.{max_steps}
+use Rattle.gl_calculus.specs.Edits.Replicas as R
+use Rattle.gl_calculus.specs.Edits.Steps as E
+use Rattle.gl_calculus.specs.Edits.Steps.{pushed}
 use Rattle.gl_cells.specs.declared.content.Content.{Content}
 use Rattle.gl_undo.specs.declared.changes.Change.{Change}
 use Rattle.gl_undo.specs.declared.history.History.{History}

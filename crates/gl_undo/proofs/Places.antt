@@ -1,11 +1,11 @@
 -- The addresses of steps.
 use Rattle.std.proofs.Common.{◌≡◌, ◌∙◌, List, [], ◌∷◌, map, Option, refl, sym, ap, subst}
-use Rattle.gl_query.specs.Lists.{AreDistinct}
-use Rattle.gl_calculus.specs.Grid.{Addr}
-use Rattle.gl_calculus.specs.Formula as F
-use Rattle.gl_edits.specs.Replicas as R
-use Rattle.gl_edits.specs.Steps as E
-use Rattle.gl_edits.specs.Steps.{befores}
+use Rattle.gl_calculus.specs.Computation.Lists.{AreDistinct}
+use Rattle.gl_calculus.specs.Grid.Grid.{Addr}
+use Rattle.gl_calculus.specs.Formulas.Formula as F
+use Rattle.gl_calculus.specs.Edits.Replicas as R
+use Rattle.gl_calculus.specs.Edits.Steps as E
+use Rattle.gl_calculus.specs.Edits.Steps.{befores}
 use Rattle.gl_cells.specs.declared.content.Content.{Content}
 use Rattle.gl_undo.specs.declared.changes.Change.{Change}
 use Rattle.gl_undo.specs.declared.changes.Side.{Side}

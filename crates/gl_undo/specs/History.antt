@@ -1,10 +1,10 @@
 -- The plain history that a history of the code stands for.
 use Rattle.std.specs.Prelude.{◌≡◌, ◌<◌, List, length, map, Option, option_map, IfSome, Vec}
-use Rattle.gl_query.specs.Lists.{AreDistinct}
-use Rattle.gl_calculus.specs.Grid.{Addr}
-use Rattle.gl_edits.specs.Replicas as R
-use Rattle.gl_edits.specs.Steps as E
-use Rattle.gl_edits.specs.Steps.{latest_step}
+use Rattle.gl_calculus.specs.Computation.Lists.{AreDistinct}
+use Rattle.gl_calculus.specs.Grid.Grid.{Addr}
+use Rattle.gl_calculus.specs.Edits.Replicas as R
+use Rattle.gl_calculus.specs.Edits.Steps as E
+use Rattle.gl_calculus.specs.Edits.Steps.{latest_step}
 use Rattle.gl_cells.specs.declared.content.Content.{Content}
 use Rattle.gl_undo.specs.declared.history.History.{History}
 use Rattle.gl_undo.specs.View.{step_tree, changes_tree, places, AreProperChanges}

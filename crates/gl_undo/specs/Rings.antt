@@ -1,7 +1,7 @@
 -- Two rings of steps, each from the latest step on.
 use Rattle.std.specs.Prelude.{◌≡◌, ◌+◌, ◌≤◌, List, ◌∷◌, length}
 use Rattle.circular_buffer.specs.Buffer.{Buffer}
-use Rattle.gl_edits.specs.Limits.{max_steps}
+use Rattle.gl_calculus.specs.Edits.Limits.{max_steps}
 
 -- both rings hold so many steps, and no more are in both
 abbrev pub AreRings : {X : Type 0} → Buffer X → Buffer X → Type 0

@@ -1,8 +1,8 @@
 -- The sides of a step.
 use Rattle.std.specs.Prelude.{map, Option}
-use Rattle.gl_calculus.specs.Formula.{Content}
-use Rattle.gl_edits.specs.Replicas.{Changes}
-use Rattle.gl_edits.specs.Steps as E
+use Rattle.gl_calculus.specs.Formulas.Formula.{Content}
+use Rattle.gl_calculus.specs.Edits.Replicas.{Changes}
+use Rattle.gl_calculus.specs.Edits.Steps as E
 use Rattle.gl_undo.specs.declared.changes.Side.{Side}
 use Rattle.gl_undo.specs.declared.changes.Side.TheVariants.{Before, After}
 

@@ -1,11 +1,11 @@
 -- The plain step that a step of the code stands for.
 use Rattle.std.specs.Prelude.{◌≡◌, List, map, Option, option_map, IfSome}
 use Rattle.std.specs.List.{AllByRecursion}
-use Rattle.gl_query.specs.Lists.{AreDistinct}
-use Rattle.gl_calculus.specs.Grid.{Addr}
-use Rattle.gl_language.specs.Content.{IsProperContent}
-use Rattle.gl_edits.specs.Replicas as R
-use Rattle.gl_edits.specs.Steps as E
+use Rattle.gl_calculus.specs.Computation.Lists.{AreDistinct}
+use Rattle.gl_calculus.specs.Grid.Grid.{Addr}
+use Rattle.gl_language.specs.Reading.Content.{IsProperContent}
+use Rattle.gl_calculus.specs.Edits.Replicas as R
+use Rattle.gl_calculus.specs.Edits.Steps as E
 use Rattle.gl_cells.specs.Content.{content_tree}
 use Rattle.gl_cells.specs.declared.content.Content.{Content}
 use Rattle.gl_undo.specs.declared.changes.Change.{Change}

@@ -1,7 +1,7 @@
 //! The history of a sheet.
 ghost use Rattle.std.specs.Prelude.{◌≡◌, ◌<◌, List, length, map, slice_get, IfOk, option_copied};
-ghost use Rattle.gl_edits.specs.Steps.{no_history, pushed, befores, afters, MovesBack};
-ghost use Rattle.gl_edits.specs.Steps.{MovesForward};
+ghost use Rattle.gl_calculus.specs.Edits.Steps.{no_history, pushed, befores, afters, MovesBack};
+ghost use Rattle.gl_calculus.specs.Edits.Steps.{MovesForward};
 ghost use Rattle.gl_undo.specs.{View.step_tree, Sides.changes_on};
 ghost use Rattle.gl_undo.specs.declared.changes.Change.{Change};
 ghost use Rattle.gl_undo.specs.History.{TellsLatest, done, history_tree, undone};

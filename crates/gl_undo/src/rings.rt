@@ -1,7 +1,7 @@
 //! The rings of steps.
 ghost use Rattle.std.specs.Prelude.{◌≡◌, ◌<◌, [], ◌∷◌, take, length, slice_get};
 ghost use Rattle.std.specs.Prelude.{option_copied, IfOk};
-ghost use Rattle.gl_edits.specs.Limits.{max_steps};
+ghost use Rattle.gl_calculus.specs.Edits.Limits.{max_steps};
 ghost use Rattle.gl_undo.specs.Rings.{MovesFirst};
 
 use circular_buffer::HeapCircularBuffer;

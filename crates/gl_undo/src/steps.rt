@@ -1,6 +1,6 @@
 //! Steps: what one edit changes.
 ghost use Rattle.std.specs.Prelude.{◌≡◌, IfOk};
-ghost use Rattle.gl_query.specs.Lists.{AreDistinct};
+ghost use Rattle.gl_calculus.specs.Computation.Lists.{AreDistinct};
 ghost use Rattle.gl_undo.specs.View.{step_tree, changes_tree, places, AreProperChanges};
 ghost use Rattle.gl_undo.specs.{Made.made_of, Sides.changes_on};
 

@@ -1,9 +1,9 @@
 -- The derived `==` of each type of the cycle is the test of its trees.
 use Rattle.std.proofs.Common.{◌≡◌, Bool as Truth, true, false, ◌&&◌, ◌==◌, List, [], ◌∷◌, map, rules, refl, subst, ◌∙◌}
 use lib.Pointwise.{pointwise}
-use Rattle.gl_calculus.specs.Grid.{same_addr, same_range}
-use Rattle.gl_calculus.specs.Value as V
-use Rattle.gl_calculus.specs.Same.{same_bool, same_error, same_scalar, same_scalars, same_value, same_overrides, same_sheet, same_frame}
+use Rattle.gl_calculus.specs.Grid.Grid.{same_addr, same_range}
+use Rattle.gl_calculus.specs.Values.Value as V
+use Rattle.gl_calculus.specs.Values.Same.{same_bool, same_error, same_scalar, same_scalars, same_value, same_overrides, same_sheet, same_frame}
 use Rattle.gl_plane.specs.declared.addr.Addr.{Addr}
 use Rattle.gl_value.specs.Ints.{int_test}
 use Rattle.gl_value.specs.View.{error_tree, scalar_tree, value_tree, array_tree, sheet_tree, frame_tree, item_trees, override_trees}

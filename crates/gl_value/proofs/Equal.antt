@@ -2,8 +2,8 @@
 use Rattle.std.proofs.Common.{◌≡◌, refl, true, false, ap}
 use Rattle.gl_plane.specs.Exact.{exactly}
 use Rattle.gl_calculus.proofs.Tests.{value_equality, frame_equality, scalar_equality, sheet_equality}
-use Rattle.gl_calculus.specs.Sheet as S
-use Rattle.gl_calculus.specs.Calculation as C
+use Rattle.gl_calculus.specs.Values.Sheet as S
+use Rattle.gl_calculus.specs.Calculation.Calculation as C
 use Rattle.gl_value.specs.View.{value_tree, array_tree, frame_tree, scalar_tree, sheet_tree}
 use Rattle.gl_value.proofs.DerivedEq.{eq_is_value, eq_is_array, eq_is_env, eq_is_scalar, eq_is_sheet}
 use Rattle.gl_value.specs.Laws.{ErrorsCompareByTree, ScalarsCompareByTree, ArraysCompareByTree, ValuesCompareByTree, SheetsCompareByTree, FramesCompareByTree, ShownCompareByTree, MadeCompareByTree, ScalarsHashByTree, ArraysHashByTree, ValuesHashByTree, SheetsHashByTree, FramesHashByTree}

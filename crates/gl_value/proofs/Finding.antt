@@ -6,9 +6,9 @@ use Rattle.std.specs.List.{HoldsAt}
 use Rattle.std.specs.List.Sorted.{IsNonDecreasingBy, IsPartitionPoint}
 use Rattle.std.specs.Ordering.{ordering_index}
 use Rattle.std.specs.declared.cmp.Ordering.TheVariants.{Less, Equal, Greater}
-use Rattle.gl_calculus.specs.Grid.{Addr, Range, same_addr, is_before, covers}
-use Rattle.gl_calculus.specs.Sheet.{override_at}
-use Rattle.gl_calculus.specs.Sound.{are_inside}
+use Rattle.gl_calculus.specs.Grid.Grid.{Addr, Range, same_addr, is_before, covers}
+use Rattle.gl_calculus.specs.Values.Sheet.{override_at}
+use Rattle.gl_calculus.specs.Evaluation.Sound.{are_inside}
 use Rattle.gl_value.specs.Parts.{spot, past}
 use Rattle.gl_value.specs.View.{value_tree, override_trees}
 use Rattle.gl_value.specs.declared.Value.{Value}

@@ -5,12 +5,12 @@ use Rattle.std.proofs.lemmas.Bool.{and_parts, eqb-true}
 use Rattle.std.proofs.lemmas.Bool.Decides.{nat_tests}
 use Rattle.std.specs.Str.{IsUtf8}
 use Rattle.std.proofs.lemmas.Str.{is_utf8-from_IsUtf8}
-use Rattle.gl_calculus.specs.Limits.{max_rank, max_weight}
-use Rattle.gl_calculus.specs.Grid.{Addr, Range, Size, covers, is_before}
-use Rattle.gl_calculus.specs.Value as V
-use Rattle.gl_calculus.specs.Value.{Scalar, Overrides, no_override, override_and, Frame, Top, In, sheet_value, rank}
-use Rattle.gl_calculus.specs.Sheet.{frame_rank, overrides_weight, frame_weight, weight}
-use Rattle.gl_calculus.specs.Sound.{is_size, are_inside, overrides_rank, is_sound_scalar, are_sound, is_sound_value, are_sound_overrides, is_sound_sheet, is_sound_frame}
+use Rattle.gl_calculus.specs.Grid.Limits.{max_rank, max_weight}
+use Rattle.gl_calculus.specs.Grid.Grid.{Addr, Range, Size, covers, is_before}
+use Rattle.gl_calculus.specs.Values.Value as V
+use Rattle.gl_calculus.specs.Values.Value.{Scalar, Overrides, no_override, override_and, Frame, Top, In, sheet_value, rank}
+use Rattle.gl_calculus.specs.Values.Sheet.{frame_rank, overrides_weight, frame_weight, weight}
+use Rattle.gl_calculus.specs.Evaluation.Sound.{is_size, are_inside, overrides_rank, is_sound_scalar, are_sound, is_sound_value, are_sound_overrides, is_sound_sheet, is_sound_frame}
 use Rattle.gl_plane.specs.Parts.{IsSize}
 use Rattle.gl_value.specs.Parts.{are_inside_after}
 use Rattle.gl_value.specs.View.{override_trees, frame_tree, sheet_tree, item_trees, array_tree}

@@ -1,11 +1,12 @@
 //! Whether a value is sound.
 ghost use Rattle.std.specs.Prelude.{◌≡◌, ◌==◌, IsTrue};
 ghost use Rattle.std.specs.Rc.{rc_str_bytes};
-ghost use Rattle.gl_calculus.specs.Sound.{is_sound_scalar, are_sound, is_sound_value};
-ghost use Rattle.gl_calculus.specs.Sound.{are_sound_overrides, is_sound_sheet, is_sound_frame};
-ghost use Rattle.gl_calculus.specs.Sound.{overrides_rank, are_inside};
-ghost use Rattle.gl_calculus.specs.Sheet.{overrides_weight};
-ghost use Rattle.gl_calculus.specs.Value as V;
+ghost use Rattle.gl_calculus.specs.Evaluation.Sound.{is_sound_scalar, are_sound, is_sound_value};
+ghost use Rattle.gl_calculus.specs.Evaluation.Sound.{are_sound_overrides, is_sound_sheet};
+ghost use Rattle.gl_calculus.specs.Evaluation.Sound.{is_sound_frame};
+ghost use Rattle.gl_calculus.specs.Evaluation.Sound.{overrides_rank, are_inside};
+ghost use Rattle.gl_calculus.specs.Values.Sheet.{overrides_weight};
+ghost use Rattle.gl_calculus.specs.Values.Value as V;
 ghost use Rattle.gl_value.specs.View.{value_tree, array_tree, frame_tree, sheet_tree, scalar_tree};
 ghost use Rattle.gl_value.specs.View.{override_trees, item_trees};
 ghost use Rattle.gl_value.specs.Parts.{is_after};

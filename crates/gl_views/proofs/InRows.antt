@@ -1,7 +1,7 @@
 -- Items in rows.
 use Rattle.std.proofs.Common.{◌≡◌, ◌∙◌, ℕ, zero, suc, ◌+◌, ◌*◌, ◌<◌, ◌≤◌, List, [], ◌∷◌, ◌++◌, length, map, take, drop, refl, sym, arith, append_assoc, append-nil, length-drop}
-use Rattle.gl_calculus.specs.Calculation.{Shown}
-use Rattle.gl_language.specs.Text.{Bytes}
+use Rattle.gl_calculus.specs.Calculation.Calculation.{Shown}
+use Rattle.gl_language.specs.Texts.Text.{Bytes}
 use Rattle.gl_views.specs.Rows.{in_rows}
 use Rattle.gl_views.specs.Cells.{cell_of}
 

@@ -4,8 +4,8 @@ use Rattle.std.specs.List.{join_with_byte}
 use Rattle.std.specs.String.{string_bytes}
 use Rattle.std.proofs.lemmas.Bool.{cases_lt}
 use Rattle.std.proofs.lemmas.List.{drop_more, at_drop_all}
-use Rattle.gl_language.specs.Text.{Bytes}
-use Rattle.gl_protocol.specs.Tables.{right_aligned, aligned}
+use Rattle.gl_language.specs.Texts.Text.{Bytes}
+use Rattle.gl_protocol.specs.Replies.Tables.{right_aligned, aligned}
 use Rattle.gl_views.specs.Cells.{texts_of}
 
 -- what is still to come of some texts, behind others or not

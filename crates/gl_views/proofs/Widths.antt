@@ -4,8 +4,8 @@ use Rattle.std.specs.Prelude.{encode_utf8, encode_utf8_all}
 use Rattle.std.specs.Str.{chars}
 use Rattle.std.proofs.lemmas.Bool.Decides.{nat_tests}
 use Rattle.std.proofs.lemmas.Str.{encode_ascii}
-use Rattle.gl_language.specs.Text.{Bytes}
-use Rattle.gl_protocol.specs.Tables.{cell_text, wider}
+use Rattle.gl_language.specs.Texts.Text.{Bytes}
+use Rattle.gl_protocol.specs.Replies.Tables.{cell_text, wider}
 
 -- the widths, of which so many are raised to those of a row
 abbrev pub raised : List ℕ → List Bytes → ℕ → List ℕ

@@ -5,9 +5,9 @@ use Rattle.std.specs.String.{string_bytes}
 use Rattle.std.specs.declared.alloc.Global.{Global}
 use Rattle.std.specs.declared.string.String.{String}
 use Rattle.std.specs.declared.vec.Vec.{Vec}
-use Rattle.gl_calculus.specs.Calculation.{Shown}
-use Rattle.gl_language.specs.Text.{Bytes, shown_text}
-use Rattle.gl_protocol.specs.Tables.{line, cell_text, aligned}
+use Rattle.gl_calculus.specs.Calculation.Calculation.{Shown}
+use Rattle.gl_language.specs.Texts.Text.{Bytes, shown_text}
+use Rattle.gl_protocol.specs.Replies.Tables.{line, cell_text, aligned}
 
 abbrev pub cell_of : Shown → Bytes
 cell_of x = cell_text (shown_text x)

@@ -1,9 +1,9 @@
 //! The text of an oracle.
 ghost use Rattle.std.specs.Prelude.{◌≡◌, ◌++◌, IfOk, OnOk};
 ghost use Rattle.std.specs.String.{string_bytes};
-ghost use Rattle.gl_language.specs.Text as text;
+ghost use Rattle.gl_language.specs.Texts.Text as text;
 ghost use Rattle.gl_plane.specs.Permit.{permit_tree};
-ghost use Rattle.gl_protocol.specs.Tables.{line, permit_text, entry_text, oracle_text};
+ghost use Rattle.gl_protocol.specs.Replies.Tables.{line, permit_text, entry_text, oracle_text};
 
 use gl_ast::{put, put_address, put_number};
 use gl_plane::{Entry, NoMemory, Oracle, Permit, Size};

@@ -3,7 +3,8 @@ ghost use Rattle.std.specs.Prelude.{◌≡◌, ◌<◌, ◌++◌, ◌*◌, ◌�
 ghost use Rattle.std.specs.Prelude.{OnOk, if◌then◌else◌};
 ghost use Rattle.std.specs.{Str.chars, String.string_bytes};
 ghost use Rattle.gl_value.specs.Made.{shown_tree};
-ghost use Rattle.gl_protocol.specs.Tables.{cell_text, right_aligned, wider, widths, table_text};
+ghost use Rattle.gl_protocol.specs.Replies.Tables.{cell_text, right_aligned, wider, widths};
+ghost use Rattle.gl_protocol.specs.Replies.Tables.{table_text};
 ghost use Rattle.gl_views.specs.Cells.{cell_of, texts_of, rows_of, line_of};
 ghost use Rattle.gl_views.specs.Rows.{in_rows};
 

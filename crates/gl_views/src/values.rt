@@ -1,7 +1,7 @@
 //! The texts of values and contents.
 ghost use Rattle.std.specs.Prelude.{◌≡◌, ◌++◌, IfOk, OnOk};
 ghost use Rattle.std.specs.String.{string_bytes};
-ghost use Rattle.gl_language.specs.Text as text;
+ghost use Rattle.gl_language.specs.Texts.Text as text;
 ghost use Rattle.gl_cells.specs.Content.{content_tree};
 ghost use Rattle.gl_value.specs.{Made.shown_tree, View.error_tree, View.scalar_tree};
 

@@ -2,10 +2,10 @@
 use Rattle.std.specs.List.{concat}
 use Rattle.std.specs.Io.KnownBytes.{Appends}
 use Rattle.std.proofs.Common.{◌≡◌, ◌<◌, ◌≤◌, ℕ, false, IsTrue, List, [], length, take, Option, Some, IfSome, refl, ap, sym, subst, arith, append-nil}
-use Rattle.gl_language.specs.Text.{Bytes}
-use Rattle.gl_protocol.specs.Output.{is_within_limit, items_of}
-use Rattle.gl_protocol.specs.Framing.{Item}
-use Rattle.gl_run.specs.Out.{IsPrefix, WroteAll, WroteAllTelling, WroteSome, WroteCut, Exceeds}
+use Rattle.gl_language.specs.Texts.Text.{Bytes}
+use Rattle.gl_protocol.specs.Scripts.Output.{is_within_limit, items_of}
+use Rattle.gl_protocol.specs.Framing.Framing.{Item}
+use Rattle.gl_protocol.specs.Run.Out.{IsPrefix, WroteAll, WroteAllTelling, WroteSome, WroteCut, Exceeds}
 use Rattle.gl_run.specs.Status.{IfDone}
 use Rattle.gl_run.proofs.Fitting.{exceeding}
 use Rattle.gl_run.specs.declared.top.Status.{Status}

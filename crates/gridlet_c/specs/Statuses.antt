@@ -1,9 +1,9 @@
 -- The statuses of calls from C, and what a call leaves.
 use Rattle.std.specs.Prelude.{◌≡◌, ℕ, nat_lt, Bool, false, ◌||◌, ◌==◌, IsTrue}
 use Rattle.std.specs.declared.option.Option.{Option}
-use Rattle.gl_language.specs.Text.{Bytes}
-use Rattle.gl_protocol.specs.Output.{is_within_limit, items_of}
-use Rattle.gl_run.specs.Out.{WroteAll, WroteAllTelling, WroteSome, WroteCut, Exceeds}
+use Rattle.gl_language.specs.Texts.Text.{Bytes}
+use Rattle.gl_protocol.specs.Scripts.Output.{is_within_limit, items_of}
+use Rattle.gl_protocol.specs.Run.Out.{WroteAll, WroteAllTelling, WroteSome, WroteCut, Exceeds}
 use Rattle.gl_run.specs.declared.top.Status.{Status}
 use Rattle.gl_run.specs.declared.top.Status.TheVariants.{Done, Usage, NoMemory, ReadFault, WriteFault, InputLimit}
 

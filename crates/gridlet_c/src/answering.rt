@@ -1,6 +1,7 @@
 //! A script is answered into a sink.
 ghost use Rattle.std.specs.Prelude.{◌≡◌, ◌≢◌, ℕ, List, Option, IfOk, None};
-ghost use Rattle.gl_run.specs.{Call.words_call, Call.input_of, Status.number_of};
+ghost use Rattle.gl_run.specs.{Status.number_of};
+ghost use Rattle.gl_protocol.specs.Run.Call.{words_call, input_of};
 ghost use Rattle.gridlet_c.specs.Statuses.{Leaves};
 
 use gl_demand::{Silent, Steps};

@@ -4,7 +4,7 @@
 
 ghost use Rattle.std.specs.Prelude.{◌≡◌, ◌≢◌, ◌↔◌, ◌⊎◌, ◌≤◌, [], take, drop, length, Some};
 ghost use Rattle.std.specs.Prelude.{IsTrue};
-ghost use Rattle.gl_language.specs.Text.{Bytes};
+ghost use Rattle.gl_language.specs.Texts.Text.{Bytes};
 ghost use Rattle.gl_run.specs.{declared.top.Status.Status as Ended, Status.number_of};
 ghost use Rattle.gridlet_c.specs.Statuses.{is_unusable, Leaves, IsWhole};
 

@@ -1,6 +1,6 @@
 //! Scalars that are written as cells show them.
 ghost use Rattle.std.specs.Prelude.{IsTrue};
-ghost use Rattle.gl_calculus.specs.Sound.{is_sound_value};
+ghost use Rattle.gl_calculus.specs.Evaluation.Sound.{is_sound_value};
 ghost use Rattle.gl_value.specs.View.{value_tree};
 
 use crate::addresses::range;

@@ -1,6 +1,6 @@
 //! Sheets that are made of `set` lines.
 ghost use Rattle.std.specs.Prelude.{IfOk};
-ghost use Rattle.gl_language.specs.Content.{IsProperContent};
+ghost use Rattle.gl_language.specs.Reading.Content.{IsProperContent};
 ghost use Rattle.gl_cells.specs.Content.{content_tree};
 
 use gl_cells::{Cells, Content};

@@ -2,8 +2,8 @@
 use Rattle.std.proofs.Common.{◌≡◌, ℕ, ◌+◌, ◌<◌, List, [], ◌∷◌, length, drop, get_or, Some, Bool, true, false, cond, refl, subst, option_map}
 use Rattle.std.specs.List.{find}
 use Rattle.std.proofs.lemmas.List.{drop_more}
-use Rattle.gl_query.specs.Query.{Ready}
-use Rattle.gl_calculus.specs.Key.{Key, Outcome, same_key}
+use Rattle.gl_calculus.specs.Computation.Query.{Ready}
+use Rattle.gl_calculus.specs.Evaluation.Key.{Key, Outcome, same_key}
 use Rattle.gl_calculus.proofs.Tests.{key_equality}
 use Rattle.gl_demand.specs.Sound.{IsSoundTable, IsSoundFound}
 

@@ -1,7 +1,7 @@
 -- A list of arrays with one more behind the last.
 use Rattle.std.proofs.Common.{◌≡◌, ℕ, zero, suc, [], ◌∷◌, ◌++◌, length, slice_get, Some, true}
-use Rattle.gl_calculus.specs.Grid.{Addr, Size, is_before}
-use Rattle.gl_calculus.specs.Oracle.{Sizes, AreSizes}
+use Rattle.gl_calculus.specs.Grid.Grid.{Addr, Size, is_before}
+use Rattle.gl_calculus.specs.Evaluation.Oracle.{Sizes, AreSizes}
 
 pub in_order_alone : (xs : Sizes) (x : Addr × Size) → length xs ≡ 0 → AreSizes (xs ++ x ∷ [])
 in_order_alone [] x e = tt

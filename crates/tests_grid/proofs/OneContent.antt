@@ -2,7 +2,7 @@
 use Rattle.std.proofs.Common.{◌≡◌, ◌≢◌, ◌⊎◌, inl, inr, ℕ, zero, suc, ◌+◌, ◌<◌, ◌≤◌, nat_le, Bool, true, false, ◌&&◌, not, cond, List, [], ◌∷◌, Option, Some, None, refl, ap, arith, sym, ◌∙◌, subst}
 use Rattle.std.specs.List.{find, list_all, range_with_len}
 use Rattle.std.proofs.lemmas.Bool.{le-leb}
-use Rattle.gl_calculus.specs.Grid.{Addr, addr, Range, same_addr, extents, addresses, covers}
+use Rattle.gl_calculus.specs.Grid.Grid.{Addr, addr, Range, same_addr, extents, addresses, covers}
 use Rattle.gl_calculus.proofs.Tests.{both, and_true, addr_exact, addr_same}
 use Rattle.gl_grant.proofs.Refused.{next_none}
 use Rattle.gl_calculus.proofs.Grants.{clash, all_covered, by_rows, row_all}

@@ -1,6 +1,6 @@
 use Rattle.std.proofs.Common.{ap, sym, ◌∙◌}
-use Rattle.gl_calculus.specs.Oracle.{grant}
-use Rattle.gl_calculus.proofs.Proved.{only_grant_gives}
+use Rattle.gl_calculus.specs.Evaluation.Oracle.{grant}
+use Rattle.laws_calculus.proofs.Calculus.Proved.{only_grant_gives}
 use Rattle.gl_grant.proofs.sizes_fix_permits.Goals as goal
 
 pub returns : goal.returns

@@ -1,6 +1,6 @@
 use Rattle.std.proofs.Common.{◌↔◌, ◌<◌, ◌-◌}
-use Rattle.gl_calculus.specs.Value.{Oracle}
-use Rattle.gl_calculus.specs.Oracle.{Sizes}
+use Rattle.gl_calculus.specs.Values.Value.{Oracle}
+use Rattle.gl_calculus.specs.Evaluation.Oracle.{Sizes}
 use Rattle.gl_rounds.specs.Rounds.{Reaches}
 use Rattle.gl_rounds.proofs.iterate.Given as goal
 

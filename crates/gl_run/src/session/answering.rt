@@ -1,12 +1,14 @@
 //! The replies of a session, item by item.
 ghost use Rattle.std.specs.Prelude.{◌≡◌, ◌≢◌, ◌||◌, ℕ, false, None, IfOk, OnOk, OnErr, IfSome, codes};
 ghost use Rattle.std.specs.Option.{option_to_list};
-ghost use Rattle.gl_order.specs.Rule.{PicksBelow};
+ghost use Rattle.gl_calculus.specs.Steps.Rule.{PicksBelow};
 ghost use Rattle.gl_ast.specs.View.{version_tree};
 ghost use Rattle.gl_script.specs.Framer.{told, stream_at};
-ghost use Rattle.gl_protocol.specs.Stream.{nothing, step, gained, after};
-ghost use Rattle.gl_protocol.specs.{FramingLaw.up_to_quit, Framing.has_quit, Output.is_line};
-ghost use Rattle.gl_protocol.specs.{Output.is_refusal};
+ghost use Rattle.gl_protocol.specs.Framing.Stream.{nothing, step, gained, after};
+ghost use Rattle.laws_protocol.specs.FramingLaw.{up_to_quit};
+ghost use Rattle.gl_protocol.specs.Framing.Framing.{has_quit};
+ghost use Rattle.gl_protocol.specs.Scripts.Output.{is_line};
+ghost use Rattle.gl_protocol.specs.Scripts.Output.{is_refusal};
 ghost use Rattle.gl_run.specs.State.{state_of, start, fresh};
 ghost use Rattle.gl_run.specs.Serving.{ended_item, byte_item, last_item, TellsQuit, Serves};
 ghost use Rattle.gl_run.specs.{Sending.Collects};

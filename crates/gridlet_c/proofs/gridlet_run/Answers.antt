@@ -1,5 +1,5 @@
 use Rattle.std.proofs.Common.{rules, arith, ◌≡◌, ◌<◌, ◌≤◌, ◌∙◌, ℕ, List, [], Option, Some, length, take, ap, sym, subst}
-use Rattle.gl_protocol.specs.Output.{items_of}
+use Rattle.gl_protocol.specs.Scripts.Output.{items_of}
 use Rattle.gl_run.proofs.Ends.{wrote_none}
 use Rattle.gl_run.specs.declared.top.Status.TheVariants as status
 use Rattle.gridlet_c.specs.Statuses.{Leaves}

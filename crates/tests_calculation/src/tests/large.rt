@@ -1,6 +1,6 @@
 //! Sheets of many copies and of large arrays, a table, and a sheet that is full.
 ghost use Rattle.std.specs.Prelude.{◌≤◌, IfOk};
-ghost use Rattle.gl_language.specs.Content.{IsProperContent};
+ghost use Rattle.gl_language.specs.Reading.Content.{IsProperContent};
 ghost use Rattle.gl_cells.specs.Content.{content_tree};
 
 use crate::tests::calculations::{

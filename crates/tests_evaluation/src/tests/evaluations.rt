@@ -1,6 +1,6 @@
 //! How often evaluations are seen, and what a value shows.
 ghost use Rattle.std.specs.Prelude.{IfSome, IsTrue};
-ghost use Rattle.gl_calculus.specs.Sound.{is_sound_value};
+ghost use Rattle.gl_calculus.specs.Evaluation.Sound.{is_sound_value};
 ghost use Rattle.gl_value.specs.View.{value_tree};
 
 use crate::tests::table::Table;

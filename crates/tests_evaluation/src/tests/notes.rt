@@ -1,7 +1,7 @@
 //! Notes that a run leaves, and the next run begins with.
 ghost use Rattle.std.specs.Prelude.{IfOk};
-ghost use Rattle.gl_query.specs.Remembered.{AreTrue};
-ghost use Rattle.gl_calculus.specs.Key.{same_key};
+ghost use Rattle.gl_machine.specs.Remembered.{AreTrue};
+ghost use Rattle.gl_calculus.specs.Evaluation.Key.{same_key};
 ghost use Rattle.gl_ast.specs.View.{version_tree};
 ghost use Rattle.gl_cells.specs.Sheet.{sheet};
 ghost use Rattle.gl_memo.specs.Notes.{notes_of};

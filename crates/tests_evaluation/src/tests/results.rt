@@ -1,7 +1,7 @@
 //! Results that are kept for the next run, by each pick rule.
 ghost use Rattle.std.specs.Prelude.{◌≤◌, IfOk};
-ghost use Rattle.gl_query.specs.Remembered.{AreTrue};
-ghost use Rattle.gl_calculus.specs.Key.{same_key};
+ghost use Rattle.gl_machine.specs.Remembered.{AreTrue};
+ghost use Rattle.gl_calculus.specs.Evaluation.Key.{same_key};
 ghost use Rattle.gl_demand.specs.Evaluators.{program_of};
 
 use crate::tests::resumed::{Ran, run_with, seen_of};

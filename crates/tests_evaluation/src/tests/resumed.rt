@@ -1,7 +1,9 @@
 //! Runs that begin with the results of an earlier one, over one sheet.
 ghost use Rattle.std.specs.Prelude.{◌≤◌, [], IfOk};
-ghost use Rattle.gl_query.specs.{InOrder.AreOrdered, Laws.IsQuiet, Remembered.AreTrue};
-ghost use Rattle.gl_calculus.specs.Key.{same_key};
+ghost use Rattle.gl_machine.specs.InOrder.{AreOrdered};
+ghost use Rattle.gl_machine.specs.Quiet.{IsQuiet};
+ghost use Rattle.gl_machine.specs.Remembered.{AreTrue};
+ghost use Rattle.gl_calculus.specs.Evaluation.Key.{same_key};
 ghost use Rattle.gl_ast.specs.View.{version_tree};
 ghost use Rattle.gl_cells.specs.Sheet.{sheet};
 ghost use Rattle.gl_demand.specs.Evaluators.{program_of};

@@ -1,9 +1,12 @@
 //! Runs of a core over a sheet, by each pick rule.
 ghost use Rattle.std.specs.Prelude.{◌≡◌, ◌≤◌, [], IfOk, IsTrue, map};
-ghost use Rattle.gl_query.specs.{Lists.Member, Lists.AreDistinct, InOrder.AreOrdered, Laws.IsQuiet};
-ghost use Rattle.gl_query.specs.{Remembered.AreTrue};
-ghost use Rattle.gl_calculus.specs.{Key.same_key, Sound.IsProperKey};
-ghost use Rattle.gl_calculus.specs.Key as K;
+ghost use Rattle.gl_calculus.specs.Computation.Lists.{Member, AreDistinct};
+ghost use Rattle.gl_machine.specs.InOrder.{AreOrdered};
+ghost use Rattle.gl_machine.specs.Quiet.{IsQuiet};
+ghost use Rattle.gl_machine.specs.Remembered.{AreTrue};
+ghost use Rattle.gl_calculus.specs.Evaluation.Key.{same_key};
+ghost use Rattle.gl_calculus.specs.Evaluation.Sound.{IsProperKey};
+ghost use Rattle.gl_calculus.specs.Evaluation.Key as K;
 ghost use Rattle.gl_ast.specs.View.{version_tree};
 ghost use Rattle.gl_cells.specs.Sheet.{sheet};
 ghost use Rattle.gl_memo.specs.Notes.{notes_of};

@@ -1,9 +1,9 @@
 //! A table of the outcomes that evaluations found.
 ghost use Rattle.std.specs.Prelude.{◌≡◌, find, option_map};
 ghost use Rattle.std.specs.Option.{option_copied};
-ghost use Rattle.gl_query.specs.Query.{Ready};
+ghost use Rattle.gl_calculus.specs.Computation.Query.{Ready};
 ghost use Rattle.gl_demand.specs.{Sound.IsSoundFound, View.key_tree, View.outcome_tree};
-ghost use Rattle.gl_calculus.specs.Key.{same_key};
+ghost use Rattle.gl_calculus.specs.Evaluation.Key.{same_key};
 
 use gl_demand::{Key, Known, Outcome};
 use gl_plane::NoMemory;
@@ -25,7 +25,7 @@ pub struct Table {
 
 impl Known for Table {
     ghost use Rattle.gl_demand.specs.View.{key_tree, outcome_tree};
-    ghost use Rattle.gl_calculus.specs.Key.{same_key};
+    ghost use Rattle.gl_calculus.specs.Evaluation.Key.{same_key};
     ghost use Rattle.std.specs.Prelude.{find, option_map};
 
     ghost outcomes = { λ t.

@@ -1,7 +1,7 @@
 //! Results that are tidied between runs, each of which leaves keys behind.
 ghost use Rattle.std.specs.Prelude.{◌≤◌, IfOk};
-ghost use Rattle.gl_query.specs.Remembered.{AreTrue};
-ghost use Rattle.gl_calculus.specs.Key.{same_key};
+ghost use Rattle.gl_machine.specs.Remembered.{AreTrue};
+ghost use Rattle.gl_calculus.specs.Evaluation.Key.{same_key};
 ghost use Rattle.gl_demand.specs.Evaluators.{program_of};
 
 use crate::tests::results::{kept_after, outcome_of};

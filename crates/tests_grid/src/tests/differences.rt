@@ -1,6 +1,6 @@
 //! Where two oracles differ, by ranges and address by address, and oracles once more.
 ghost use Rattle.std.specs.Prelude.{IfOk};
-ghost use Rattle.gl_calculus.specs.Differences.{AreApart};
+ghost use Rattle.gl_calculus.specs.Calculation.Differences.{AreApart};
 
 use crate::tests::grant::{OneContent, append, granted};
 use gl_plane::{Addr, Oracle, Range, Sizes};
@@ -44,7 +44,7 @@ const PAIRS: &[Pair] = &[
 ];
 
 /// The oracle of these arrays: no two areas that spill meet.
-#[tactic(auto, using(gl_calculus::proofs::Apart::apart))]
+#[tactic(auto, using(laws_calculus::proofs::Calculus::Apart::apart))]
 fn oracle_of(alloc: Global, arrays: &Arrays) -> Result<Oracle, Fail>
     ensures { IfOk result AreApart }
 {

@@ -1,6 +1,6 @@
 //! Permits beside content and beside other arrays, and what is in the way of those that are refused.
 ghost use Rattle.std.specs.Prelude.{IfOk};
-ghost use Rattle.gl_calculus.specs.Differences.{AreApart};
+ghost use Rattle.gl_calculus.specs.Calculation.Differences.{AreApart};
 
 use gl_grant::{Blocks, Obstacle, blocker, grant, is_consistent};
 use gl_plane::{Addr, Oracle, Permit, Range, Sizes, whole_grid};
@@ -15,7 +15,7 @@ pub struct OneContent {
 }
 
 impl Blocks for OneContent {
-    ghost use Rattle.gl_calculus.specs.Grid.{same_addr};
+    ghost use Rattle.gl_calculus.specs.Grid.Grid.{same_addr};
 
     ghost held = { λ s a. same_addr a s.at };
 
@@ -123,7 +123,7 @@ fn permits_and_obstacles(rt: HostRuntime) -> Result<(), Fail> {
 }
 
 // The permits of these arrays beside the content.
-#[tactic(auto, using(gl_calculus::proofs::Apart::apart))]
+#[tactic(auto, using(laws_calculus::proofs::Calculus::Apart::apart))]
 pub fn granted(alloc: Global, sizes: &Sizes, blocks: &OneContent) -> Result<Oracle, Fail>
     ensures { IfOk result AreApart }
 {

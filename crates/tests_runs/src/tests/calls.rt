@@ -1,5 +1,6 @@
 //! Calls of `run` over sources and sinks in memory, and whether they end as they must.
-ghost use Rattle.gl_order.specs.Rule.{PicksBelow, rule_of};
+ghost use Rattle.gl_calculus.specs.Steps.Rule.{PicksBelow};
+ghost use Rattle.gl_order.specs.Rule.{rule_of};
 
 use gl_demand::{Silent, Steps, Watch};
 use gl_order::{Order, by_kind};

@@ -1,6 +1,6 @@
 //! A sheet that is full, contents put at once, and plain texts.
 ghost use Rattle.std.specs.Prelude.{IfOk};
-ghost use Rattle.gl_language.specs.Content.{IsProperContent};
+ghost use Rattle.gl_language.specs.Reading.Content.{IsProperContent};
 ghost use Rattle.gl_cells.specs.Content.{content_tree};
 
 use crate::tests::asserts::assert_count;

@@ -1,5 +1,5 @@
 //! Replicas that take the same edits in any order, and their limits.
-ghost use Rattle.gl_language.specs.Content.{IsProperContent};
+ghost use Rattle.gl_language.specs.Reading.Content.{IsProperContent};
 ghost use Rattle.gl_cells.specs.Content.{content_tree};
 
 use gl_cells::Content;

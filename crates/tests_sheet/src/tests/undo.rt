@@ -1,6 +1,6 @@
 //! Steps that are undone and done again, and their limit.
 ghost use Rattle.std.specs.Prelude.{◌<◌, length, IfOk, IfSome, IsFalse, IsTrue};
-ghost use Rattle.gl_language.specs.Content.{IsProperContent};
+ghost use Rattle.gl_language.specs.Reading.Content.{IsProperContent};
 ghost use Rattle.gl_cells.specs.Content.{content_tree};
 ghost use Rattle.gl_undo.specs.History.{done, undone};
 ghost use Rattle.gl_undo.specs.View.{AreProperChanges};

@@ -1,6 +1,6 @@
 //! Values as texts: a scalar as a cell shows it, an array in braces, as `{1 2 / 3 4}`.
 ghost use Rattle.std.specs.Prelude.{IfOk, IsTrue};
-ghost use Rattle.gl_calculus.specs.Sound.{is_sound_value};
+ghost use Rattle.gl_calculus.specs.Evaluation.Sound.{is_sound_value};
 ghost use Rattle.gl_funs.specs.Elements.{AreSound};
 ghost use Rattle.gl_value.specs.View.{value_tree};
 

@@ -1,8 +1,8 @@
 use Rattle.std.proofs.Common.{◌∙◌, Vec, Global, Bool, ◌≤◌, length, [], List, map, sym, ap, arith}
 use Rattle.std.specs.List.{list_any, range_with_len}
 use lib.Pointwise.{pointwise}
-use Rattle.gl_calculus.specs.Value as V
-use Rattle.gl_calculus.specs.Functions as F
+use Rattle.gl_calculus.specs.Values.Value as V
+use Rattle.gl_calculus.specs.Values.Functions as F
 use Rattle.gl_value.specs.View.{scalar_tree, value_tree}
 use Rattle.gl_value.specs.declared.Scalar.{Scalar}
 use Rattle.gl_value.specs.contracts.ScalarPartialEq.TheImpl.{ghosts as scalar}

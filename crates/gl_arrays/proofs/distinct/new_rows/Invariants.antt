@@ -1,6 +1,6 @@
 use Rattle.std.proofs.Common.{◌≡◌, ◌≤◌, ◌-◌, ◌++◌, [], map, vec_len}
 use Rattle.std.specs.List.{range_with_len}
-use Rattle.gl_calculus.specs.Functions.{new_rows}
+use Rattle.gl_calculus.specs.Values.Functions.{new_rows}
 use Rattle.gl_value.specs.View.{scalar_tree, value_tree}
 use Rattle.gl_arrays.specs.Parts.{row}
 use Rattle.gl_arrays.proofs.distinct.new_rows.Given as goal

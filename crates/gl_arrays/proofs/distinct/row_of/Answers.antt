@@ -1,5 +1,5 @@
 use Rattle.std.proofs.Common.{[]}
-use Rattle.gl_calculus.specs.Lift.{item}
+use Rattle.gl_calculus.specs.Values.Lift.{item}
 use Rattle.gl_value.specs.View.{value_tree}
 use Rattle.gl_lift.proofs.Rows.{element_more}
 use Rattle.gl_arrays.proofs.distinct.row_of.Goals as goal

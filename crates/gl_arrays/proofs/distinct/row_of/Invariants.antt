@@ -1,6 +1,6 @@
 use Rattle.std.proofs.Common.{◌≡◌, map}
 use Rattle.std.specs.List.{range_with_len}
-use Rattle.gl_calculus.specs.Lift.{item}
+use Rattle.gl_calculus.specs.Values.Lift.{item}
 use Rattle.gl_value.specs.View.{scalar_tree, value_tree}
 use Rattle.gl_arrays.proofs.distinct.row_of.Given as goal
 

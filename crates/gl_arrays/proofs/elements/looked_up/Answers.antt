@@ -1,8 +1,8 @@
 use Rattle.std.proofs.Common.{◌≡◌, ◌∙◌, sym}
 use Rattle.std.proofs.lemmas.Result.{IfOk-weaker}
-use Rattle.gl_calculus.specs.Value.{elements}
-use Rattle.gl_calculus.specs.Lift.{item}
-use Rattle.gl_calculus.specs.Functions.{looked_up}
+use Rattle.gl_calculus.specs.Values.Value.{elements}
+use Rattle.gl_calculus.specs.Values.Lift.{item}
+use Rattle.gl_calculus.specs.Values.Functions.{looked_up}
 use Rattle.gl_value.specs.Forms.{scalar_tree-Err}
 use Rattle.gl_value.specs.View.{scalar_tree, value_tree}
 use Rattle.gl_arrays.proofs.OneColumn.{lookup_passed, lookup_found, lookup_ended, lookup_start}

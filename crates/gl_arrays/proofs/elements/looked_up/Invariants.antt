@@ -1,6 +1,6 @@
 use Rattle.std.proofs.Common.{◌≡◌, ◌-◌}
-use Rattle.gl_calculus.specs.Functions.{looked_up}
-use Rattle.gl_calculus.specs.Value.{elements}
+use Rattle.gl_calculus.specs.Values.Functions.{looked_up}
+use Rattle.gl_calculus.specs.Values.Value.{elements}
 use Rattle.gl_value.specs.View.{scalar_tree, value_tree}
 use Rattle.gl_arrays.specs.Parts.{column_from}
 use Rattle.gl_arrays.proofs.elements.looked_up.Given as goal

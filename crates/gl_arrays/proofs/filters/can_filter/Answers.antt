@@ -1,5 +1,5 @@
 use Rattle.std.proofs.Common.{◌≡◌, ◌∙◌, true, ap, sym}
-use Rattle.gl_calculus.specs.Functions.{no_fault, first_fault, truth_fault, is_column_beside}
+use Rattle.gl_calculus.specs.Values.Functions.{no_fault, first_fault, truth_fault, is_column_beside}
 use Rattle.gl_value.specs.View.{value_tree}
 use Rattle.gl_arrays.proofs.OneColumn.{is_column, column_is, filter_tests}
 use Rattle.gl_arrays.proofs.filters.can_filter.Goals as goal

@@ -1,7 +1,7 @@
 use Rattle.std.proofs.Common.{◌≡◌, ◌∙◌, [], map, ap, subst, sym, arith, refl, IfOk}
 use Rattle.std.proofs.lemmas.List.{nil_from_length}
-use Rattle.gl_calculus.specs.ErrKind.{ErrKind}
-use Rattle.gl_calculus.specs.Functions.{some_rows, value_or_error}
+use Rattle.gl_calculus.specs.Values.ErrKind.{ErrKind}
+use Rattle.gl_calculus.specs.Values.Functions.{some_rows, value_or_error}
 use Rattle.gl_value.specs.Forms.{scalar_tree-Err, value_tree-One}
 use Rattle.gl_value.specs.View.{value_tree}
 use Rattle.gl_arrays.specs.Parts.{row}

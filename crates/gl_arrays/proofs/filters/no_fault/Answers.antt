@@ -1,4 +1,4 @@
-use Rattle.gl_calculus.specs.Functions.{first_fault, truth_fault}
+use Rattle.gl_calculus.specs.Values.Functions.{first_fault, truth_fault}
 use Rattle.gl_value.specs.View.{error_tree, value_tree}
 use Rattle.gl_arrays.specs.Parts.{column_from}
 use Rattle.gl_arrays.proofs.OneColumn.{fault_passed, fault_found}

@@ -1,5 +1,5 @@
 use Rattle.std.proofs.Common.{◌≡◌, ◌-◌}
-use Rattle.gl_calculus.specs.Functions.{first_fault, truth_fault}
+use Rattle.gl_calculus.specs.Values.Functions.{first_fault, truth_fault}
 use Rattle.gl_value.specs.View.{value_tree}
 use Rattle.gl_arrays.specs.Parts.{column_from}
 use Rattle.gl_arrays.proofs.filters.no_fault.Given as goal

@@ -1,7 +1,7 @@
 use Rattle.std.proofs.Common.{◌≡◌, ap, arith, to_z, of_z, w64}
 use Rattle.std.proofs.lemmas.Int.{to_z-of_z}
-use Rattle.gl_calculus.specs.ErrKind.{ErrKind}
-use Rattle.gl_calculus.specs.Functions.{some_rows}
+use Rattle.gl_calculus.specs.Values.ErrKind.{ErrKind}
+use Rattle.gl_calculus.specs.Values.Functions.{some_rows}
 use Rattle.gl_value.specs.View.{value_tree}
 use Rattle.gl_arrays.proofs.Windows.{part_window}
 use Rattle.gl_arrays.proofs.parts.spans.Goals as goal

@@ -1,7 +1,7 @@
 use Rattle.std.proofs.Common.{◌≡◌, ◌+◌, ◌<◌, subst, sym, arith, rules, IfOk}
 use Rattle.gl_value.specs.Forms.{trees}
-use Rattle.gl_calculus.specs.ErrKind.{ErrKind}
-use Rattle.gl_calculus.specs.Lift.{item}
+use Rattle.gl_calculus.specs.Values.ErrKind.{ErrKind}
+use Rattle.gl_calculus.specs.Values.Lift.{item}
 use Rattle.gl_value.specs.View.{value_tree}
 use Rattle.gl_arrays.proofs.Tables.{some_rows_are}
 use Rattle.gl_arrays.proofs.parts.window.Goals as goal

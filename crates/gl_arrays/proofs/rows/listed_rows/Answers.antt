@@ -1,6 +1,6 @@
 use Rattle.std.proofs.Common.{◌≡◌, ◌∙◌, length, ap, subst, arith, rules, IfOk}
-use Rattle.gl_calculus.specs.Grid.{size}
-use Rattle.gl_calculus.specs.Lift.{table}
+use Rattle.gl_calculus.specs.Grid.Grid.{size}
+use Rattle.gl_calculus.specs.Values.Lift.{table}
 use Rattle.gl_value.specs.View.{value_tree}
 use Rattle.gl_arrays.specs.Parts.{picked}
 use Rattle.gl_arrays.proofs.Listed.{listed_table}

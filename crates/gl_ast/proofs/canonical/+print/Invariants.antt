@@ -3,7 +3,7 @@ use denote.Param.Weighed.{most}
 use Rattle.gl_ast.proofs.Formula.TheLaws.{the_size}
 use Rattle.std.specs.List.{join_with_byte}
 use Rattle.std.specs.String.{string_bytes}
-use Rattle.gl_language.specs.Text.{operands_text, texts}
+use Rattle.gl_language.specs.Texts.Text.{operands_text, texts}
 use Rattle.gl_ast.specs.View.{argument_trees, operand_trees}
 use Rattle.gl_ast.proofs.Printing.{to_come}
 use Rattle.gl_ast.proofs.canonical.+print.Given as goal

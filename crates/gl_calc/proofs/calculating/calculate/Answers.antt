@@ -1,5 +1,5 @@
 use Rattle.std.proofs.Common.{◌≡◌, ◌+◌, sym, ◌∙◌, arith}
-use Rattle.gl_calculus.specs.Calculation.{round_budget}
+use Rattle.gl_calculus.specs.Calculation.Calculation.{round_budget}
 use Rattle.gl_ast.specs.View.{version_tree}
 use Rattle.gl_cells.specs.Sheet.{sheet}
 use Rattle.gl_calc.specs.declared.round.TopRound.{TopRound}

@@ -1,9 +1,9 @@
 use Rattle.std.proofs.Common.{◌≡◌, ◌∙◌, ℕ, ◌+◌, ◌++◌, map, drop, Option, Ok, Err, ap, subst, arith}
 use Rattle.std.proofs.lemmas.List.{drop_all}
-use Rattle.gl_query.specs.Machine.{Status, at}
-use Rattle.gl_calculus.specs.Grid.{AreInOrder}
-use Rattle.gl_calculus.specs.Value.{Top}
-use Rattle.gl_calculus.specs.Key.{Key, Outcome, Cell, same_key}
+use Rattle.gl_machine.specs.Machine.{Status, at}
+use Rattle.gl_calculus.specs.Grid.Grid.{AreInOrder}
+use Rattle.gl_calculus.specs.Values.Value.{Top}
+use Rattle.gl_calculus.specs.Evaluation.Key.{Key, Outcome, Cell, same_key}
 use Rattle.gl_core.specs.State.{state_of}
 use Rattle.gl_demand.proofs.Counting.{drop_item}
 use Rattle.gl_demand.proofs.Visiting.{last_in_order}

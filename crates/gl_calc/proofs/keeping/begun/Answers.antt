@@ -1,7 +1,7 @@
 use Rattle.std.proofs.Common.{[], List, sym, subst}
-use Rattle.gl_calculus.specs.Grid.{Addr}
-use Rattle.gl_calculus.specs.Differences.{AreApart}
-use Rattle.gl_calculus.specs.Memory.{Table}
+use Rattle.gl_calculus.specs.Grid.Grid.{Addr}
+use Rattle.gl_calculus.specs.Calculation.Differences.{AreApart}
+use Rattle.gl_calculus.specs.Calculation.Memory.{Table}
 use Rattle.std.proofs.lemmas.Result.{IfOk-weaker}
 use Rattle.gl_calc.specs.Kept.{AreRanges, AreKept}
 use Rattle.gl_calc.specs.Progress.{next_base, since}

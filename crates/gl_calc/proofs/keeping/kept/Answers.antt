@@ -1,6 +1,6 @@
 use Rattle.std.proofs.Common.{[], List, refl, sym, subst}
 use Rattle.std.proofs.lemmas.Result.{IfOk-weaker}
-use Rattle.gl_calculus.specs.Grid.{Addr}
+use Rattle.gl_calculus.specs.Grid.Grid.{Addr}
 use Rattle.gl_calc.specs.Kept.{AreRanges, AreKept}
 use Rattle.gl_calc.specs.Progress.{since}
 use Rattle.gl_calc.proofs.keeping.kept.Goals as goal

@@ -1,7 +1,7 @@
 use Rattle.std.proofs.Common.{◌≡◌, ◌||◌, [], length, ap, arith, sym, subst}
-use Rattle.gl_calculus.specs.Grid.{Addr}
-use Rattle.gl_calculus.specs.Memory.{Table, differs_at}
-use Rattle.gl_calculus.specs.Differences.{AreApart}
+use Rattle.gl_calculus.specs.Grid.Grid.{Addr}
+use Rattle.gl_calculus.specs.Calculation.Memory.{Table, differs_at}
+use Rattle.gl_calculus.specs.Calculation.Differences.{AreApart}
 use Rattle.gl_plane.specs.Changes.{is_covered}
 use Rattle.gl_calc.proofs.KeptNotes.{kept_notes, kept_of_none, single_of}
 use Rattle.gl_calc.proofs.keeping.kept_since.Goals as goal

@@ -1,5 +1,5 @@
 use Rattle.std.proofs.Common.{◌≡◌, ◌++◌, ◌∷◌, [], take, slice_get, Some, refl, sym, ap, ◌∙◌, append_assoc, append-nil, arith}
-use Rattle.gl_protocol.specs.Commands.{places_in}
+use Rattle.gl_calculus.specs.Edits.Sheets.{places_in}
 use Rattle.gl_cells.specs.Sheet.{sheet}
 use Rattle.gl_calc.proofs.Calcs.{clear_length}
 use Rattle.gl_calc.proofs.Marks.{some_there, none_there, take_whole, take_more, next_first, next_after}

@@ -1,5 +1,5 @@
 use Rattle.std.proofs.Common.{◌≡◌, ◌+◌, ◌++◌, ◌≤◌, map, find, take, length, slice_get, vec_len, vec_capacity}
-use Rattle.gl_protocol.specs.Commands.{places_in}
+use Rattle.gl_calculus.specs.Edits.Sheets.{places_in}
 use Rattle.gl_cells.specs.Search.{is_in_play}
 use Rattle.gl_cells.specs.Sheet.{sheet}
 use Rattle.gl_calc.proofs.marking.mark_in.Given as goal

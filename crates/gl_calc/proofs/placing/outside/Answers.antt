@@ -1,6 +1,6 @@
 use Rattle.std.proofs.Common.{not, rules}
 use Rattle.std.proofs.lemmas.Fn.{filter_same}
-use Rattle.gl_calculus.specs.Grid.{covers}
+use Rattle.gl_calculus.specs.Grid.Grid.{covers}
 use Rattle.gl_calc.proofs.placing.outside.Goals as goal
 
 pub returns : goal.returns

@@ -1,8 +1,8 @@
 use Rattle.std.proofs.Common.{◌∙◌, ◌+◌, List, ◌∷◌, ap, sym, drop}
 use Rattle.std.proofs.lemmas.List.{drop_more}
-use Rattle.gl_calculus.specs.Grid.{Addr}
-use Rattle.gl_protocol.specs.Commands.{with_content, with_contents}
-use Rattle.gl_protocol.proofs.SheetOrders.{order_with}
+use Rattle.gl_calculus.specs.Grid.Grid.{Addr}
+use Rattle.gl_calculus.specs.Edits.Sheets.{with_content, with_contents}
+use Rattle.laws_calculus.proofs.SheetEdits.SheetOrders.{order_with}
 use Rattle.gl_cells.specs.declared.content.Content.{Content}
 use Rattle.gl_cells.specs.Content.{content_tree}
 use Rattle.gl_cells.specs.Sheet.{sheet}

@@ -1,5 +1,5 @@
 use Rattle.std.proofs.Common.{drop}
-use Rattle.gl_calculus.specs.Formula.{Cells, IsSheet}
+use Rattle.gl_calculus.specs.Formulas.Formula.{Cells, IsSheet}
 use Rattle.gl_cells.specs.Sheet.{sheet}
 use Rattle.gl_calc.specs.Places.{ArePlaces}
 use Rattle.gl_calc.proofs.Places.{Reached}

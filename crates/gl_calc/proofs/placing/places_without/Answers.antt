@@ -1,5 +1,5 @@
 use Rattle.std.proofs.Common.{List, not, filter, ap, sym, subst, ◌∙◌}
-use Rattle.gl_calculus.specs.Grid.{Addr, covers}
+use Rattle.gl_calculus.specs.Grid.Grid.{Addr, covers}
 use Rattle.gl_calc.specs.Places.{ArePlaces}
 use Rattle.gl_calc.proofs.Places.{without_covered}
 use Rattle.gl_calc.proofs.placing.places_without.Goals as goal

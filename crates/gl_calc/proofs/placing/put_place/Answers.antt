@@ -1,5 +1,5 @@
 use Rattle.std.proofs.Common.{◌≡◌, ◌<◌, ◌≤◌, ◌∙◌, List, length, IfSome, sym, subst}
-use Rattle.gl_calculus.specs.Grid.{Addr, AreInOrder}
+use Rattle.gl_calculus.specs.Grid.Grid.{Addr, AreInOrder}
 use Rattle.gl_calc.proofs.Formulas.{formulas_in_order}
 use Rattle.gl_calc.proofs.Places.{put_in, found, absent}
 use Rattle.gl_calc.proofs.placing.put_place.Goals as goal

@@ -1,5 +1,5 @@
 use Rattle.std.proofs.Common.{inl, sym, subst}
-use Rattle.gl_calculus.specs.Memory.{IsTableOf}
+use Rattle.gl_calculus.specs.Calculation.Memory.{IsTableOf}
 use Rattle.gl_calc.proofs.Called.{finished_table, sizes_given, sizes_failed, sizes_finished}
 use Rattle.gl_calc.proofs.round.finished.Goals as goal
 

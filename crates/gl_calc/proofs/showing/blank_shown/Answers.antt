@@ -1,12 +1,12 @@
 use Rattle.std.proofs.Common.{◌≡◌, Some, None, option_map, sym, subst}
 use Rattle.std.proofs.lemmas.Result.{IfOk-weaker}
-use Rattle.gl_calculus.specs.Calculation as C
-use Rattle.gl_calculus.specs.Calculation.{IsShown, TopHas}
-use Rattle.gl_calculus.specs.Key as K
-use Rattle.gl_calculus.specs.Memory.{Table}
-use Rattle.gl_calculus.specs.Oracle.{cover}
-use Rattle.gl_calculus.specs.Reference.{spilled}
-use Rattle.gl_calculus.specs.Value as V
+use Rattle.gl_calculus.specs.Calculation.Calculation as C
+use Rattle.gl_calculus.specs.Calculation.Calculation.{IsShown, TopHas}
+use Rattle.gl_calculus.specs.Evaluation.Key as K
+use Rattle.gl_calculus.specs.Calculation.Memory.{Table}
+use Rattle.gl_calculus.specs.Evaluation.Oracle.{cover}
+use Rattle.gl_calculus.specs.Evaluation.Reference.{spilled}
+use Rattle.gl_calculus.specs.Values.Value as V
 use Rattle.gl_plane.specs.Entries.{offsets}
 use Rattle.gl_value.specs.Forms.{scalar_tree-Blank}
 use Rattle.gl_value.specs.Made.{shown_tree}

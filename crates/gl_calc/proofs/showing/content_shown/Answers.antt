@@ -1,13 +1,13 @@
 use Rattle.std.proofs.Common.{◌≡◌, Some, ap, sym, subst, ◌∙◌}
 use Rattle.std.specs.Rc.{rc_value}
 use Rattle.std.proofs.lemmas.Result.{IfOk-weaker}
-use Rattle.gl_calculus.specs.Calculation as C
-use Rattle.gl_calculus.specs.Calculation.{IsShown}
+use Rattle.gl_calculus.specs.Calculation.Calculation as C
+use Rattle.gl_calculus.specs.Calculation.Calculation.{IsShown}
 use Rattle.gl_ast.specs.View.{formula_tree}
 use Rattle.gl_cells.specs.Content.{content_tree}
 use Rattle.gl_value.specs.Made.{shown_tree}
 use Rattle.gl_value.specs.View.{scalar_tree}
-use Rattle.gl_calculus.proofs.Shows.{constant_shows}
+use Rattle.laws_calculus.proofs.Calculus.Shows.{constant_shows}
 use Rattle.gl_calc.proofs.showing.content_shown.Goals as goal
 
 pub returns-in-Const-clause-shown : goal.returns-in-Const-clause-shown

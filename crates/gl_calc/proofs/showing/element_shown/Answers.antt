@@ -1,11 +1,11 @@
 use Rattle.std.proofs.Common.{◌≡◌, Some, None, subst}
 use Rattle.std.proofs.lemmas.Result.{IfOk-weaker}
-use Rattle.gl_calculus.specs.Calculation as C
-use Rattle.gl_calculus.specs.Calculation.{TopHas}
-use Rattle.gl_calculus.specs.Key as K
-use Rattle.gl_calculus.specs.Memory.{Table}
-use Rattle.gl_calculus.specs.Reference.{spilled}
-use Rattle.gl_calculus.specs.Value as V
+use Rattle.gl_calculus.specs.Calculation.Calculation as C
+use Rattle.gl_calculus.specs.Calculation.Calculation.{TopHas}
+use Rattle.gl_calculus.specs.Evaluation.Key as K
+use Rattle.gl_calculus.specs.Calculation.Memory.{Table}
+use Rattle.gl_calculus.specs.Evaluation.Reference.{spilled}
+use Rattle.gl_calculus.specs.Values.Value as V
 use Rattle.gl_core.specs.Results.{outcome_in}
 use Rattle.gl_value.specs.Forms.{frame_tree-Top}
 use Rattle.gl_value.specs.Made.{shown_tree}

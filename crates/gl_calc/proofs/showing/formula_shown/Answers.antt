@@ -1,12 +1,12 @@
 use Rattle.std.proofs.Common.{◌≡◌, Some, None, option_map, subst}
 use Rattle.std.proofs.lemmas.Result.{IfOk-weaker}
-use Rattle.gl_calculus.specs.Calculation as C
-use Rattle.gl_calculus.specs.Calculation.{IsShown}
-use Rattle.gl_calculus.specs.Key as K
-use Rattle.gl_calculus.specs.Memory.{Table}
-use Rattle.gl_calculus.specs.Oracle.{status}
-use Rattle.gl_calculus.specs.Reference.{shown}
-use Rattle.gl_calculus.specs.Value as V
+use Rattle.gl_calculus.specs.Calculation.Calculation as C
+use Rattle.gl_calculus.specs.Calculation.Calculation.{IsShown}
+use Rattle.gl_calculus.specs.Evaluation.Key as K
+use Rattle.gl_calculus.specs.Calculation.Memory.{Table}
+use Rattle.gl_calculus.specs.Evaluation.Oracle.{status}
+use Rattle.gl_calculus.specs.Evaluation.Reference.{shown}
+use Rattle.gl_calculus.specs.Values.Value as V
 use Rattle.gl_plane.specs.Permit.{permit_tree}
 use Rattle.gl_value.specs.Forms.{frame_tree-Top}
 use Rattle.gl_value.specs.Made.{shown_tree}

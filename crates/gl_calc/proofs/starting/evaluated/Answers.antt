@@ -1,14 +1,14 @@
 use Rattle.std.proofs.Common.{ℕ, List, IfOk, IfErr, map, ap, sym, subst, ◌∙◌, arith, length}
-use Rattle.gl_query.specs.Lists.{Member, AreDistinct, MoreThan}
-use Rattle.gl_query.specs.Machine.{Demanded}
-use Rattle.gl_calculus.specs.Value.{Top}
-use Rattle.gl_calculus.specs.Formula.{formula_addresses}
-use Rattle.gl_calculus.specs.Limits.{max_demanded}
-use Rattle.gl_calculus.specs.Key.{Cell}
-use Rattle.gl_calculus.specs.Evaluation.{program}
-use Rattle.gl_calculus.specs.Grid.{Addr}
-use Rattle.gl_calculus.specs.Memory.{Table}
-use Rattle.gl_calculus.specs.Costs.{Finishes}
+use Rattle.gl_calculus.specs.Computation.Lists.{Member, AreDistinct, MoreThan}
+use Rattle.gl_calculus.specs.Computation.Demanded.{Demanded}
+use Rattle.gl_calculus.specs.Values.Value.{Top}
+use Rattle.gl_calculus.specs.Formulas.Formula.{formula_addresses}
+use Rattle.gl_calculus.specs.Grid.Limits.{max_demanded}
+use Rattle.gl_calculus.specs.Evaluation.Key.{Cell}
+use Rattle.gl_calculus.specs.Evaluation.Evaluation.{program}
+use Rattle.gl_calculus.specs.Grid.Grid.{Addr}
+use Rattle.gl_calculus.specs.Calculation.Memory.{Table}
+use Rattle.gl_calculus.specs.Steps.Costs.{Finishes}
 use Rattle.gl_ast.specs.View.{version_tree}
 use Rattle.gl_cells.specs.Sheet.{sheet}
 use Rattle.gl_calc.specs.Kept.{AreKept}

@@ -1,5 +1,5 @@
 use Rattle.std.proofs.Common.{◌≡◌, ◌∙◌, Err, ap, subst, sym, arith}
-use Rattle.gl_protocol.specs.Commands.{with_contents}
+use Rattle.gl_calculus.specs.Edits.Sheets.{with_contents}
 use Rattle.gl_cells.specs.declared.fault.PutFault.{PutFault}
 use Rattle.gl_cells.specs.Sheet.{sheet, undo_all, Answers}
 use Rattle.gl_cells.proofs.TableLemmas.{put_each_sheet, forms_of_goal, size_of_goal}

@@ -1,5 +1,5 @@
 use Rattle.std.proofs.Common.{◌≡◌, ◌∙◌, Err, ap, subst, sym, arith}
-use Rattle.gl_protocol.specs.Commands.{with_content}
+use Rattle.gl_calculus.specs.Edits.Sheets.{with_content}
 use Rattle.gl_cells.specs.declared.fault.PutFault.{PutFault}
 use Rattle.gl_cells.specs.Content.{content_tree}
 use Rattle.gl_cells.specs.Sheet.{sheet, restored, HasPlace, Answers}

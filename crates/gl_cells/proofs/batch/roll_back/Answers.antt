@@ -1,5 +1,5 @@
 use Rattle.std.proofs.Common.{◌∙◌, List, Option, ap, subst, sym}
-use Rattle.gl_calculus.specs.Grid.{Addr}
+use Rattle.gl_calculus.specs.Grid.Grid.{Addr}
 use Rattle.gl_cells.specs.declared.content.Content.{Content}
 use Rattle.gl_cells.specs.Sheet.{undo_all, CanUndo}
 use Rattle.gl_cells.proofs.Steps.{CanUndo-pop, undo_all-push}

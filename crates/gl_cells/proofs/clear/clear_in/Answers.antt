@@ -1,7 +1,7 @@
 use Rattle.std.proofs.Common.{◌≡◌, ◌∙◌, true, false, not, is_some, filter, ap, sym, arith}
 use Rattle.std.specs.BTreeMap.{is_at}
 use Rattle.std.specs.Map.{lookup}
-use Rattle.gl_calculus.specs.Grid.{covers}
+use Rattle.gl_calculus.specs.Grid.Grid.{covers}
 use Rattle.gl_cells.specs.Sheet.{Table, addr_cmp}
 use Rattle.gl_cells.proofs.Clearing.{covered, covers_yes, filter-remove, filter_same, left_after, not_false}
 use Rattle.gl_cells.proofs.clear.clear_in.Goals as goal

@@ -2,7 +2,7 @@ use Rattle.std.proofs.Common.{◌≡◌, ◌+◌, ◌≤◌, IsSome, not, filter
 use Rattle.std.specs.Prelude.{length}
 use Rattle.std.specs.BTreeMap.{is_at}
 use Rattle.std.specs.Map.{lookup}
-use Rattle.gl_calculus.specs.Grid.{Addr, covers}
+use Rattle.gl_calculus.specs.Grid.Grid.{Addr, covers}
 use Rattle.gl_cells.specs.Search.{Covers, After}
 use Rattle.gl_cells.specs.Sheet.{addr_cmp, IsTable}
 use Rattle.gl_cells.proofs.clear.clear_in.Given as goal

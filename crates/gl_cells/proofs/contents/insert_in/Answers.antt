@@ -2,7 +2,7 @@ use Rattle.std.proofs.Common.{◌∙◌, Bool, List, Some, refl, ap, cond}
 use Rattle.indexmap.specs.IndexMap.{get}
 use Rattle.std.specs.BTreeMap.{is_at}
 use Rattle.std.specs.Map.{keys_of, lookup}
-use Rattle.gl_calculus.specs.Grid.{Addr, same_addr}
+use Rattle.gl_calculus.specs.Grid.Grid.{Addr, same_addr}
 use Rattle.gl_cells.specs.Listed.{listed}
 use Rattle.gl_cells.specs.Sheet.{addr_cmp}
 use Rattle.gl_cells.proofs.Listing.{held, kept, written, keys_insert, listed_insert, listed_same, listed_still, listed_then, none_told, taken_back}

@@ -2,10 +2,10 @@ use Rattle.std.proofs.Common.{◌≡◌, ◌∙◌, ◌≤◌, nat_le, List, ℕ
 use Rattle.std.specs.Str.{IsUtf8, is_utf8}
 use Rattle.std.proofs.lemmas.Bool.Decides.{nat_tests}
 use Rattle.std.proofs.lemmas.Str.{is_utf8-from_IsUtf8}
-use Rattle.gl_calculus.specs.Formula.{Const}
-use Rattle.gl_calculus.specs.Limits.{max_text}
-use Rattle.gl_calculus.specs.Value as V
-use Rattle.gl_language.specs.Content.{IsProperContent}
+use Rattle.gl_calculus.specs.Formulas.Formula.{Const}
+use Rattle.gl_calculus.specs.Grid.Limits.{max_text}
+use Rattle.gl_calculus.specs.Values.Value as V
+use Rattle.gl_language.specs.Reading.Content.{IsProperContent}
 use Rattle.gl_value.specs.Forms.{scalar_tree-Text}
 use Rattle.gl_cells.proofs.plain.word_or_text.Goals as goal
 

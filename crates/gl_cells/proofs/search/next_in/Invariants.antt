@@ -1,7 +1,7 @@
 use Rattle.std.proofs.Common.{IfSome, MatchOption, IsSome}
 use Rattle.std.specs.BTreeMap.{is_at}
 use Rattle.std.specs.Map.{lookup}
-use Rattle.gl_calculus.specs.Grid.{Addr}
+use Rattle.gl_calculus.specs.Grid.Grid.{Addr}
 use Rattle.gl_plane.specs.Parts.{IsAddr}
 use Rattle.gl_cells.specs.Search.{AtOrAfter, InPlay}
 use Rattle.gl_cells.specs.Sheet.{addr_cmp}

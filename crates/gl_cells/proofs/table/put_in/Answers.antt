@@ -1,5 +1,5 @@
 use Rattle.std.proofs.Common.{ap, sym, subst, Option, IfSome, option_map, unwrap_or, arith}
-use Rattle.gl_language.specs.Content.{IsProperContent}
+use Rattle.gl_language.specs.Reading.Content.{IsProperContent}
 use Rattle.gl_cells.specs.declared.content.Content.{Content}
 use Rattle.gl_cells.specs.Content.{content_tree, form_weight}
 use Rattle.gl_cells.proofs.TableLemmas.{few_forms, one_at_most, count_put, table_put, proper_at}

@@ -1,13 +1,13 @@
 use Rattle.std.proofs.Common.{◌≡◌, [], None, ap, sym, ◌∙◌}
 use Rattle.std.proofs.lemmas.Result.{IfOk-weaker}
-use Rattle.gl_calculus.specs.Calculation.{IsShown}
-use Rattle.gl_calculus.specs.Evaluation.{program}
-use Rattle.gl_calculus.specs.Key.{same_key}
-use Rattle.gl_calculus.specs.SameOutcome.{same_outcome}
-use Rattle.gl_explanation.specs.Certificate as E
-use Rattle.gl_explanation.specs.Certificate.{is_proper, judged, says_so, says}
-use Rattle.gl_explanation.specs.Walk.{first_free, first_stray}
-use Rattle.gl_explanation.proofs.Explaining.{accepted_shows}
+use Rattle.gl_calculus.specs.Calculation.Calculation.{IsShown}
+use Rattle.gl_calculus.specs.Evaluation.Evaluation.{program}
+use Rattle.gl_calculus.specs.Evaluation.Key.{same_key}
+use Rattle.gl_calculus.specs.Evaluation.SameOutcome.{same_outcome}
+use Rattle.gl_calculus.specs.Explanation.Certificate as E
+use Rattle.gl_calculus.specs.Explanation.Certificate.{is_proper, judged, says_so, says}
+use Rattle.gl_calculus.specs.Explanation.Walk.{first_free, first_stray}
+use Rattle.laws_calculus.proofs.Explanation.Explaining.{accepted_shows}
 use Rattle.gl_ast.specs.View.{version_tree}
 use Rattle.gl_cells.specs.Sheet.{sheet}
 use Rattle.gl_cert.specs.Claims.{claim_trees}

@@ -1,11 +1,11 @@
 use Rattle.std.proofs.Common.{◌≡◌, Some, None, map, ap, sym, ◌∙◌}
 use Rattle.std.proofs.lemmas.Result.{IfOk-weaker}
-use Rattle.gl_query.specs.Lists.{has_member}
-use Rattle.gl_calculus.specs.Evaluation.{program}
-use Rattle.gl_calculus.specs.Key.{Key, same_key}
-use Rattle.gl_calculus.specs.SameOutcome.{same_outcome}
-use Rattle.gl_explanation.specs.Certificate.{is_proper, judged, says_so, says}
-use Rattle.gl_explanation.specs.Walk.{first_free}
+use Rattle.gl_calculus.specs.Computation.Lists.{has_member}
+use Rattle.gl_calculus.specs.Evaluation.Evaluation.{program}
+use Rattle.gl_calculus.specs.Evaluation.Key.{Key, same_key}
+use Rattle.gl_calculus.specs.Evaluation.SameOutcome.{same_outcome}
+use Rattle.gl_calculus.specs.Explanation.Certificate.{is_proper, judged, says_so, says}
+use Rattle.gl_calculus.specs.Explanation.Walk.{first_free}
 use Rattle.gl_ast.specs.View.{version_tree}
 use Rattle.gl_cells.specs.Sheet.{sheet}
 use Rattle.gl_demand.specs.View.{key_tree}

@@ -1,5 +1,5 @@
 use Rattle.std.proofs.Common.{None, option_map, ap, sym, ◌∙◌}
-use Rattle.gl_explanation.specs.Certificate.{judged, says_so}
+use Rattle.gl_calculus.specs.Explanation.Certificate.{judged, says_so}
 use Rattle.gl_value.specs.Made.{shown_tree}
 use Rattle.gl_cert.proofs.Shown.{right, wrong}
 use Rattle.gl_cert.proofs.checking.judge.Goals as goal

@@ -1,6 +1,6 @@
 use Rattle.std.proofs.Common.{true, cond, map, ap, ◌∙◌}
-use Rattle.gl_query.specs.Lists.{has_member}
-use Rattle.gl_calculus.specs.Key.{same_key}
+use Rattle.gl_calculus.specs.Computation.Lists.{has_member}
+use Rattle.gl_calculus.specs.Evaluation.Key.{same_key}
 use Rattle.gl_demand.specs.View.{key_tree}
 use Rattle.gl_cert.proofs.Members.{insert_member}
 use Rattle.gl_cert.proofs.loops.add.Goals as goal

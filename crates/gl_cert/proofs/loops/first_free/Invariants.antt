@@ -1,10 +1,10 @@
 use Rattle.std.proofs.Common.{◌≡◌, ◌≤◌, ◌+◌, map, drop}
-use Rattle.gl_calculus.specs.Evaluation.{program}
-use Rattle.gl_calculus.specs.Key.{same_key}
-use Rattle.gl_calculus.specs.SameOutcome.{same_outcome}
-use Rattle.gl_explanation.specs.Certificate.{is_proper}
-use Rattle.gl_explanation.specs.Walk.{first_free}
-use Rattle.gl_explanation.proofs.Numbering.{further}
+use Rattle.gl_calculus.specs.Evaluation.Evaluation.{program}
+use Rattle.gl_calculus.specs.Evaluation.Key.{same_key}
+use Rattle.gl_calculus.specs.Evaluation.SameOutcome.{same_outcome}
+use Rattle.gl_calculus.specs.Explanation.Certificate.{is_proper}
+use Rattle.gl_calculus.specs.Explanation.Walk.{first_free}
+use Rattle.laws_calculus.proofs.Explanation.Numbering.{further}
 use Rattle.gl_ast.specs.View.{version_tree}
 use Rattle.gl_cells.specs.Sheet.{sheet}
 use Rattle.gl_demand.specs.View.{key_tree}

@@ -1,8 +1,8 @@
 use Rattle.std.proofs.Common.{ap, ◌∙◌}
-use Rattle.gl_calculus.specs.Formula.{content}
-use Rattle.gl_calculus.specs.Key.{same_key}
-use Rattle.gl_explanation.specs.Certificate.{shown_by_note}
-use Rattle.gl_explanation.specs.Walk.{noted}
+use Rattle.gl_calculus.specs.Formulas.Formula.{content}
+use Rattle.gl_calculus.specs.Evaluation.Key.{same_key}
+use Rattle.gl_calculus.specs.Explanation.Certificate.{shown_by_note}
+use Rattle.gl_calculus.specs.Explanation.Walk.{noted}
 use Rattle.gl_cells.specs.Sheet.{sheet}
 use Rattle.gl_demand.specs.View.{key_tree}
 use Rattle.gl_cert.specs.Notes.{claims}

@@ -1,6 +1,6 @@
 use Rattle.gl_cells.specs.Sheet.{sheet}
 use Rattle.gl_demand.specs.View.{key_tree}
-use Rattle.gl_explanation.proofs.Judging.{proper_is}
+use Rattle.laws_calculus.proofs.Explanation.Judging.{proper_is}
 use Rattle.gl_cert.proofs.stepping.is_proper.Goals as goal
 
 pub returns-clause-test : goal.returns-clause-test

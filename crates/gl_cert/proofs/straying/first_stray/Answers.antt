@@ -1,10 +1,10 @@
 use Rattle.std.proofs.Common.{◌<◌, ◌+◌, drop, length, sym, subst, ◌∙◌, arith}
-use Rattle.gl_calculus.specs.Evaluation.{program}
-use Rattle.gl_calculus.specs.Key.{same_key}
-use Rattle.gl_calculus.specs.SameOutcome.{same_outcome}
+use Rattle.gl_calculus.specs.Evaluation.Evaluation.{program}
+use Rattle.gl_calculus.specs.Evaluation.Key.{same_key}
+use Rattle.gl_calculus.specs.Evaluation.SameOutcome.{same_outcome}
 use Rattle.gl_calculus.proofs.Tests.{key_equality}
-use Rattle.gl_explanation.specs.Certificate.{is_proper}
-use Rattle.gl_explanation.proofs.Checking.{Passed, one_passed, one_strays}
+use Rattle.gl_calculus.specs.Explanation.Certificate.{is_proper}
+use Rattle.laws_calculus.proofs.Explanation.Checking.{Passed, one_passed, one_strays}
 use Rattle.gl_ast.specs.View.{version_tree}
 use Rattle.gl_cells.specs.Sheet.{sheet}
 use Rattle.gl_cert.specs.Claims.{claim_tree, claim_trees}

@@ -1,8 +1,8 @@
 use Rattle.std.proofs.Common.{◌≡◌, true, [], ◌∷◌, ◌++◌, ap, sym, ◌∙◌}
 use Rattle.std.proofs.lemmas.Result.{IfOk-weaker}
-use Rattle.gl_calculus.specs.SameOutcome.{same_outcome}
-use Rattle.gl_calculus.proofs.OutcomeTests.{outcome_equality}
-use Rattle.gl_explanation.specs.Walk.{comes_to}
+use Rattle.gl_calculus.specs.Evaluation.SameOutcome.{same_outcome}
+use Rattle.laws_calculus.proofs.Calculus.OutcomeTests.{outcome_equality}
+use Rattle.gl_calculus.specs.Explanation.Walk.{comes_to}
 use Rattle.gl_demand.specs.Equal.{eq_is_outcome}
 use Rattle.gl_demand.specs.View.{key_tree, outcome_tree, found_tree}
 use Rattle.gl_cert.specs.Notes.{claims}

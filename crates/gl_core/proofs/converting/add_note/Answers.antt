@@ -1,6 +1,6 @@
 use Rattle.std.proofs.Common.{List, IsTrue, Some, map, ap, sym, subst, ◌∙◌}
-use Rattle.gl_calculus.specs.Key as K
-use Rattle.gl_calculus.specs.Sound.{is_sound_key}
+use Rattle.gl_calculus.specs.Evaluation.Key as K
+use Rattle.gl_calculus.specs.Evaluation.Sound.{is_sound_key}
 use Rattle.gl_demand.specs.View.{key_tree, outcome_tree}
 use Rattle.gl_demand.specs.Sound.{AreSoundKeys}
 use Rattle.gl_demand.specs.declared.key.Key.{Key}

@@ -1,7 +1,7 @@
 use Rattle.std.proofs.Common.{◌≡◌, ◌∷◌, ◌++◌, [], ap, sym, ◌∙◌}
-use Rattle.gl_query.specs.Remembered.{Note}
-use Rattle.gl_calculus.specs.Grid.{Range}
-use Rattle.gl_calculus.specs.Key as K
+use Rattle.gl_calculus.specs.Computation.Notes.{Note}
+use Rattle.gl_calculus.specs.Grid.Grid.{Range}
+use Rattle.gl_calculus.specs.Evaluation.Key as K
 use Rattle.gl_memo.specs.Notes.{notes_of}
 use Rattle.gl_demand.specs.View.{key_tree}
 use Rattle.gl_core.specs.State.{note_trees, is_noted}

@@ -1,6 +1,6 @@
 use Rattle.std.proofs.Common.{◌<◌, ◌++◌, ◌∷◌, [], List, length, map, take, slice_index, ap, sym, ◌∙◌, arith}
 use Rattle.std.proofs.lemmas.Grind.{common_steps}
-use Rattle.gl_calculus.specs.Key as K
+use Rattle.gl_calculus.specs.Evaluation.Key as K
 use Rattle.gl_demand.specs.View.{key_tree}
 use Rattle.gl_core.specs.Numbers.{keys_at}
 use Rattle.gl_core.proofs.Numbered.{all_at, get_of_index, map_push}

@@ -1,5 +1,5 @@
 use Rattle.std.proofs.Common.{◌++◌, length, ap, sym, ◌∙◌, arith, append-nil}
-use Rattle.gl_calculus.specs.Memory.{Notes}
+use Rattle.gl_calculus.specs.Calculation.Memory.{Notes}
 use Rattle.gl_memo.specs.Notes.{notes_of}
 use Rattle.gl_support.specs.Rows.{note_of}
 use Rattle.gl_core.specs.State.{note_trees}

@@ -1,7 +1,7 @@
 use Rattle.std.proofs.Common.{◌≡◌, ◌+◌, [], ◌∷◌, ◌++◌, map, drop, ap, sym, ◌∙◌, append_assoc, append-nil, arith}
 use Rattle.std.proofs.lemmas.List.{drop_all, map-append}
-use Rattle.gl_calculus.specs.Value.{Top}
-use Rattle.gl_calculus.specs.Key.{Key, Cell}
+use Rattle.gl_calculus.specs.Values.Value.{Top}
+use Rattle.gl_calculus.specs.Evaluation.Key.{Key, Cell}
 use Rattle.gl_value.specs.Forms.{frame_tree-Top}
 use Rattle.gl_value.specs.declared.Env.TheVariants as env
 use Rattle.gl_demand.specs.View.{key_tree}

@@ -1,6 +1,6 @@
 use Rattle.std.proofs.Common.{◌≡◌, ◌++◌, map, drop}
-use Rattle.gl_calculus.specs.Value.{Top}
-use Rattle.gl_calculus.specs.Key.{Cell}
+use Rattle.gl_calculus.specs.Values.Value.{Top}
+use Rattle.gl_calculus.specs.Evaluation.Key.{Cell}
 use Rattle.gl_demand.specs.View.{key_tree}
 use Rattle.gl_core.proofs.machine.top_keys.Given as goal
 

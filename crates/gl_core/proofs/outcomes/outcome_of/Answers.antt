@@ -1,6 +1,6 @@
 use Rattle.std.proofs.Common.{ap, sym, subst, ◌∙◌}
-use Rattle.gl_query.specs.Machine.{table, outcome_of}
-use Rattle.gl_calculus.specs.Key.{same_key}
+use Rattle.gl_machine.specs.Machine.{table, outcome_of}
+use Rattle.gl_calculus.specs.Evaluation.Key.{same_key}
 use Rattle.gl_demand.specs.View.{key_tree}
 use Rattle.gl_core.specs.Numbers.{IsNumber}
 use Rattle.gl_core.specs.Table.{table_of}

@@ -1,8 +1,8 @@
 use Rattle.std.proofs.Common.{◌≡◌, Some, sym, ◌∙◌, subst, arith}
-use Rattle.gl_query.specs.Machine.{table}
-use Rattle.gl_calculus.specs.Key.{same_key}
+use Rattle.gl_machine.specs.Machine.{table}
+use Rattle.gl_calculus.specs.Evaluation.Key.{same_key}
 use Rattle.gl_cells.specs.Sheet.{sheet}
-use Rattle.gl_ahead.specs.Reading.{keys_from}
+use Rattle.gl_machine.specs.Ahead.Reading.{keys_from}
 use Rattle.gl_demand.specs.Lacking.{IsNext}
 use Rattle.gl_demand.specs.Marks.{PlainMark, mark_tree}
 use Rattle.gl_core.specs.Table.{table_of}

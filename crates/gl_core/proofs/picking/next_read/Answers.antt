@@ -1,6 +1,6 @@
 use Rattle.std.proofs.Common.{◌≡◌, ℕ, List, Some, slice_get, option_map, sym, ap, ◌∙◌, arith}
 use Rattle.std.proofs.lemmas.Grind.{elements}
-use Rattle.gl_calculus.specs.Grid.{Range}
+use Rattle.gl_calculus.specs.Grid.Grid.{Range}
 use Rattle.gl_support.specs.declared.row.Row.{Row}
 use Rattle.gl_demand.specs.declared.outcome.Outcome.{Outcome}
 use Rattle.gl_core.specs.Numbers.{key_at}

@@ -1,11 +1,11 @@
 use Rattle.std.proofs.Common.{rules, inl, inr, refl, subst}
-use Rattle.gl_query.specs.Machine.{at, table}
-use Rattle.gl_calculus.specs.Key.{same_key}
-use Rattle.gl_calculus.specs.Evaluation.{program}
+use Rattle.gl_machine.specs.Machine.{at, table}
+use Rattle.gl_calculus.specs.Evaluation.Key.{same_key}
+use Rattle.gl_calculus.specs.Evaluation.Evaluation.{program}
 use Rattle.gl_ast.specs.View.{version_tree}
 use Rattle.gl_cells.specs.Sheet.{sheet}
 use Rattle.gl_demand.specs.View.{key_tree}
-use Rattle.gl_ahead.specs.Reading.{keys_from}
+use Rattle.gl_machine.specs.Ahead.Reading.{keys_from}
 use Rattle.gl_demand.specs.Lacking.{IsNext}
 use Rattle.gl_core.specs.Answers.{picked_tree}
 use Rattle.gl_core.specs.Ledger.{written}

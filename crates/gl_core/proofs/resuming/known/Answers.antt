@@ -1,8 +1,8 @@
 use Rattle.std.proofs.Common.{List, [], sym, subst}
-use Rattle.gl_query.specs.Lists.{AreDistinct}
-use Rattle.gl_query.specs.InOrder.{AreOrdered}
-use Rattle.gl_calculus.specs.Key as K
-use Rattle.gl_calculus.specs.Memory.{Notes}
+use Rattle.gl_calculus.specs.Computation.Lists.{AreDistinct}
+use Rattle.gl_machine.specs.InOrder.{AreOrdered}
+use Rattle.gl_calculus.specs.Evaluation.Key as K
+use Rattle.gl_calculus.specs.Calculation.Memory.{Notes}
 use Rattle.gl_core.proofs.Places.{if_ok}
 use Rattle.gl_core.proofs.Cores.{written_grown}
 use Rattle.gl_core.proofs.Seeded.{apart_back}

@@ -1,7 +1,8 @@
 use Rattle.std.proofs.Common.{◌≡◌, ◌<◌, ◌++◌, ◌&&◌, not, All, Bool, List, ℕ, [], filter, length, ap, sym, subst, ◌∙◌}
-use Rattle.gl_query.specs.Lists.{Member, AreDistinct}
-use Rattle.gl_query.specs.InOrder.{AreOrdered, note_keys}
-use Rattle.gl_calculus.specs.Grid.{Range}
+use Rattle.gl_calculus.specs.Computation.Lists.{Member, AreDistinct}
+use Rattle.gl_machine.specs.InOrder.{AreOrdered}
+use Rattle.gl_calculus.specs.Computation.Notes.{note_keys}
+use Rattle.gl_calculus.specs.Grid.Grid.{Range}
 use Rattle.gl_support.specs.Rows.{notes_of, AreBelow, AreFollowed, AreReached}
 use Rattle.gl_support.specs.Reach.{is_marked, has}
 use Rattle.gl_support.specs.declared.row.Row.{Row}

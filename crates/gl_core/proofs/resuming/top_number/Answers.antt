@@ -1,6 +1,6 @@
 use Rattle.std.proofs.Common.{Some, IsTrue, refl, ap, sym, subst, ◌∙◌}
-use Rattle.gl_calculus.specs.Key as K
-use Rattle.gl_calculus.specs.Sound.{is_sound_key}
+use Rattle.gl_calculus.specs.Evaluation.Key as K
+use Rattle.gl_calculus.specs.Evaluation.Sound.{is_sound_key}
 use Rattle.gl_value.specs.Forms.{frame_tree-Top}
 use Rattle.gl_core.proofs.Grown.{grows_not}
 use Rattle.gl_core.proofs.Places.{if_ok}

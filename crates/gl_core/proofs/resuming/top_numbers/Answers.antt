@@ -1,7 +1,7 @@
 use Rattle.std.proofs.Common.{◌≡◌, ◌+◌, ◌++◌, ◌∷◌, [], List, ℕ, map, take, ap, sym, subst, ◌∙◌, arith}
 use Rattle.std.proofs.lemmas.Grind.{common_steps}
-use Rattle.gl_calculus.specs.Value as V
-use Rattle.gl_calculus.specs.Key as K
+use Rattle.gl_calculus.specs.Values.Value as V
+use Rattle.gl_calculus.specs.Evaluation.Key as K
 use Rattle.gl_core.specs.Numbers.{AreNumbers}
 use Rattle.gl_core.proofs.Numbered.{item_at, map_push}
 use Rattle.gl_core.proofs.Indexing.{take_next}

@@ -1,6 +1,6 @@
 use Rattle.std.proofs.Common.{◌≡◌, map, take}
-use Rattle.gl_calculus.specs.Value as V
-use Rattle.gl_calculus.specs.Key as K
+use Rattle.gl_calculus.specs.Values.Value as V
+use Rattle.gl_calculus.specs.Evaluation.Key as K
 use Rattle.gl_core.specs.Numbers.{AreNumbers, Grows}
 use Rattle.gl_core.specs.Ledger.{IsLedger}
 use Rattle.gl_core.proofs.resuming.top_numbers.Given as goal

@@ -1,11 +1,11 @@
 use Rattle.std.proofs.Common.{◌∙◌, ◌+◌, ◌++◌, ◌∷◌, [], List, drop, sym, ap, arith}
 use Rattle.csv.specs.Records.{fields_of}
-use Rattle.gl_calculus.specs.Grid.{addr}
-use Rattle.gl_language.specs.Text.{Bytes}
-use Rattle.gl_protocol.specs.Commands.{contents, fields_of_record}
+use Rattle.gl_calculus.specs.Grid.Grid.{addr}
+use Rattle.gl_language.specs.Texts.Text.{Bytes}
+use Rattle.gl_protocol.specs.Scripts.Commands.{contents, fields_of_record}
 use Rattle.gl_cells.specs.Sheet.{sheet}
 use Rattle.gl_csvin.specs.Import.{behind}
-use Rattle.gl_protocol.proofs.Rising.{Fields}
+use Rattle.laws_protocol.proofs.Scripts.Rising.{Fields}
 use Rattle.gl_csvin.proofs.Placing.{fails, next_field}
 use Rattle.gl_csvin.proofs.Reached.{drop-field_more, drop-no_field, field-below}
 use Rattle.gl_csvin.proofs.Texts.{texts_split}

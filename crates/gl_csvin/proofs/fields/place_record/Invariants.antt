@@ -2,11 +2,11 @@ use Rattle.std.proofs.Common.{◌≡◌, ◌+◌, ◌-◌, ◌++◌, length, dro
 use Rattle.std.specs.List.{list_all}
 use Rattle.std.specs.Str.{is_utf8}
 use Rattle.csv.specs.Records.{fields_of}
-use Rattle.gl_calculus.specs.Grid.{addr}
-use Rattle.gl_protocol.specs.Commands.{contents, fields_of_record}
+use Rattle.gl_calculus.specs.Grid.Grid.{addr}
+use Rattle.gl_protocol.specs.Scripts.Commands.{contents, fields_of_record}
 use Rattle.gl_cells.specs.Sheet.{sheet, AreProper}
 use Rattle.gl_csvin.specs.Import.{behind}
-use Rattle.gl_protocol.proofs.Rising.{Fields}
+use Rattle.laws_protocol.proofs.Scripts.Rising.{Fields}
 use Rattle.gl_csvin.proofs.fields.place_record.Given as goal
 
 abbrev pub invariant-loop-field : goal.invariant-loop-field

@@ -1,12 +1,12 @@
 use Rattle.std.proofs.Common.{◌∙◌, List, map, arith}
 use Rattle.std.proofs.lemmas.List.{at_drop_all}
 use Rattle.csv.specs.Records.{fields_of, Row}
-use Rattle.gl_calculus.specs.Grid.{addr}
-use Rattle.gl_protocol.specs.Commands.{contents, fields}
+use Rattle.gl_calculus.specs.Grid.Grid.{addr}
+use Rattle.gl_protocol.specs.Scripts.Commands.{contents, fields}
 use Rattle.gl_cells.specs.Sheet.{sheet}
 use Rattle.gl_csvin.specs.Import.{behind}
 use Rattle.gl_csvin.proofs.Placing.{all_read}
-use Rattle.gl_protocol.proofs.Rising.{rises}
+use Rattle.laws_protocol.proofs.Scripts.Rising.{rises}
 use Rattle.gl_csvin.proofs.fields.place_records.Goals as goal
 
 pub returns-clause-rising : goal.returns-clause-rising

@@ -2,8 +2,8 @@ use Rattle.std.proofs.Common.{◌≡◌, ◌+◌, map, drop, IsTrue}
 use Rattle.std.specs.List.{list_all}
 use Rattle.std.specs.Str.{is_utf8}
 use Rattle.csv.specs.Records.{fields_of}
-use Rattle.gl_calculus.specs.Grid.{addr}
-use Rattle.gl_protocol.specs.Commands.{contents, fields}
+use Rattle.gl_calculus.specs.Grid.Grid.{addr}
+use Rattle.gl_protocol.specs.Scripts.Commands.{contents, fields}
 use Rattle.gl_cells.specs.Sheet.{sheet, AreProper}
 use Rattle.gl_csvin.specs.Import.{behind}
 use Rattle.gl_csvin.proofs.fields.place_records.Given as goal

@@ -1,7 +1,7 @@
 use Rattle.std.proofs.Common.{◌≡◌, ◌∙◌, IfOk, ap, sym, subst, map}
 use Rattle.gl_ast.specs.View.{fun_tree}
-use Rattle.gl_calculus.specs.Functions.{apply}
-use Rattle.gl_calculus.specs.Value as V
+use Rattle.gl_calculus.specs.Values.Functions.{apply}
+use Rattle.gl_calculus.specs.Values.Value as V
 use Rattle.gl_value.specs.Forms.{value_tree-One}
 use Rattle.gl_value.specs.View.{value_tree}
 use Rattle.gl_value.specs.declared.Value.{One}

@@ -1,8 +1,8 @@
 use Rattle.std.proofs.Common.{◌≡◌, [], ◌∷◌, ◌∙◌, IfOk, rules, sym, subst}
 use Rattle.gl_ast.specs.View.{fun_tree}
-use Rattle.gl_calculus.specs.Functions as F
-use Rattle.gl_calculus.specs.Functions.{apply}
-use Rattle.gl_calculus.specs.Operators.{magnitude}
+use Rattle.gl_calculus.specs.Values.Functions as F
+use Rattle.gl_calculus.specs.Values.Functions.{apply}
+use Rattle.gl_calculus.specs.Values.Operators.{magnitude}
 use Rattle.gl_value.specs.Forms.{value_tree-One}
 use Rattle.gl_value.specs.View.{value_tree}
 use Rattle.gl_value.specs.declared.Value.{One}

@@ -1,8 +1,8 @@
 use Rattle.std.proofs.Common.{◌≡◌, [], ◌∷◌, ◌∙◌, IfOk, rules, sym, subst, take}
 use Rattle.gl_ast.specs.View.{fun_tree}
-use Rattle.gl_calculus.specs.Functions as F
-use Rattle.gl_calculus.specs.Functions.{apply}
-use Rattle.gl_calculus.specs.Operators as O
+use Rattle.gl_calculus.specs.Values.Functions as F
+use Rattle.gl_calculus.specs.Values.Functions.{apply}
+use Rattle.gl_calculus.specs.Values.Operators as O
 use Rattle.gl_value.specs.View.{value_tree}
 use Rattle.gl_demand.proofs.Arities.{not_on_two}
 use Rattle.gl_demand.proofs.applying.on_two.Goals as goal

@@ -1,9 +1,9 @@
 use Rattle.std.proofs.Common.{◌≡◌, ◌||◌, ◌+◌, ◌*◌, ◌<◌, true, IsTrue, arith, ap, sym, subst, ◌∙◌}
-use Rattle.gl_calculus.specs.Sheet.{frame_rank}
-use Rattle.gl_calculus.specs.Sound.{is_sound_sheet, is_sound_frame}
-use Rattle.gl_calculus.specs.Value.{rank}
+use Rattle.gl_calculus.specs.Values.Sheet.{frame_rank}
+use Rattle.gl_calculus.specs.Evaluation.Sound.{is_sound_sheet, is_sound_frame}
+use Rattle.gl_calculus.specs.Values.Value.{rank}
 use Rattle.gl_value.specs.Sound.{sheet_facts, rank_is}
-use Rattle.gl_calculus.specs.Value as V
+use Rattle.gl_calculus.specs.Values.Value as V
 use Rattle.gl_value.specs.Forms.{frame_tree-Top, frame_tree-In, sheet_tree_is}
 use Rattle.gl_value.specs.View.{frame_tree, sheet_tree, override_trees}
 use Rattle.gl_demand.specs.Filling.{IsFirstWith, is_overridden_by}

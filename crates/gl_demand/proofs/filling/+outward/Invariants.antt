@@ -1,6 +1,6 @@
 use Rattle.std.proofs.Common.{◌+◌, ◌*◌}
-use Rattle.gl_calculus.specs.Sheet.{frame_rank}
-use Rattle.gl_calculus.specs.Value.{rank}
+use Rattle.gl_calculus.specs.Values.Sheet.{frame_rank}
+use Rattle.gl_calculus.specs.Values.Value.{rank}
 use Rattle.gl_value.specs.View.{frame_tree, sheet_tree}
 use Rattle.gl_demand.proofs.filling.+outward.Given as goal
 

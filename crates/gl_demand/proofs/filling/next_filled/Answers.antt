@@ -1,6 +1,6 @@
 use Rattle.std.proofs.Common.{◌≡◌, ◌&&◌, false}
-use Rattle.gl_calculus.specs.Grid.{Addr, covers}
-use Rattle.gl_calculus.specs.Value.{region}
+use Rattle.gl_calculus.specs.Grid.Grid.{Addr, covers}
+use Rattle.gl_calculus.specs.Values.Value.{region}
 use Rattle.gl_cells.specs.Sheet.{sheet}
 use Rattle.gl_value.specs.Forms.{sheet_tree_is}
 use Rattle.gl_value.specs.View.{sheet_tree}

@@ -1,5 +1,5 @@
 use Rattle.std.proofs.Common.{◌≡◌, ◌<◌, ◌∙◌, ◌&&◌, true, length, get_or, sym, subst, arith}
-use Rattle.gl_calculus.specs.Grid.{covers}
+use Rattle.gl_calculus.specs.Grid.Grid.{covers}
 use Rattle.gl_cells.specs.Search.{is_in_play, comes_after}
 use Rattle.gl_value.specs.Sound.{sheet_facts}
 use Rattle.gl_demand.specs.Filling.{comes_before}

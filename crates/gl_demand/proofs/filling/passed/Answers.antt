@@ -1,6 +1,6 @@
 use Rattle.std.proofs.Common.{◌≡◌, not, true, false, rules, of_calls, get_or, sym, subst}
 use Rattle.std.proofs.lemmas.Fn.{always_returns_same}
-use Rattle.gl_calculus.specs.Grid.{is_before}
+use Rattle.gl_calculus.specs.Grid.Grid.{is_before}
 use Rattle.gl_cells.specs.Search.{comes_after}
 use Rattle.gl_value.specs.Sound.{sheet_facts}
 use Rattle.gl_demand.proofs.Overridden.{partitioned, in_order, not_passed, passed_by}

@@ -1,6 +1,6 @@
 use Rattle.std.proofs.Common.{ap, ◌∙◌}
-use Rattle.gl_calculus.specs.Formula.{content}
-use Rattle.gl_calculus.specs.Reference.{held_top}
+use Rattle.gl_calculus.specs.Formulas.Formula.{content}
+use Rattle.gl_calculus.specs.Evaluation.Reference.{held_top}
 use Rattle.gl_cells.specs.Sheet.{sheet}
 use Rattle.gl_value.specs.View.{value_tree, frame_tree}
 use Rattle.gl_demand.proofs.Frames.{nearest_some, nearest_none}

@@ -1,5 +1,5 @@
 use Rattle.std.proofs.Common.{◌≡◌, IsTrue}
-use Rattle.gl_calculus.specs.Sound.{is_sound_frame}
+use Rattle.gl_calculus.specs.Evaluation.Sound.{is_sound_frame}
 use Rattle.gl_value.specs.View.{frame_tree}
 use Rattle.gl_demand.specs.Held.{override_in}
 use Rattle.gl_demand.proofs.held.nearest_override.Given as goal

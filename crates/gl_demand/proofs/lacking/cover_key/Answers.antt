@@ -1,9 +1,9 @@
 use Rattle.std.proofs.Common.{IfOk, option_map, ap, subst, ◌≡◌}
-use Rattle.gl_calculus.specs.Facts.{fact}
-use Rattle.gl_calculus.specs.Reference.{cover_in}
+use Rattle.gl_calculus.specs.Evaluation.Facts.{fact}
+use Rattle.gl_calculus.specs.Evaluation.Reference.{cover_in}
 use Rattle.gl_cells.specs.Sheet.{sheet}
 use Rattle.gl_value.specs.View.{frame_tree}
-use Rattle.gl_ahead.specs.Demands.{cover_keys}
+use Rattle.gl_machine.specs.Ahead.Demands.{cover_keys}
 use Rattle.gl_demand.specs.View.{key_tree}
 use Rattle.gl_demand.specs.Reading.{one_key}
 use Rattle.gl_demand.proofs.Needing.{cover_found, cover_lacks}

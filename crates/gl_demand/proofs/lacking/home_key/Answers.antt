@@ -1,8 +1,8 @@
 use Rattle.std.proofs.Common.{IfOk, option_map, subst, ◌≡◌}
-use Rattle.gl_calculus.specs.Facts.{fact}
+use Rattle.gl_calculus.specs.Evaluation.Facts.{fact}
 use Rattle.gl_cells.specs.Sheet.{sheet}
 use Rattle.gl_value.specs.View.{frame_tree}
-use Rattle.gl_ahead.specs.Demands.{shown_keys}
+use Rattle.gl_machine.specs.Ahead.Demands.{shown_keys}
 use Rattle.gl_demand.specs.View.{key_tree}
 use Rattle.gl_demand.specs.Reading.{one_key}
 use Rattle.gl_demand.proofs.lacking.home_key.Goals as goal

@@ -1,9 +1,9 @@
 use Rattle.std.proofs.Common.{IfOk, option_map, subst, ◌≡◌}
-use Rattle.gl_calculus.specs.Facts.{fact}
-use Rattle.gl_calculus.specs.Formula.{content}
-use Rattle.gl_calculus.specs.Reference.{own_content}
+use Rattle.gl_calculus.specs.Evaluation.Facts.{fact}
+use Rattle.gl_calculus.specs.Formulas.Formula.{content}
+use Rattle.gl_calculus.specs.Evaluation.Reference.{own_content}
 use Rattle.gl_cells.specs.Sheet.{sheet}
-use Rattle.gl_ahead.specs.Demands.{shown_keys}
+use Rattle.gl_machine.specs.Ahead.Demands.{shown_keys}
 use Rattle.gl_demand.specs.View.{key_tree}
 use Rattle.gl_demand.specs.Reading.{one_key}
 use Rattle.gl_demand.proofs.lacking.key_at.Goals as goal

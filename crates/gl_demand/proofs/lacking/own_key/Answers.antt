@@ -1,6 +1,6 @@
 use Rattle.std.proofs.Common.{IfOk, option_map, ap, subst, ◌≡◌}
 use Rattle.gl_value.specs.View.{frame_tree}
-use Rattle.gl_ahead.specs.Demands.{held_keys}
+use Rattle.gl_machine.specs.Ahead.Demands.{held_keys}
 use Rattle.gl_demand.specs.View.{key_tree}
 use Rattle.gl_demand.specs.Reading.{one_key}
 use Rattle.gl_demand.proofs.lacking.own_key.Goals as goal

@@ -1,6 +1,6 @@
 use Rattle.std.proofs.Common.{subst, sym, ap, ◌∙◌}
-use Rattle.gl_calculus.specs.Evaluation as E
-use Rattle.gl_calculus.specs.Sheet as S
+use Rattle.gl_calculus.specs.Evaluation.Evaluation as E
+use Rattle.gl_calculus.specs.Values.Sheet as S
 use Rattle.gl_value.specs.Forms.{value_tree-One}
 use Rattle.gl_value.specs.View.{value_tree, frame_tree}
 use Rattle.gl_demand.specs.Walks.{Walks}

@@ -1,5 +1,5 @@
 use Rattle.std.proofs.Common.{◌≡◌, map, sym, ap, ◌∙◌}
-use Rattle.gl_calculus.specs.Value as V
+use Rattle.gl_calculus.specs.Values.Value as V
 use Rattle.gl_value.specs.Forms.{sheet_tree_is, frame_tree-In}
 use Rattle.gl_value.specs.View.{frame_tree}
 use Rattle.gl_demand.specs.Outline.{plain_override, level_word, frame_level}

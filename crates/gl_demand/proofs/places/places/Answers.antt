@@ -1,7 +1,7 @@
 use Rattle.std.proofs.Common.{◌≡◌, ◌≤◌, ◌*◌, length, arith, ap, sym, subst, Some, None}
-use Rattle.gl_calculus.specs.Grid.{addresses}
-use Rattle.gl_calculus.specs.Limits.{grid_rows, grid_cols}
-use Rattle.gl_calculus.specs.Value.{region}
+use Rattle.gl_calculus.specs.Grid.Grid.{addresses}
+use Rattle.gl_calculus.specs.Grid.Limits.{grid_rows, grid_cols}
+use Rattle.gl_calculus.specs.Values.Value.{region}
 use Rattle.gl_cells.specs.Sheet.{sheet}
 use Rattle.gl_value.specs.Forms.{sheet_tree_is}
 use Rattle.gl_value.specs.View.{sheet_tree}

@@ -1,6 +1,6 @@
 use Rattle.std.proofs.Common.{◌≡◌, ◌++◌, length, filter}
-use Rattle.gl_calculus.specs.Grid.{addresses}
-use Rattle.gl_calculus.specs.Value.{region}
+use Rattle.gl_calculus.specs.Grid.Grid.{addresses}
+use Rattle.gl_calculus.specs.Values.Value.{region}
 use Rattle.gl_cells.specs.Sheet.{sheet}
 use Rattle.gl_value.specs.View.{sheet_tree}
 use Rattle.gl_demand.specs.Blocks.{has_content_in}

@@ -1,10 +1,10 @@
 use Rattle.std.proofs.Common.{◌≡◌, IsTrue, IsFalse, subst, sym, ap, ◌∙◌}
-use Rattle.gl_calculus.specs.Formula.{content}
-use Rattle.gl_calculus.specs.Reference.{own_content}
-use Rattle.gl_calculus.specs.Sound.{IsProperKey}
+use Rattle.gl_calculus.specs.Formulas.Formula.{content}
+use Rattle.gl_calculus.specs.Evaluation.Reference.{own_content}
+use Rattle.gl_calculus.specs.Evaluation.Sound.{IsProperKey}
 use Rattle.gl_cells.specs.Sheet.{sheet}
 use Rattle.gl_value.specs.View.{frame_tree}
-use Rattle.gl_calculus.specs.Reference.{is_computed}
+use Rattle.gl_calculus.specs.Evaluation.Reference.{is_computed}
 use Rattle.gl_demand.specs.View.{key_tree}
 use Rattle.gl_demand.specs.declared.key.Key.{Key}
 use Rattle.gl_demand.proofs.IsFormula.{is_formula, no_formula}

@@ -1,5 +1,5 @@
 use Rattle.std.proofs.Common.{◌≡◌, ◌*◌, IsTrue, length, ap, sym, subst, ◌∙◌, arith}
-use Rattle.gl_calculus.specs.Sound.{is_sound_value}
+use Rattle.gl_calculus.specs.Evaluation.Sound.{is_sound_value}
 use Rattle.gl_value.specs.Forms.{value_tree-Array, trees}
 use Rattle.gl_value.specs.View.{array_tree}
 use Rattle.gl_lift.proofs.Soundness.{array_is_sound}

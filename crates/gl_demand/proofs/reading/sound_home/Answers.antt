@@ -1,5 +1,5 @@
 use Rattle.std.proofs.Common.{subst, sym}
-use Rattle.gl_calculus.specs.Sound.{is_sound_frame}
+use Rattle.gl_calculus.specs.Evaluation.Sound.{is_sound_frame}
 use Rattle.std.specs.Bool.{IsTrue}
 use Rattle.gl_value.specs.View.{frame_tree}
 use Rattle.gl_demand.proofs.Frames.{home_sound}

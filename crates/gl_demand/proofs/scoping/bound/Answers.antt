@@ -1,7 +1,7 @@
 use Rattle.std.proofs.Common.{◌<◌, ◌≤◌, Ok, length, true, false, ap, sym, ◌∙◌, arith}
 use Rattle.std.specs.Rc.{rc_str_bytes}
-use Rattle.gl_calculus.specs.Evaluation as E
-use Rattle.gl_calculus.specs.Value as V
+use Rattle.gl_calculus.specs.Evaluation.Evaluation as E
+use Rattle.gl_calculus.specs.Values.Value as V
 use Rattle.gl_value.specs.Forms.{value_tree-One, scalar_tree-Blank}
 use Rattle.gl_value.specs.declared.Scalar.{Blank}
 use Rattle.gl_demand.specs.Scope.{bindings_of}

@@ -1,6 +1,6 @@
 use Rattle.std.proofs.Common.{◌≡◌, drop}
 use Rattle.std.specs.Rc.{rc_str_bytes}
-use Rattle.gl_calculus.specs.Evaluation as E
+use Rattle.gl_calculus.specs.Evaluation.Evaluation as E
 use Rattle.gl_demand.specs.Scope.{bindings_of}
 use Rattle.gl_demand.proofs.scoping.bound.Given as goal
 

@@ -1,7 +1,7 @@
 use Rattle.std.proofs.Common.{◌≡◌, ◌+◌, count_by, take, get_or, sym, ap, ◌∙◌, arith}
 use Rattle.std.proofs.lemmas.Grind.{common_steps}
 use Rattle.std.proofs.lemmas.List.Sums.{count_by_more_yes, count_by_more_no}
-use Rattle.gl_calculus.specs.Evaluation.{takes_a_round}
+use Rattle.gl_calculus.specs.Evaluation.Evaluation.{takes_a_round}
 use Rattle.gl_cells.specs.Sheet.{sheet}
 use Rattle.gl_value.specs.View.{sheet_tree}
 use Rattle.gl_demand.proofs.Counting.{take_all}

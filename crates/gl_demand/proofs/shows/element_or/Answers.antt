@@ -1,8 +1,8 @@
 use Rattle.std.proofs.lemmas.Result.{IfOk-weaker}
-use Rattle.gl_calculus.specs.Lift.{item_or}
+use Rattle.gl_calculus.specs.Values.Lift.{item_or}
 use Rattle.std.specs.Bool.{IsTrue}
 use Rattle.std.specs.Prelude.{◌≡◌}
-use Rattle.gl_calculus.specs.Sound.{is_sound_scalar}
+use Rattle.gl_calculus.specs.Evaluation.Sound.{is_sound_scalar}
 use Rattle.gl_value.specs.View.{scalar_tree, array_tree}
 use Rattle.gl_demand.proofs.Showing.{item_or_sound, sound_same}
 use Rattle.gl_demand.proofs.shows.element_or.Goals as goal

@@ -1,10 +1,10 @@
 use Rattle.std.proofs.Common.{◌≡◌, ℕ, subst}
 use Rattle.std.proofs.lemmas.Result.{IfOk-weaker}
-use Rattle.gl_calculus.specs.Calculation as C
-use Rattle.gl_calculus.specs.Calculation.{IsAnswer}
-use Rattle.gl_explanation.specs.Certificate as E
-use Rattle.gl_explanation.specs.Certificate.{Explains, verdict}
-use Rattle.gl_explanation.proofs.Explaining.{walk_accepted, settled_certifies}
+use Rattle.gl_calculus.specs.Calculation.Calculation as C
+use Rattle.gl_calculus.specs.Calculation.Calculation.{IsAnswer}
+use Rattle.gl_calculus.specs.Explanation.Certificate as E
+use Rattle.gl_calculus.specs.Explanation.Certificate.{Explains, verdict}
+use Rattle.laws_calculus.proofs.Explanation.Explaining.{walk_accepted, settled_certifies}
 use Rattle.gl_ast.specs.View.{version_tree}
 use Rattle.gl_cells.specs.Sheet.{sheet}
 use Rattle.gl_explain.specs.View.{explained_tree}

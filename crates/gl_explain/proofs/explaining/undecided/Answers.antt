@@ -1,5 +1,5 @@
 use Rattle.std.proofs.Common.{◌≡◌, Some, [], map, ap, sym, ◌∙◌}
-use Rattle.gl_explanation.specs.Certificate.{says}
+use Rattle.gl_calculus.specs.Explanation.Certificate.{says}
 use Rattle.gl_cells.specs.Sheet.{sheet}
 use Rattle.gl_demand.specs.View.{key_tree}
 use Rattle.gl_cert.specs.View.{cert_tree}

@@ -1,9 +1,9 @@
 use Rattle.std.proofs.Common.{◌≡◌, sym, subst}
-use Rattle.gl_calculus.specs.Key.{same_key}
-use Rattle.gl_explanation.specs.Walk.{noted}
+use Rattle.gl_calculus.specs.Evaluation.Key.{same_key}
+use Rattle.gl_calculus.specs.Explanation.Walk.{noted}
 use Rattle.gl_ast.specs.View.{version_tree}
 use Rattle.gl_cells.specs.Sheet.{sheet}
-use Rattle.gl_ahead.specs.Reading.{keys_from}
+use Rattle.gl_machine.specs.Ahead.Reading.{keys_from}
 use Rattle.gl_demand.specs.Lacking.{IsNext}
 use Rattle.gl_demand.specs.Reading.{ahead_tree}
 use Rattle.gl_demand.specs.View.{key_tree}

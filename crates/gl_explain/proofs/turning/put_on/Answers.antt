@@ -1,7 +1,7 @@
 use Rattle.std.proofs.Common.{◌≡◌, ◌+◌, [], ◌∷◌, ◌++◌, false, length, map, sym, subst, ap, ◌∙◌, arith}
-use Rattle.gl_query.specs.Lists.{has_member}
-use Rattle.gl_calculus.specs.Limits.{max_demanded}
-use Rattle.gl_calculus.specs.Key.{same_key}
+use Rattle.gl_calculus.specs.Computation.Lists.{has_member}
+use Rattle.gl_calculus.specs.Grid.Limits.{max_demanded}
+use Rattle.gl_calculus.specs.Evaluation.Key.{same_key}
 use Rattle.gl_demand.specs.View.{key_tree}
 use Rattle.gl_cert.specs.Notes.{claims}
 use Rattle.gl_demand.specs.Marks.{mark_tree, mark_trees}

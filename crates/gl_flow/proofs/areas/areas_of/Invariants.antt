@@ -1,6 +1,6 @@
 use Rattle.std.proofs.Common.{◌≡◌, map, take}
 use Rattle.gl_cells.specs.Sheet.{sheet}
-use Rattle.gl_forecast.specs.Forecast.{box}
+use Rattle.gl_calculus.specs.Forecast.{box}
 use Rattle.gl_flow.proofs.areas.areas_of.Given as goal
 
 abbrev pub invariant-loop-k : goal.invariant-loop-k

@@ -1,6 +1,6 @@
 use Rattle.std.proofs.Common.{◌≡◌, drop}
 use Rattle.std.specs.Rc.{rc_str_bytes}
-use Rattle.gl_forecast.specs.Forecast as Fo
+use Rattle.gl_calculus.specs.Forecast as Fo
 use Rattle.gl_flow.specs.Shapes.{bindings_of}
 use Rattle.gl_flow.proofs.bindings.bound.Given as goal
 

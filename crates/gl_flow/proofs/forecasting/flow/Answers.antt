@@ -1,6 +1,6 @@
 use Rattle.std.proofs.Common.{subst, ◌∙◌}
 use Rattle.gl_cells.specs.Sheet.{sheet}
-use Rattle.gl_forecast.specs.Forecast as Fo
+use Rattle.gl_calculus.specs.Forecast as Fo
 use Rattle.gl_flow.proofs.Settling.{each_promises}
 use Rattle.gl_flow.proofs.forecasting.flow.Goals as goal
 

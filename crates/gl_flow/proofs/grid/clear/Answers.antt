@@ -1,6 +1,6 @@
 use Rattle.std.proofs.Common.{◌≡◌, Some, None, sym, ap, ◌∙◌, arith}
 use Rattle.std.specs.List.{find}
-use Rattle.gl_calculus.specs.Grid.{grid}
+use Rattle.gl_calculus.specs.Grid.Grid.{grid}
 use Rattle.gl_cells.specs.Search.{is_in_play}
 use Rattle.gl_cells.specs.Sheet.{sheet}
 use Rattle.gl_flow.specs.Grid.{number_lists}

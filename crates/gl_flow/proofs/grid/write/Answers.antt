@@ -1,5 +1,5 @@
 use Rattle.std.proofs.Common.{◌-◌, ◌<◌, length, refl, ap, ◌∙◌, arith}
-use Rattle.gl_calculus.specs.Grid.{addr}
+use Rattle.gl_calculus.specs.Grid.Grid.{addr}
 use Rattle.gl_flow.specs.Grid.{number_lists, written_at}
 use Rattle.gl_flow.proofs.Griding.{write_is}
 use Rattle.gl_flow.proofs.grid.write.Goals as goal

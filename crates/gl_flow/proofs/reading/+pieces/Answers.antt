@@ -2,7 +2,7 @@ use Rattle.std.proofs.Common.{◌++◌, ap, sym, ◌∙◌, arith}
 use Rattle.std.proofs.lemmas.Grind.{common_steps}
 use Rattle.gl_ast.specs.View.{formula_tree, argument_trees, operand_trees}
 use Rattle.gl_ast.specs.Forms.{formula_tree-Int, formula_tree-Text, formula_tree-Bool, formula_tree-Var, trees}
-use Rattle.gl_forecast.specs.Forecast as Fo
+use Rattle.gl_calculus.specs.Forecast as Fo
 use Rattle.gl_flow.specs.Pieces.{piece_trees, without_calls}
 use Rattle.gl_flow.proofs.Parts.{pieces_none, pieces_next, split_arguments, split_operands, pieces_then}
 use Rattle.gl_flow.proofs.reading.+pieces.Goals as goal

@@ -1,6 +1,6 @@
 use Rattle.std.proofs.Common.{◌≡◌, ◌++◌, drop}
 use Rattle.gl_ast.specs.View.{argument_trees, operand_trees}
-use Rattle.gl_forecast.specs.Forecast as Fo
+use Rattle.gl_calculus.specs.Forecast as Fo
 use Rattle.gl_flow.specs.Pieces.{piece_trees, without_calls}
 use Rattle.gl_flow.proofs.reading.+pieces.Given as goal
 

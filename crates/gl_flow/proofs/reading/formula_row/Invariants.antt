@@ -1,5 +1,5 @@
 use Rattle.std.proofs.Common.{◌≡◌, ◌≤◌, max, drop}
-use Rattle.gl_calculus.specs.Limits.{grid_rows}
+use Rattle.gl_calculus.specs.Grid.Limits.{grid_rows}
 use Rattle.gl_flow.specs.Pieces.{piece_trees, last_read, AreReadPieces}
 use Rattle.gl_flow.proofs.reading.formula_row.Given as goal
 

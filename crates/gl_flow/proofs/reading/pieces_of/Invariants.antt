@@ -1,5 +1,5 @@
 use Rattle.std.proofs.Common.{◌≡◌, map, take}
-use Rattle.gl_calculus.specs.Formula.{content}
+use Rattle.gl_calculus.specs.Formulas.Formula.{content}
 use Rattle.gl_cells.specs.Sheet.{sheet}
 use Rattle.gl_flow.specs.Contents.{formula_in}
 use Rattle.gl_flow.specs.Pieces.{piece_lists, pieces_in}

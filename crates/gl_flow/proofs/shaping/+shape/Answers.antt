@@ -2,7 +2,7 @@ use Rattle.std.proofs.Common.{ap, sym, ◌∙◌, arith}
 use Rattle.std.proofs.lemmas.Grind.{common_steps}
 use Rattle.gl_ast.specs.View.{formula_tree, argument_trees, operand_trees}
 use Rattle.gl_ast.specs.Forms.{formula_tree-Int, formula_tree-Text, formula_tree-Bool, formula_tree-At, trees}
-use Rattle.gl_forecast.specs.Forecast as Fo
+use Rattle.gl_calculus.specs.Forecast as Fo
 use Rattle.gl_flow.specs.Shapes.{bindings_of, spilled_at}
 use Rattle.gl_flow.proofs.Joining.{joining_starts, stacking_starts}
 use Rattle.gl_flow.proofs.shaping.+shape.Goals as goal

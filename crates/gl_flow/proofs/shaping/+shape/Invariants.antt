@@ -1,6 +1,6 @@
 use Rattle.std.proofs.Common.{drop}
 use Rattle.gl_ast.specs.View.{argument_trees, operand_trees}
-use Rattle.gl_forecast.specs.Forecast as Fo
+use Rattle.gl_calculus.specs.Forecast as Fo
 use Rattle.gl_flow.specs.Shapes.{bindings_of, spilled_at, stacked}
 use Rattle.gl_flow.proofs.Joining.{IsJoining, IsStacking}
 use Rattle.gl_flow.proofs.shaping.+shape.Given as goal

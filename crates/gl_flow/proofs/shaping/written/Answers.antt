@@ -1,7 +1,7 @@
 use Rattle.std.proofs.Common.{ap, sym, ◌∙◌}
 use Rattle.gl_ast.specs.View.{formula_tree}
 use Rattle.gl_ast.specs.Forms.{formula_tree-Text, formula_tree-Bool, formula_tree-At, formula_tree-Spill, formula_tree-Area, formula_tree-Var, formula_tree-Neg, formula_tree-Chain, formula_tree-Compare, formula_tree-Call, formula_tree-Let}
-use Rattle.gl_forecast.specs.Forecast as Fo
+use Rattle.gl_calculus.specs.Forecast as Fo
 use Rattle.gl_flow.proofs.shaping.written.Goals as goal
 
 pub returns-in-Text : goal.returns-in-Text

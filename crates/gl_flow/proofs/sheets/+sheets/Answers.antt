@@ -3,7 +3,7 @@ use Rattle.std.proofs.lemmas.Grind.{common_steps}
 use Rattle.std.specs.List.{list_any}
 use Rattle.gl_ast.specs.View.{formula_tree}
 use Rattle.gl_ast.specs.Forms.{formula_tree-Int, formula_tree-Text, formula_tree-Bool, formula_tree-At, formula_tree-Spill, formula_tree-Area, formula_tree-Var}
-use Rattle.gl_forecast.specs.Forecast as Fo
+use Rattle.gl_calculus.specs.Forecast as Fo
 use Rattle.gl_flow.proofs.sheets.+sheets.Goals as goal
 
 pub makes_sheets-returns-in-Int : goal.makes_sheets-returns-in-Int

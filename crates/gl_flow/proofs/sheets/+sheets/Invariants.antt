@@ -1,7 +1,7 @@
 use Rattle.std.proofs.Common.{◌≡◌, drop}
 use Rattle.std.specs.List.{list_any}
 use Rattle.gl_ast.specs.View.{argument_trees, operand_trees}
-use Rattle.gl_forecast.specs.Forecast as Fo
+use Rattle.gl_calculus.specs.Forecast as Fo
 use Rattle.gl_flow.proofs.sheets.+sheets.Given as goal
 
 abbrev pub invariant-arguments-loop-x : goal.invariant-arguments-loop-x

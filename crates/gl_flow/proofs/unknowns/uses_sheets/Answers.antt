@@ -1,5 +1,5 @@
 use Rattle.std.proofs.Common.{ap, ◌∙◌}
-use Rattle.gl_calculus.specs.Formula.{content}
+use Rattle.gl_calculus.specs.Formulas.Formula.{content}
 use Rattle.gl_cells.specs.Sheet.{sheet}
 use Rattle.gl_flow.proofs.Unknown.{formula_makes, makes_is}
 use Rattle.gl_flow.proofs.unknowns.uses_sheets.Goals as goal

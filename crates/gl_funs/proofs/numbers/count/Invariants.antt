@@ -1,5 +1,5 @@
 use Rattle.std.proofs.Common.{◌≡◌, ◌+◌, length, filter_map}
-use Rattle.gl_calculus.specs.Functions as F
+use Rattle.gl_calculus.specs.Values.Functions as F
 use Rattle.gl_funs.specs.Elements.{elements_of, elements_left}
 use Rattle.gl_funs.proofs.numbers.count.Given as goal
 

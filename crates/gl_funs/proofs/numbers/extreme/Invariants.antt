@@ -1,5 +1,5 @@
 use Rattle.std.proofs.Common.{◌≡◌}
-use Rattle.gl_calculus.specs.Functions as F
+use Rattle.gl_calculus.specs.Values.Functions as F
 use Rattle.gl_funs.specs.Elements.{elements_of, elements_left}
 use Rattle.gl_funs.specs.Rules.{better, extreme_from}
 use Rattle.gl_funs.proofs.numbers.extreme.Given as goal

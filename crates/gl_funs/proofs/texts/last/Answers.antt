@@ -3,7 +3,7 @@ use Rattle.std.proofs.lemmas.Iterator.{YieldsList-from_chars, text_from_collect}
 use Rattle.std.proofs.lemmas.Iterator.Adapters.{YieldsList-from_skip}
 use Rattle.std.specs.Str.{chars}
 use Rattle.std.specs.Str.Iter.{chars_rest}
-use Rattle.gl_calculus.specs.Functions.{take_last}
+use Rattle.gl_calculus.specs.Values.Functions.{take_last}
 use Rattle.gl_funs.proofs.texts.last.Goals as goal
 
 pub returns : goal.returns

@@ -1,5 +1,5 @@
 use Rattle.std.proofs.Common.{◌≡◌}
-use Rattle.gl_calculus.specs.Functions as F
+use Rattle.gl_calculus.specs.Values.Functions as F
 use Rattle.gl_funs.specs.Elements.{elements_of, elements_left}
 use Rattle.gl_funs.specs.Rules.{joins, rule_of, verdict_from}
 use Rattle.gl_funs.proofs.truths.verdict.Given as goal

@@ -1,6 +1,6 @@
 use Rattle.std.proofs.Common.{◌≡◌, ◌++◌, ◌-◌, ◌≤◌, true, length, take, drop}
 use Rattle.std.specs.List.{list_all}
-use Rattle.gl_calculus.specs.Oracle.{grant_beside, grant}
+use Rattle.gl_calculus.specs.Evaluation.Oracle.{grant_beside, grant}
 use Rattle.gl_grant.specs.Granted.{taken_by, fits_grid}
 use Rattle.gl_grant.proofs.consistency.is_consistent.Given as goal
 

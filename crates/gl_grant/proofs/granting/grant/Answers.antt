@@ -2,7 +2,7 @@ use Rattle.std.proofs.Common.{◌≡◌, ◌+◌, ◌<◌, ◌++◌, ◌∷◌, 
 use Rattle.std.proofs.lemmas.Grind.{common_steps}
 use Rattle.std.specs.List.{list_all}
 use Rattle.std.proofs.Math.Seq.{take-length}
-use Rattle.gl_calculus.specs.Oracle.{ArePermits, grant}
+use Rattle.gl_calculus.specs.Evaluation.Oracle.{ArePermits, grant}
 use Rattle.gl_calculus.proofs.Grants.{grant_permits}
 use Rattle.gl_grant.specs.Granted.{entry_behind, fits_grid}
 use Rattle.gl_grant.proofs.Growing.{all_reached, grows, reached, on_ok}

@@ -1,6 +1,6 @@
 use Rattle.std.proofs.Common.{take, ◌∙◌, ap, sym, is_none, true, false, not, refl}
 use Rattle.std.specs.List.{list_any}
-use Rattle.gl_calculus.specs.Grid.{meets}
+use Rattle.gl_calculus.specs.Grid.Grid.{meets}
 use Rattle.gl_grant.specs.Granted.{taken_by}
 use Rattle.gl_grant.proofs.Free.{free_within}
 use Rattle.gl_grant.proofs.granting.is_free.Goals as goal

@@ -1,6 +1,6 @@
 use Rattle.std.proofs.Common.{Some, None, ◌∙◌, ap, sym}
-use Rattle.gl_calculus.specs.Oracle as O
-use Rattle.gl_calculus.specs.Grid.{area}
+use Rattle.gl_calculus.specs.Evaluation.Oracle as O
+use Rattle.gl_calculus.specs.Grid.Grid.{area}
 use Rattle.gl_grant.proofs.Free.{is_within}
 use Rattle.gl_grant.proofs.InTheWay.{met_obstacle}
 use Rattle.gl_grant.proofs.obstacles.first_obstacle.Goals as goal

@@ -1,5 +1,5 @@
 use Rattle.std.proofs.Common.{◌≡◌, ◌<◌, ◌^◌, drop}
-use Rattle.gl_language.specs.Token.{digits_value}
+use Rattle.gl_language.specs.Reading.Token.{digits_value}
 use Rattle.gl_lex.specs.Front.{value_from}
 use Rattle.gl_lex.proofs.scan.number_of.Given as goal
 

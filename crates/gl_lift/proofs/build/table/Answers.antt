@@ -1,7 +1,7 @@
 use Rattle.std.proofs.Common.{◌≡◌, ◌*◌, ◌++◌, ◌∙◌, ap, arith, map, sym, length, vec_len}
 use Rattle.std.proofs.lemmas.Grind.{common_steps}
 use Rattle.std.specs.List.{range_with_len}
-use Rattle.gl_calculus.specs.Grid.{size}
+use Rattle.gl_calculus.specs.Grid.Grid.{size}
 use Rattle.gl_value.specs.Forms.{value_tree-Array}
 use Rattle.gl_lift.proofs.Rows.{row_more, table_is}
 use Rattle.gl_lift.proofs.Soundness.{array_is_sound}

@@ -1,8 +1,8 @@
 use Rattle.std.proofs.Common.{◌≡◌, ◌*◌, ℕ, map, vec_len, IsTrue}
 use Rattle.std.specs.List.{range_with_len, flat_map}
-use Rattle.gl_calculus.specs.Value as V
+use Rattle.gl_calculus.specs.Values.Value as V
 use Rattle.gl_value.specs.View.{scalar_tree, item_trees}
-use Rattle.gl_calculus.specs.Sound.{are_sound}
+use Rattle.gl_calculus.specs.Evaluation.Sound.{are_sound}
 use Rattle.gl_lift.specs.Rules.{ComputesAt, AnswersSoundAt}
 use Rattle.gl_lift.proofs.build.table.Given as goal
 

@@ -1,6 +1,6 @@
 use Rattle.std.proofs.Common.{◌∙◌, IsTrue}
-use Rattle.gl_calculus.specs.Value as V
-use Rattle.gl_calculus.specs.Sound.{is_sound_value}
+use Rattle.gl_calculus.specs.Values.Value as V
+use Rattle.gl_calculus.specs.Evaluation.Sound.{is_sound_value}
 use Rattle.gl_value.specs.Forms.{value_tree-Array, array_tree_is}
 use Rattle.gl_value.specs.View.{item_trees}
 use Rattle.gl_lift.proofs.Present.{element_present}

@@ -1,5 +1,5 @@
 use Rattle.std.proofs.Common.{◌≡◌, false, refl, arith}
-use Rattle.gl_calculus.specs.Lift.{reaches, spread}
+use Rattle.gl_calculus.specs.Values.Lift.{reaches, spread}
 use Rattle.gl_value.specs.Forms.{scalar_tree-Err, trees}
 use Rattle.gl_value.specs.View.{scalar_tree, value_tree}
 use Rattle.gl_lift.proofs.Present.{reached_some, reached_none, and_false}

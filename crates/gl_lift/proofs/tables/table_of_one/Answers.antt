@@ -1,5 +1,5 @@
 use Rattle.std.proofs.Common.{◌≡◌, IfOk, subst, rules}
-use Rattle.gl_calculus.specs.Lift.{item, shape, table}
+use Rattle.gl_calculus.specs.Values.Lift.{item, shape, table}
 use Rattle.gl_value.specs.View.{value_tree}
 use Rattle.gl_lift.proofs.Sizes.{size_is}
 use Rattle.gl_lift.proofs.tables.table_of_one.Goals as goal

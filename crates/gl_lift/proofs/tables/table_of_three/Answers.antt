@@ -1,5 +1,5 @@
 use Rattle.std.proofs.Common.{◌≡◌, IfOk, subst, max, rules}
-use Rattle.gl_calculus.specs.Lift.{hull, shape, table}
+use Rattle.gl_calculus.specs.Values.Lift.{hull, shape, table}
 use Rattle.gl_value.specs.View.{value_tree}
 use Rattle.gl_lift.specs.Elements.{tripled}
 use Rattle.gl_lift.proofs.Sizes.{size_is}

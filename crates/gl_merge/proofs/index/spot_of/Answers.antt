@@ -1,5 +1,5 @@
 use Rattle.std.proofs.Common.{◌≡◌, ◌∙◌, ℕ, ◌+◌, ◌-◌, ◌/◌, ◌<◌, true, false, length, sym, subst, arith}
-use Rattle.gl_calculus.specs.Grid.{Addr, same_addr, is_before}
+use Rattle.gl_calculus.specs.Grid.Grid.{Addr, same_addr, is_before}
 use Rattle.gl_calculus.proofs.Tests.{addr_exact}
 use Rattle.gl_merge.proofs.Spots.{found_at, before_more, after_from, behind_other}
 use Rattle.gl_merge.proofs.index.spot_of.Goals as goal

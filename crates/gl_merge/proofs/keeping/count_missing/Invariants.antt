@@ -1,5 +1,5 @@
 use Rattle.std.proofs.Common.{◌≡◌, take}
-use Rattle.gl_edits.specs.Replicas.{missing}
+use Rattle.gl_calculus.specs.Edits.Replicas.{missing}
 use Rattle.gl_merge.specs.Index.{registers}
 use Rattle.gl_merge.proofs.keeping.count_missing.Given as goal
 

@@ -1,6 +1,6 @@
 use Rattle.std.proofs.Common.{◌≡◌, ◌∙◌, Some, is_some, length, slice_get, vec_len, sym, ap, subst, arith}
-use Rattle.gl_calculus.specs.Grid.{Addr}
-use Rattle.gl_edits.specs.Replicas.{register_at}
+use Rattle.gl_calculus.specs.Grid.Grid.{Addr}
+use Rattle.gl_calculus.specs.Edits.Replicas.{register_at}
 use Rattle.gl_merge.specs.Index.{Index, places, registers}
 use Rattle.gl_merge.specs.Spot.{IsFoundAt, IsGapAt}
 use Rattle.gl_merge.proofs.Adding.{added_as, is_new, gap_room}

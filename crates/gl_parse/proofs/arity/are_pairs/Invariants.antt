@@ -1,6 +1,6 @@
 use Rattle.std.proofs.Common.{◌≡◌, length}
-use Rattle.gl_language.specs.Text.{Bytes}
-use Rattle.gl_language.specs.Grammar as G
+use Rattle.gl_language.specs.Texts.Text.{Bytes}
+use Rattle.gl_language.specs.Reading.Grammar as G
 use Rattle.gl_parse.specs.Raws.{plains}
 use Rattle.gl_parse.proofs.arity.are_pairs.Given as goal
 

@@ -1,5 +1,5 @@
 use Rattle.std.proofs.Common.{not, ap, sym, ◌∙◌}
-use Rattle.gl_language.specs.Grammar as G
+use Rattle.gl_language.specs.Reading.Grammar as G
 use Rattle.gl_parse.specs.Raws.{raw_tree, letters, plains}
 use Rattle.gl_parse.proofs.Forms.{tree-Apply}
 use Rattle.gl_parse.proofs.Calls.{raws_back}

@@ -1,5 +1,5 @@
 use Rattle.std.proofs.Common.{◌≡◌, ◌≤◌, length}
-use Rattle.gl_language.specs.Grammar.{is_deep_from}
+use Rattle.gl_language.specs.Reading.Grammar.{is_deep_from}
 use Rattle.gl_lex.specs.View.{tokens_in}
 use Rattle.gl_parse.proofs.depth.is_deep.Given as goal
 

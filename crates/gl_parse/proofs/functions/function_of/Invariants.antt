@@ -1,5 +1,5 @@
 use Rattle.std.proofs.Common.{◌≡◌, drop}
-use Rattle.gl_language.specs.Grammar as G
+use Rattle.gl_language.specs.Reading.Grammar as G
 use Rattle.gl_parse.proofs.Words.{found_in}
 use Rattle.gl_parse.proofs.functions.function_of.Given as goal
 

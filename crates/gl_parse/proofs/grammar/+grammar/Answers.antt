@@ -1,7 +1,7 @@
 use Rattle.std.proofs.Common.{[], ◌∷◌, ◌++◌, ◌∙◌, arith, ap, refl, subst, sym}
 use Rattle.std.proofs.lemmas.Grind.{common_steps}
-use Rattle.gl_language.specs.Grammar.{IsAtom, IsOperand}
-use Rattle.gl_language.specs.Token.{Word}
+use Rattle.gl_language.specs.Reading.Grammar.{IsAtom, IsOperand}
+use Rattle.gl_language.specs.Reading.Token.{Word}
 use Rattle.gl_lex.specs.View.{tokens_in}
 use Rattle.gl_ast.specs.View.{level_tree}
 use Rattle.gl_parse.specs.Raws.{letters, pairs, plains, raw_tree, raws_of}

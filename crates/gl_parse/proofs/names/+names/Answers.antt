@@ -1,8 +1,8 @@
 use Rattle.std.proofs.Common.{◌∷◌, ◌||◌, not, bytes_eq, ap, sym, refl, ◌∙◌, arith}
 use Rattle.std.proofs.lemmas.Grind.{common_steps}
 use Rattle.std.specs.List.{list_any}
-use Rattle.gl_language.specs.Grammar.{has_bad_name, bad_name_in, bad_name_in_operands}
-use Rattle.gl_language.specs.Grammar as G
+use Rattle.gl_language.specs.Reading.Grammar.{has_bad_name, bad_name_in, bad_name_in_operands}
+use Rattle.gl_language.specs.Reading.Grammar as G
 use Rattle.gl_parse.specs.Raws.{raw_tree, plains, pairs, links, raws_of, letters}
 use Rattle.gl_parse.specs.Faults.{scope}
 use Rattle.gl_parse.proofs.Walks.{or_then, or_else}

@@ -1,5 +1,5 @@
 use Rattle.std.proofs.Common.{◌≡◌, drop}
-use Rattle.gl_language.specs.Grammar.{bad_name_in, bad_name_in_operands}
+use Rattle.gl_language.specs.Reading.Grammar.{bad_name_in, bad_name_in_operands}
 use Rattle.gl_parse.specs.Raws.{links, raws_of, pairs, plains}
 use Rattle.gl_parse.specs.Faults.{scope}
 use Rattle.gl_parse.proofs.names.+names.Given as goal

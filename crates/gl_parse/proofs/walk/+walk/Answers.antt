@@ -1,6 +1,6 @@
 use Rattle.std.proofs.Common.{ap, sym, ◌∙◌, arith}
 use Rattle.std.proofs.lemmas.Grind.{common_steps}
-use Rattle.gl_language.specs.Grammar.{some_form, some_operand, some_argument}
+use Rattle.gl_language.specs.Reading.Grammar.{some_form, some_operand, some_argument}
 use Rattle.gl_parse.specs.Raws.{raw_tree, links, pairs, raws_of, plains}
 use Rattle.gl_parse.specs.Faults.{shows}
 use Rattle.gl_parse.proofs.Walks.{or_then, or_else, shown_here, walk_neg, walk_chain, walk_compare, walk_apply}

@@ -1,5 +1,5 @@
 use Rattle.std.proofs.Common.{◌≡◌, drop}
-use Rattle.gl_language.specs.Grammar.{some_operand, some_argument}
+use Rattle.gl_language.specs.Reading.Grammar.{some_operand, some_argument}
 use Rattle.gl_parse.specs.Raws.{links, raws_of, pairs, plains}
 use Rattle.gl_parse.specs.Faults.{shows}
 use Rattle.gl_parse.proofs.walk.+walk.Given as goal

@@ -1,5 +1,5 @@
 use Rattle.std.proofs.Common.{ap, sym, ◌∙◌}
-use Rattle.gl_language.specs.Grammar as G
+use Rattle.gl_language.specs.Reading.Grammar as G
 use Rattle.gl_parse.specs.Raws.{raw_tree}
 use Rattle.gl_parse.proofs.Forms.{tree-Corners}
 use Rattle.gl_parse.proofs.Others.{no_range}

@@ -1,6 +1,6 @@
 use Rattle.std.proofs.Common.{length, ◌-◌, ◌≡◌, drop}
 use Rattle.std.specs.List.{list_any}
-use Rattle.gl_calculus.specs.Grid.{addresses, covers}
+use Rattle.gl_calculus.specs.Grid.Grid.{addresses, covers}
 use Rattle.gl_plane.proofs.changes.overlap_some.Given as goal
 
 -- No range that was passed shares an address.

@@ -1,5 +1,5 @@
 use Rattle.std.proofs.Common.{◌≡◌, take}
-use Rattle.gl_calculus.specs.Grid.{Addr as PlainAddr}
+use Rattle.gl_calculus.specs.Grid.Grid.{Addr as PlainAddr}
 use Rattle.gl_plane.specs.Changes.{is_covered}
 use Rattle.gl_plane.proofs.merging.joined.Given as goal
 

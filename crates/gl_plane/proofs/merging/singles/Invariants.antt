@@ -1,5 +1,5 @@
 use Rattle.std.proofs.Common.{◌≡◌, take, map}
-use Rattle.gl_calculus.specs.Grid.{single}
+use Rattle.gl_calculus.specs.Grid.Grid.{single}
 use Rattle.gl_plane.proofs.merging.singles.Given as goal
 
 abbrev pub invariant-loop-a : goal.invariant-loop-a

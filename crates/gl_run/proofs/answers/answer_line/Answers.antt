@@ -1,18 +1,18 @@
 use Rattle.std.proofs.Common.{◌≡◌, ℕ, None, Vec, Global}
-use Rattle.gl_language.specs.Text.{Bytes}
-use Rattle.gl_protocol.specs.Header.{payload_len}
+use Rattle.gl_language.specs.Texts.Text.{Bytes}
+use Rattle.gl_protocol.specs.Framing.Header.{payload_len}
 use Rattle.gl_run.proofs.Keeping.{kept_by}
 use Rattle.std.proofs.lemmas.Result.{IfOk-weaker}
-use Rattle.gl_protocol.specs.Framing.{Line}
-use Rattle.gl_protocol.specs.Acts.{Acts}
+use Rattle.gl_protocol.specs.Framing.Framing.{Line}
+use Rattle.gl_protocol.specs.Scripts.Acts.{Acts}
 use Rattle.gl_ast.specs.View.{version_tree}
-use Rattle.gl_csvin.specs.Import.{csv_records}
+use Rattle.gl_protocol.specs.Run.Records.{csv_records}
 use Rattle.gl_script.specs.Command.{Asks, word_of}
 use Rattle.gl_run.specs.Replies.{IsRefusal}
 use Rattle.gl_run.specs.Script.{known_of, script_of}
 use Rattle.gl_run.proofs.Asking.{asked_proper}
 use Rattle.gl_run.proofs.Refusing.{refusal_acts}
-use Rattle.gl_run.specs.Spends.{Spends}
+use Rattle.gl_protocol.specs.Run.Spends.{Spends}
 use Rattle.gl_run.proofs.Spending.{word_spends}
 use Rattle.gl_run.proofs.answers.answer_line.Goals as goal
 

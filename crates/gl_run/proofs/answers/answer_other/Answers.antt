@@ -1,17 +1,17 @@
 use Rattle.std.specs.Prelude.{codes}
 use Rattle.std.proofs.Common.{ℕ, Vec, Global, refl}
 use Rattle.std.proofs.lemmas.Result.{IfOk-weaker}
-use Rattle.gl_calculus.specs.Formula.{content}
-use Rattle.gl_protocol.specs.Acts.{Does}
-use Rattle.gl_protocol.specs.Commands as C
-use Rattle.gl_protocol.specs.Commands.{get_text, list_text}
-use Rattle.gl_protocol.specs.Tables.{line}
+use Rattle.gl_calculus.specs.Formulas.Formula.{content}
+use Rattle.gl_protocol.specs.Scripts.Acts.{Does}
+use Rattle.gl_protocol.specs.Scripts.Commands as C
+use Rattle.gl_protocol.specs.Scripts.Commands.{get_text, list_text}
+use Rattle.gl_protocol.specs.Replies.Tables.{line}
 use Rattle.gl_ast.specs.View.{version_tree}
 use Rattle.gl_cells.specs.Content.{content_tree}
 use Rattle.gl_cells.specs.Sheet.{sheet}
 use Rattle.gl_script.specs.Command.{edit_of}
 use Rattle.gl_script.specs.declared.requests.Request.TheVariants as r
-use Rattle.gl_csvin.specs.Import.{csv_records}
+use Rattle.gl_protocol.specs.Run.Records.{csv_records}
 use Rattle.gl_run.specs.Replies.{TellsForecast}
 use Rattle.gl_run.specs.Script.{known_of, script_of}
 use Rattle.gl_run.proofs.Asking.{answers_all, if_said, if_changed, if_merged, if_exported, if_done, nothing_done, get_done, list_done, flow_done, quit_done, version_refused}

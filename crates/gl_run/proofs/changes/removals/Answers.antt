@@ -1,7 +1,7 @@
 use Rattle.std.proofs.Common.{◌≡◌, ◌∙◌, ◌∷◌, [], ◌++◌, List, Option, map, take, slice_get, Some, sym, ap, subst, arith, rules}
-use Rattle.gl_calculus.specs.Grid.{Addr}
-use Rattle.gl_protocol.specs.Commands.{places_in}
-use Rattle.gl_edits.specs.Replicas.{Changes}
+use Rattle.gl_calculus.specs.Grid.Grid.{Addr}
+use Rattle.gl_calculus.specs.Edits.Sheets.{places_in}
+use Rattle.gl_calculus.specs.Edits.Replicas.{Changes}
 use Rattle.gl_cells.specs.declared.content.Content.{Content}
 use Rattle.gl_cells.specs.Sheet.{sheet}
 use Rattle.gl_calc.proofs.Calcs.{clear_length}

@@ -1,5 +1,5 @@
 use Rattle.std.proofs.Common.{◌≡◌, take, length, vec_len, vec_capacity}
-use Rattle.gl_protocol.specs.Script.{settings}
+use Rattle.gl_calculus.specs.Edits.Sheets.{settings}
 use Rattle.gl_cells.specs.Sheet.{sheet}
 use Rattle.gl_undo.specs.View.{AreProperChanges, changes_tree}
 use Rattle.gl_run.proofs.changes.settings.Given as goal

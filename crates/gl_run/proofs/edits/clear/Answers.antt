@@ -1,20 +1,22 @@
 use Rattle.std.proofs.Common.{rules, ◌≡◌, ◌∙◌, ℕ, Vec, Global, IfOk, sym, ap, subst}
 use Rattle.std.proofs.lemmas.Result.{IfOk-weaker}
-use Rattle.gl_calculus.specs.Formula.{Cells}
-use Rattle.gl_calculus.specs.Grid.{AreInOrder}
-use Rattle.gl_edits.specs.Replicas.{Changes}
-use Rattle.gl_protocol.specs.Commands as C
-use Rattle.gl_protocol.specs.Commands.{Is, places_in, without}
-use Rattle.gl_protocol.specs.Script as P
-use Rattle.gl_protocol.specs.Script.{change, removals}
+use Rattle.gl_calculus.specs.Formulas.Formula.{Cells}
+use Rattle.gl_calculus.specs.Grid.Grid.{AreInOrder}
+use Rattle.gl_calculus.specs.Edits.Replicas.{Changes}
+use Rattle.gl_protocol.specs.Scripts.Commands as C
+use Rattle.gl_protocol.specs.Scripts.Commands.{Is}
+use Rattle.gl_calculus.specs.Edits.Sheets.{places_in, without}
+use Rattle.gl_protocol.specs.Scripts.Script as P
+use Rattle.gl_protocol.specs.Scripts.Script.{change}
+use Rattle.gl_calculus.specs.Edits.Sheets.{removals}
 use Rattle.gl_cells.specs.Sheet.{sheet}
 use Rattle.gl_calc.specs.View.{sheet_of}
 use Rattle.gl_run.specs.Changed.{IsChanged}
-use Rattle.gl_run.specs.Known.{Known}
+use Rattle.gl_protocol.specs.Run.Known.{Known}
 use Rattle.gl_run.specs.Ready.{IsReady, IsRefusedBy, local_word, places}
 use Rattle.gl_run.specs.Replies.{IsRefusal}
 use Rattle.gl_run.specs.Script.{known_of, script_of}
-use Rattle.gl_run.specs.Spends.{Touches}
+use Rattle.gl_protocol.specs.Run.Spends.{Touches}
 use Rattle.gl_run.proofs.Readying.{refused_changed}
 use Rattle.gl_run.proofs.Spending.{touches_kept}
 use Rattle.gl_run.proofs.edits.clear.Goals as goal

@@ -1,8 +1,10 @@
 use Rattle.std.proofs.Common.{sym, ap, subst}
-use Rattle.gl_calculus.specs.Formula.{Cells}
-use Rattle.gl_protocol.specs.Commands as C
-use Rattle.gl_protocol.specs.Commands.{Is, places_in, without}
-use Rattle.gl_protocol.specs.Script.{change, removals}
+use Rattle.gl_calculus.specs.Formulas.Formula.{Cells}
+use Rattle.gl_protocol.specs.Scripts.Commands as C
+use Rattle.gl_protocol.specs.Scripts.Commands.{Is}
+use Rattle.gl_calculus.specs.Edits.Sheets.{places_in, without}
+use Rattle.gl_protocol.specs.Scripts.Script.{change}
+use Rattle.gl_calculus.specs.Edits.Sheets.{removals}
 use Rattle.gl_calc.specs.View.{View, sheet_of}
 use Rattle.gl_run.specs.Changed.{Marks}
 use Rattle.gl_run.specs.Script.{script_of}

@@ -1,14 +1,15 @@
 use Rattle.std.proofs.Common.{rules, ℕ, [], ◌∷◌, Some, Err, Ok, Vec, Global, sym, subst}
 use Rattle.std.proofs.lemmas.Result.{IfOk-weaker}
-use Rattle.gl_protocol.specs.Commands as C
-use Rattle.gl_protocol.specs.Commands.{allowed, with_content}
-use Rattle.gl_protocol.specs.Script.{change}
+use Rattle.gl_protocol.specs.Scripts.Commands as C
+use Rattle.gl_protocol.specs.Scripts.Commands.{allowed}
+use Rattle.gl_calculus.specs.Edits.Sheets.{with_content}
+use Rattle.gl_protocol.specs.Scripts.Script.{change}
 use Rattle.gl_cells.specs.Content.{content_tree}
 use Rattle.gl_calc.specs.View.{View, sheet_of}
 use Rattle.gl_run.specs.Changed.{IsChanged, Marks}
 use Rattle.gl_run.specs.Replies.{IsRefusal, put_word}
 use Rattle.gl_run.specs.Script.{known_of, script_of}
-use Rattle.gl_run.specs.Spends.{Touches}
+use Rattle.gl_protocol.specs.Run.Spends.{Touches}
 use Rattle.gl_run.proofs.Editing.{puts_of}
 use Rattle.gl_run.proofs.Readying.{can_commit, committed, changed_to, put_changed}
 use Rattle.gl_run.proofs.Spending.{touches_by_word, touches_marks}

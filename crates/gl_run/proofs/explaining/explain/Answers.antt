@@ -1,6 +1,6 @@
 use Rattle.std.proofs.Common.{ℕ, Vec, Global}
 use Rattle.std.proofs.lemmas.Result.{IfOk-weaker}
-use Rattle.gl_protocol.specs.Commands as C
+use Rattle.gl_protocol.specs.Scripts.Commands as C
 use Rattle.gl_ast.specs.View.{version_tree}
 use Rattle.gl_cells.specs.Sheet.{sheet}
 use Rattle.gl_run.specs.Replies.{IsExplanation, RepliesBy}

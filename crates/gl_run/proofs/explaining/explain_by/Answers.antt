@@ -1,13 +1,13 @@
 use Rattle.std.proofs.Common.{◌≡◌, ℕ, Vec, Global, ap, sym, subst, ◌∙◌, arith}
 use Rattle.std.proofs.lemmas.Result.{IfOk-weaker}
-use Rattle.gl_explanation.specs.Certificate as E
-use Rattle.gl_explanation.specs.Certificate.{Explains, verdict}
-use Rattle.gl_protocol.specs.Explanations.{explanation_text}
+use Rattle.gl_calculus.specs.Explanation.Certificate as E
+use Rattle.gl_calculus.specs.Explanation.Certificate.{Explains, verdict}
+use Rattle.gl_protocol.specs.Replies.Explanations.{explanation_text}
 use Rattle.gl_ast.specs.View.{version_tree}
 use Rattle.gl_cells.specs.Sheet.{sheet}
 use Rattle.gl_cert.specs.View.{cert_tree}
 use Rattle.gl_demand.specs.View.{budget_tree}
-use Rattle.gl_explain.specs.Steps.{AllowsWalk}
+use Rattle.gl_calculus.specs.Steps.Walk.{AllowsWalk}
 use Rattle.gl_explain.specs.View.{explained_tree}
 use Rattle.gl_run.specs.Replies.{IsExplanation}
 use Rattle.gl_run.proofs.explaining.explain_by.Goals as goal

@@ -3,8 +3,8 @@ use Rattle.std.proofs.lemmas.Result.{on_ok_weaker}
 use Rattle.std.specs.String.{string_bytes}
 use Rattle.std.specs.Prelude.{codes}
 use Rattle.std.specs.Fmt.{decimal}
-use Rattle.gl_calculus.specs.Notation.{address_text}
-use Rattle.gl_protocol.specs.Tables.{text_behind_place}
+use Rattle.gl_calculus.specs.Grid.Notation.{address_text}
+use Rattle.gl_protocol.specs.Replies.Tables.{text_behind_place}
 use Rattle.gl_cells.specs.Content.{content_tree}
 use Rattle.gl_cells.specs.declared.content.Content.{Content}
 use Rattle.gl_run.proofs.EditText.{eight_put}

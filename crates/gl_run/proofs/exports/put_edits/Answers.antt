@@ -1,8 +1,8 @@
 use Rattle.std.proofs.Common.{◌∙◌, ◌++◌, List, take, sym, ap, arith, append_assoc}
 use Rattle.std.specs.String.{string_bytes}
-use Rattle.gl_edits.specs.Replicas.{Edit}
-use Rattle.gl_language.specs.Text.{Bytes}
-use Rattle.gl_protocol.specs.Tables.{line, edit_text}
+use Rattle.gl_calculus.specs.Edits.Replicas.{Edit}
+use Rattle.gl_language.specs.Texts.Text.{Bytes}
+use Rattle.gl_protocol.specs.Replies.Tables.{line, edit_text}
 use Rattle.gl_calc.proofs.Marks.{take_whole}
 use Rattle.gl_merge.specs.Edit.{edit_tree, told}
 use Rattle.gl_merge.specs.Replica.{registers_of}

@@ -2,8 +2,8 @@ use Rattle.std.proofs.Common.{◌≡◌, ◌∙◌, List, ℕ, [], ◌++◌, len
 use Rattle.std.specs.declared.alloc.Global.{Global}
 use Rattle.std.specs.Fmt.{decimal}
 use Rattle.std.specs.String.{string_bytes}
-use Rattle.gl_protocol.specs.Tables.{line}
-use Rattle.gl_protocol.specs.Output.{generated_payload, recursion_line}
+use Rattle.gl_protocol.specs.Replies.Tables.{line}
+use Rattle.gl_protocol.specs.Scripts.Output.{generated_payload, recursion_line}
 use Rattle.gl_run.proofs.Generating.{all_parts}
 use Rattle.gl_run.proofs.generator.generated.Goals as goal
 

@@ -1,6 +1,6 @@
 use Rattle.std.proofs.Common.{arith}
 use Rattle.std.specs.String.{string_bytes}
-use Rattle.gl_protocol.specs.Output.{generated_payload}
+use Rattle.gl_protocol.specs.Scripts.Output.{generated_payload}
 use Rattle.gl_run.proofs.Generating.{row_more, row_end}
 use Rattle.gl_run.proofs.generator.payload.Goals as goal
 

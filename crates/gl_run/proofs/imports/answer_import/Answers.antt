@@ -1,16 +1,16 @@
 use Rattle.std.proofs.Common.{◌≡◌, ℕ, Some, Vec, Global}
 use Rattle.std.proofs.lemmas.Result.{IfOk-weaker}
-use Rattle.gl_calculus.specs.Formula.{Version, One}
-use Rattle.gl_language.specs.Text.{Bytes}
+use Rattle.gl_calculus.specs.Formulas.Formula.{Version, One}
+use Rattle.gl_language.specs.Texts.Text.{Bytes}
 use Rattle.gl_run.proofs.Keeping.{kept_by}
 use Rattle.gl_run.specs.Replies.{HasPlace}
-use Rattle.gl_protocol.specs.Framing.{Import}
-use Rattle.gl_protocol.specs.Acts.{Acts}
-use Rattle.gl_protocol.specs.Commands.{AddressWord, error_line}
-use Rattle.gl_csvin.specs.Import.{csv_records}
+use Rattle.gl_protocol.specs.Framing.Framing.{Import}
+use Rattle.gl_protocol.specs.Scripts.Acts.{Acts}
+use Rattle.gl_protocol.specs.Scripts.Commands.{AddressWord, error_line}
+use Rattle.gl_protocol.specs.Run.Records.{csv_records}
 use Rattle.gl_run.proofs.Importing.{import_nowhere}
 use Rattle.gl_run.specs.Script.{known_of, script_of}
-use Rattle.gl_run.specs.Spends.{Spends}
+use Rattle.gl_protocol.specs.Run.Spends.{Spends}
 use Rattle.gl_run.proofs.Spending.{refused_spends}
 use Rattle.gl_run.proofs.imports.answer_import.Goals as goal
 

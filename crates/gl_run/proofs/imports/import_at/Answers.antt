@@ -1,16 +1,16 @@
 use Rattle.std.proofs.Common.{ℕ, List, map, Vec, Global, Some}
 use Rattle.std.proofs.lemmas.Result.{IfOk-weaker}
-use Rattle.gl_calculus.specs.Formula.{Version}
-use Rattle.gl_protocol.specs.Framing.{Import}
-use Rattle.gl_protocol.specs.Acts.{Acts}
-use Rattle.gl_protocol.proofs.Rising.{imported_rise}
+use Rattle.gl_calculus.specs.Formulas.Formula.{Version}
+use Rattle.gl_protocol.specs.Framing.Framing.{Import}
+use Rattle.gl_protocol.specs.Scripts.Acts.{Acts}
+use Rattle.laws_protocol.proofs.Scripts.Rising.{imported_rise}
 use Rattle.gl_cells.specs.Sheet.{sheet}
-use Rattle.gl_csvin.specs.Import.{csv_records, records_of}
+use Rattle.gl_protocol.specs.Run.Records.{csv_records, records_of}
 use Rattle.gl_run.specs.Changed.{IsChanged, imported_state}
 use Rattle.gl_run.specs.Replies.{HasPlace, IsRefusal, csv_word}
 use Rattle.gl_run.specs.Script.{known_of, script_of}
 use Rattle.gl_run.proofs.Importing.{import_put, import_refused}
-use Rattle.gl_run.specs.Spends.{Spends, Touches}
+use Rattle.gl_protocol.specs.Run.Spends.{Spends, Touches}
 use Rattle.gl_run.proofs.Spending.{import_spends, word_spends}
 use Rattle.gl_run.proofs.imports.import_at.Goals as goal
 

@@ -1,13 +1,14 @@
 use Rattle.std.proofs.Common.{rules, ℕ, map, Err, Ok, Vec, Global, sym, subst}
 use Rattle.std.proofs.lemmas.Result.{IfOk-weaker}
-use Rattle.gl_protocol.specs.Commands.{allowed, with_contents}
-use Rattle.gl_protocol.specs.Script.{settings}
+use Rattle.gl_protocol.specs.Scripts.Commands.{allowed}
+use Rattle.gl_calculus.specs.Edits.Sheets.{with_contents}
+use Rattle.gl_calculus.specs.Edits.Sheets.{settings}
 use Rattle.gl_cells.specs.Sheet.{sheet}
 use Rattle.gl_calc.specs.View.{View, sheet_of}
 use Rattle.gl_run.specs.Changed.{IsChanged, imported_state, Marks}
 use Rattle.gl_run.specs.Replies.{IsRefusal, put_word}
 use Rattle.gl_run.specs.Script.{known_of, script_of}
-use Rattle.gl_run.specs.Spends.{Touches}
+use Rattle.gl_protocol.specs.Run.Spends.{Touches}
 use Rattle.gl_run.proofs.Editing.{puts_of}
 use Rattle.gl_run.proofs.Readying.{can_commit, committed, changed_to, put_changed}
 use Rattle.gl_run.proofs.Spending.{touches_by_word, touches_marks}

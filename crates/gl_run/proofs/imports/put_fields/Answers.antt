@@ -1,17 +1,18 @@
 use Rattle.std.proofs.Common.{rules, ℕ, map, Vec, Global, IfOk, sym, ap, subst}
 use Rattle.std.proofs.lemmas.Result.{IfOk-weaker}
-use Rattle.gl_calculus.specs.Grid.{AreInOrder}
-use Rattle.gl_edits.specs.Replicas.{Changes}
-use Rattle.gl_protocol.specs.Commands.{allowed, with_contents}
-use Rattle.gl_protocol.specs.Script as P
-use Rattle.gl_protocol.specs.Script.{settings}
+use Rattle.gl_calculus.specs.Grid.Grid.{AreInOrder}
+use Rattle.gl_calculus.specs.Edits.Replicas.{Changes}
+use Rattle.gl_protocol.specs.Scripts.Commands.{allowed}
+use Rattle.gl_calculus.specs.Edits.Sheets.{with_contents}
+use Rattle.gl_protocol.specs.Scripts.Script as P
+use Rattle.gl_calculus.specs.Edits.Sheets.{settings}
 use Rattle.gl_cells.specs.Sheet.{sheet}
 use Rattle.gl_run.specs.Changed.{IsChanged, imported_state}
-use Rattle.gl_run.specs.Known.{Known}
+use Rattle.gl_protocol.specs.Run.Known.{Known}
 use Rattle.gl_run.specs.Ready.{IsReady, IsRefusedBy, local_word, places}
 use Rattle.gl_run.specs.Replies.{IsRefusal}
 use Rattle.gl_run.specs.Script.{known_of, script_of}
-use Rattle.gl_run.specs.Spends.{Touches}
+use Rattle.gl_protocol.specs.Run.Spends.{Touches}
 use Rattle.gl_run.proofs.Listed.{order_of_settings}
 use Rattle.gl_run.proofs.Readying.{refused_changed}
 use Rattle.gl_run.proofs.Spending.{touches_kept}

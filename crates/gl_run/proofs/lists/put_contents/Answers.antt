@@ -1,7 +1,7 @@
 use Rattle.std.proofs.Common.{◌≡◌, ◌∙◌, Some, None, ap, sym}
 use Rattle.std.specs.List.{find}
 use Rattle.std.specs.String.{string_bytes}
-use Rattle.gl_calculus.specs.Grid.{Range, grid}
+use Rattle.gl_calculus.specs.Grid.Grid.{Range, grid}
 use Rattle.gl_cells.specs.Search.{is_in_play}
 use Rattle.gl_cells.specs.Sheet.{sheet}
 use Rattle.gl_flow.proofs.Griding.{less_in_play}

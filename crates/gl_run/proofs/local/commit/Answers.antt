@@ -1,5 +1,5 @@
 use Rattle.std.proofs.Common.{sym, ap, subst}
-use Rattle.gl_edits.specs.Steps.{History}
+use Rattle.gl_calculus.specs.Edits.Steps.{History}
 use Rattle.gl_run.specs.Ready.{CanCommit, Commits}
 use Rattle.gl_run.specs.Script.{script_of}
 use Rattle.gl_run.specs.declared.local.Ready.{Ready}

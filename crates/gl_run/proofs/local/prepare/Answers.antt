@@ -1,8 +1,8 @@
 use Rattle.std.proofs.Common.{◌∙◌, Some, Vec, Global, refl, ap, subst}
-use Rattle.gl_query.specs.Lists.{AreDistinct}
-use Rattle.gl_calculus.specs.Formula.{Cells}
-use Rattle.gl_edits.specs.Steps.{step_of}
-use Rattle.gl_protocol.proofs.Distinct.{distinct_in_order}
+use Rattle.gl_calculus.specs.Computation.Lists.{AreDistinct}
+use Rattle.gl_calculus.specs.Formulas.Formula.{Cells}
+use Rattle.gl_calculus.specs.Edits.Steps.{step_of}
+use Rattle.laws_calculus.proofs.SheetEdits.Distinct.{distinct_in_order}
 use Rattle.gl_merge.specs.Edit.{EditValue}
 use Rattle.gl_undo.specs.View.{changes_tree}
 use Rattle.gl_run.specs.Ready.{places}

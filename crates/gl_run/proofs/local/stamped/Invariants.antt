@@ -1,6 +1,6 @@
 use Rattle.std.proofs.Common.{◌≡◌, ◌≤◌, ◌+◌, ◌++◌, length, vec_len, vec_capacity}
 use Rattle.std.specs.Vec.Iter.{into_iter_items}
-use Rattle.gl_edits.specs.Replicas.{stamped}
+use Rattle.gl_calculus.specs.Edits.Replicas.{stamped}
 use Rattle.gl_merge.specs.Index.{trees}
 use Rattle.gl_undo.specs.View.{changes_tree, AreProperChanges}
 use Rattle.gl_run.proofs.local.stamped.Given as goal

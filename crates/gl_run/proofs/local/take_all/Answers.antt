@@ -1,7 +1,7 @@
 use Rattle.std.proofs.Common.{◌∙◌, List, sym, ap, subst, arith}
 use Rattle.std.proofs.lemmas.Grind.{common_steps}
 use Rattle.std.specs.Vec.Iter.{into_iter_items}
-use Rattle.gl_edits.specs.Replicas.{Replica, taking_all}
+use Rattle.gl_calculus.specs.Edits.Replicas.{Replica, taking_all}
 use Rattle.gl_merge.specs.Edit.{EditValue}
 use Rattle.gl_merge.specs.Index.{trees}
 use Rattle.gl_merge.specs.Replica.{replica_tree}

@@ -1,6 +1,6 @@
 use Rattle.std.proofs.Common.{◌≡◌}
 use Rattle.std.specs.Vec.Iter.{into_iter_items}
-use Rattle.gl_edits.specs.Replicas.{taking_all}
+use Rattle.gl_calculus.specs.Edits.Replicas.{taking_all}
 use Rattle.gl_merge.specs.Index.{trees}
 use Rattle.gl_merge.specs.Replica.{replica_tree}
 use Rattle.gl_run.specs.Ready.{CanTakeThese}

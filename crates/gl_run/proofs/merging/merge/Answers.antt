@@ -1,11 +1,11 @@
 use Rattle.std.proofs.Common.{rules, ◌≡◌, ℕ, Some, Vec, Global, inl, inr, refl}
 use Rattle.std.proofs.lemmas.Result.{IfOk-weaker}
-use Rattle.gl_protocol.specs.Commands as C
-use Rattle.gl_protocol.specs.Commands.{error_line}
+use Rattle.gl_protocol.specs.Scripts.Commands as C
+use Rattle.gl_protocol.specs.Scripts.Commands.{error_line}
 use Rattle.gl_merge.specs.Edit.{edit_tree}
 use Rattle.gl_run.specs.Merged.{IsMerged, TouchesMerged}
 use Rattle.gl_run.specs.Script.{known_of, script_of}
-use Rattle.gl_run.specs.Touched.{touched_by}
+use Rattle.gl_protocol.specs.Run.Touched.{touched_by}
 use Rattle.gl_run.proofs.Joining.{alone_merged, conflict_merged}
 use Rattle.gl_run.proofs.Spending.{touches_kept}
 use Rattle.gl_run.proofs.merging.merge.Goals as goal

@@ -1,8 +1,8 @@
 use Rattle.std.proofs.Common.{[], List, sym, subst}
-use Rattle.gl_calculus.specs.Grid.{Addr}
+use Rattle.gl_calculus.specs.Grid.Grid.{Addr}
 use Rattle.gl_merge.specs.Edit.{edit_tree}
 use Rattle.gl_run.specs.Script.{known_of, script_of}
-use Rattle.gl_run.specs.Spends.{Touches}
+use Rattle.gl_protocol.specs.Run.Spends.{Touches}
 use Rattle.gl_run.proofs.Joining.{known_takes, known_merged, known_touches}
 use Rattle.gl_run.proofs.Spending.{touches_marks, marks_nothing}
 use Rattle.gl_run.proofs.merging.merge_known.Goals as goal

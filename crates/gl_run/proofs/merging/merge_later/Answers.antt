@@ -1,13 +1,13 @@
 use Rattle.std.proofs.Common.{rules, ◌≡◌, ℕ, Some, IfOk, Vec, Global, is_some, sym, ap, subst}
 use Rattle.std.proofs.lemmas.Result.{IfOk-weaker}
-use Rattle.gl_protocol.specs.Commands as C
-use Rattle.gl_protocol.specs.Commands.{error_line}
-use Rattle.gl_calculus.specs.Grid.{Addr}
+use Rattle.gl_protocol.specs.Scripts.Commands as C
+use Rattle.gl_protocol.specs.Scripts.Commands.{error_line}
+use Rattle.gl_calculus.specs.Grid.Grid.{Addr}
 use Rattle.gl_merge.specs.Edit.{edit_tree}
-use Rattle.gl_run.specs.Known.{Known}
+use Rattle.gl_protocol.specs.Run.Known.{Known}
 use Rattle.gl_run.specs.Merged.{HasRoom, IsFull, IsLater, IsMerged, TouchesMerged}
 use Rattle.gl_run.specs.Script.{known_of, script_of}
-use Rattle.gl_run.specs.Touched.{touched_by}
+use Rattle.gl_protocol.specs.Run.Touched.{touched_by}
 use Rattle.gl_run.proofs.Joining.{some_there, full_merged}
 use Rattle.gl_run.proofs.Spending.{touches_kept}
 use Rattle.gl_run.proofs.merging.merge_later.Goals as goal

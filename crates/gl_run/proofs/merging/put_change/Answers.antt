@@ -1,13 +1,14 @@
 use Rattle.std.proofs.Common.{◌∙◌, ◌++◌, Option, Ok, None, option_map, sym, ap, subst}
-use Rattle.gl_calculus.specs.Grid.{Range}
-use Rattle.gl_calculus.specs.Formula.{Cells}
-use Rattle.gl_protocol.specs.Commands.{Is, with_content, without, places_in}
-use Rattle.gl_protocol.specs.Script.{allowed_change}
+use Rattle.gl_calculus.specs.Grid.Grid.{Range}
+use Rattle.gl_calculus.specs.Formulas.Formula.{Cells}
+use Rattle.gl_protocol.specs.Scripts.Commands.{Is}
+use Rattle.gl_calculus.specs.Edits.Sheets.{with_content, without, places_in}
+use Rattle.gl_protocol.specs.Scripts.Script.{allowed_change}
 use Rattle.gl_cells.specs.Content.{content_tree}
 use Rattle.gl_cells.specs.declared.content.Content.{Content}
 use Rattle.gl_calc.specs.View.{sheet_of}
 use Rattle.gl_run.specs.Changed.{Puts, Marks, marked_by}
-use Rattle.gl_run.specs.Touched.{touched_by_one}
+use Rattle.gl_protocol.specs.Run.Touched.{touched_by_one}
 use Rattle.gl_run.proofs.Editing.{puts_of, put_marks}
 use Rattle.gl_run.proofs.merging.put_change.Goals as goal
 

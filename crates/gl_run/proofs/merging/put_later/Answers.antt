@@ -1,10 +1,10 @@
 use Rattle.std.proofs.Common.{rules, ◌≡◌, ◌∙◌, ℕ, List, Option, Err, option_map, Vec, Global, sym, ap, subst, append-nil}
 use Rattle.std.proofs.lemmas.Result.{IfOk-weaker}
-use Rattle.gl_calculus.specs.Grid.{Addr}
-use Rattle.gl_calculus.specs.Formula as F
-use Rattle.gl_protocol.specs.Commands as C
-use Rattle.gl_protocol.specs.Commands.{Read, Is}
-use Rattle.gl_protocol.specs.Script.{allowed_change}
+use Rattle.gl_calculus.specs.Grid.Grid.{Addr}
+use Rattle.gl_calculus.specs.Formulas.Formula as F
+use Rattle.gl_protocol.specs.Scripts.Commands as C
+use Rattle.gl_protocol.specs.Scripts.Commands.{Read, Is}
+use Rattle.gl_protocol.specs.Scripts.Script.{allowed_change}
 use Rattle.gl_cells.specs.Content.{content_tree}
 use Rattle.gl_calc.specs.View.{View, sheet_of}
 use Rattle.gl_merge.specs.Edit.{edit_tree}
@@ -12,7 +12,7 @@ use Rattle.gl_run.specs.Changed.{Puts, Marks}
 use Rattle.gl_run.specs.Merged.{IsMerged, TouchesMerged}
 use Rattle.gl_run.specs.Replies.{IsRefusal, put_word}
 use Rattle.gl_run.specs.Script.{known_of, script_of}
-use Rattle.gl_run.specs.Touched.{touched_by, touched_by_one}
+use Rattle.gl_protocol.specs.Run.Touched.{touched_by, touched_by_one}
 use Rattle.gl_run.proofs.Joining.{later_takes, later_merged, put_merged, later_touches, proper_shared}
 use Rattle.gl_run.proofs.Spending.{touches_marks, touches_by_word}
 use Rattle.gl_run.proofs.merging.put_later.Goals as goal

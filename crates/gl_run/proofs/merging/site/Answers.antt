@@ -1,13 +1,13 @@
 use Rattle.std.proofs.Common.{rules, ◌≡◌, ◌∙◌, ℕ, length, [], Some, Vec, Global, option_map, refl, sym, ap, arith}
 use Rattle.std.proofs.lemmas.Result.{IfOk-weaker}
-use Rattle.gl_protocol.specs.Commands as C
-use Rattle.gl_protocol.specs.Commands.{error_line}
-use Rattle.gl_protocol.specs.Script.{change}
+use Rattle.gl_protocol.specs.Scripts.Commands as C
+use Rattle.gl_protocol.specs.Scripts.Commands.{error_line}
+use Rattle.gl_protocol.specs.Scripts.Script.{change}
 use Rattle.gl_merge.specs.Replica.{replica_tree}
 use Rattle.gl_undo.specs.History.{history_tree}
 use Rattle.gl_run.specs.Changed.{IsChanged}
 use Rattle.gl_run.specs.Script.{known_of, script_of}
-use Rattle.gl_run.specs.Spends.{Touches}
+use Rattle.gl_protocol.specs.Run.Spends.{Touches}
 use Rattle.gl_run.proofs.Joining.{site_in_replica, site_too_late, site_done}
 use Rattle.gl_run.proofs.Spending.{touches_kept, touches_marks, marks_nothing}
 use Rattle.gl_run.proofs.Stepping.{alone, some_replica}

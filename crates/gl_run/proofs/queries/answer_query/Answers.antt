@@ -1,18 +1,18 @@
 use Rattle.std.proofs.Common.{◌≡◌, ℕ, Vec, Global, subst}
 use Rattle.std.proofs.lemmas.Result.{IfOk-weaker}
-use Rattle.gl_calculus.specs.Memory.{tables_for}
-use Rattle.gl_protocol.specs.Acts.{Does}
-use Rattle.gl_protocol.specs.Commands.{spent_line}
+use Rattle.gl_calculus.specs.Calculation.Memory.{tables_for}
+use Rattle.gl_protocol.specs.Scripts.Acts.{Does}
+use Rattle.gl_protocol.specs.Scripts.Commands.{spent_line}
 use Rattle.gl_ast.specs.View.{version_tree}
 use Rattle.gl_calc.specs.View.{sheet_of}
 use Rattle.gl_calc.specs.Answers.{Answers, Takes, spent_tree}
 use Rattle.gl_calc.specs.declared.answers.Answer.{Answer}
 use Rattle.gl_calc.specs.declared.answers.Answer.TheVariants.{Settled, Spent}
-use Rattle.gl_csvin.specs.Import.{csv_records}
-use Rattle.gl_run.specs.Known.{memory_in}
+use Rattle.gl_protocol.specs.Run.Records.{csv_records}
+use Rattle.gl_protocol.specs.Run.Known.{memory_in}
 use Rattle.gl_run.specs.Replies.{FollowsBy, RepliesBy, query_tree}
 use Rattle.gl_run.specs.Script.{known_of, script_of}
-use Rattle.gl_run.specs.Spends.{SpendsAsked}
+use Rattle.gl_protocol.specs.Run.Spends.{SpendsAsked}
 use Rattle.gl_run.proofs.Readying.{same_sheet}
 use Rattle.gl_run.proofs.Querying.{held_answer, settled_does, spent_does}
 use Rattle.gl_run.proofs.Spending.{if_any, settled_spends, spent_spends}

@@ -2,8 +2,8 @@ use Rattle.std.specs.Prelude.{◌++◌, codes}
 use Rattle.std.specs.Fmt.{decimal}
 use Rattle.std.proofs.Common.{◌≡◌, ℕ, Vec, Global}
 use Rattle.std.proofs.lemmas.Result.{IfOk-weaker}
-use Rattle.gl_protocol.specs.Commands as C
-use Rattle.gl_protocol.specs.Tables.{line}
+use Rattle.gl_protocol.specs.Scripts.Commands as C
+use Rattle.gl_protocol.specs.Replies.Tables.{line}
 use Rattle.gl_run.specs.Replies.{RepliesBy}
 use Rattle.gl_run.proofs.Querying.{calc_replies}
 use Rattle.gl_run.proofs.queries.settled_reply.Goals as goal

@@ -1,8 +1,8 @@
 use Rattle.std.proofs.Common.{◌≡◌, ℕ, Vec, Global}
 use Rattle.std.proofs.lemmas.Result.{IfOk-weaker}
-use Rattle.gl_language.specs.Text.{shown_text}
-use Rattle.gl_protocol.specs.Commands as C
-use Rattle.gl_protocol.specs.Tables.{line}
+use Rattle.gl_language.specs.Texts.Text.{shown_text}
+use Rattle.gl_protocol.specs.Scripts.Commands as C
+use Rattle.gl_protocol.specs.Replies.Tables.{line}
 use Rattle.gl_value.specs.Made.{shown_tree}
 use Rattle.gl_run.specs.Replies.{RepliesBy}
 use Rattle.gl_run.proofs.Querying.{show_replies}

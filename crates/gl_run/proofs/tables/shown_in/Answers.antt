@@ -1,6 +1,6 @@
 use Rattle.std.proofs.Common.{◌≡◌, ◌∙◌, ◌+◌, ◌≤◌, map, ap, arith}
 use Rattle.std.proofs.lemmas.Grind.{common_steps}
-use Rattle.gl_calculus.specs.Grid.{Addr}
+use Rattle.gl_calculus.specs.Grid.Grid.{Addr}
 use Rattle.gl_value.specs.Made.{shown_tree}
 use Rattle.gl_run.proofs.Viewing.{goes_on, ends, rows_ordered}
 use Rattle.gl_run.proofs.tables.shown_in.Goals as goal

@@ -1,6 +1,6 @@
 use Rattle.std.proofs.Common.{◌≡◌, ◌∙◌, ℕ, ◌+◌, ◌-◌, List, Vec, Global, map, ap}
-use Rattle.gl_calculus.specs.Grid.{Addr, extents}
-use Rattle.gl_protocol.specs.Tables.{table_text}
+use Rattle.gl_calculus.specs.Grid.Grid.{Addr, extents}
+use Rattle.gl_protocol.specs.Replies.Tables.{table_text}
 use Rattle.gl_value.specs.Made.{shown_tree}
 use Rattle.gl_value.specs.declared.Shown.{Shown}
 use Rattle.gl_views.specs.Rows.{in_rows}

@@ -1,8 +1,8 @@
 use Rattle.std.proofs.Common.{◌≡◌, ◌∙◌, ℕ, List, Option, Some, IfSome, ap, sym, subst}
-use Rattle.gl_protocol.specs.Output.{items_of, generated}
-use Rattle.gl_protocol.specs.Words as W
-use Rattle.gl_run.specs.Spends.{SpendsScript}
-use Rattle.gl_run.specs.Call.{input_of, input_by}
+use Rattle.gl_protocol.specs.Scripts.Output.{items_of, generated}
+use Rattle.gl_protocol.specs.Run.Words as W
+use Rattle.gl_protocol.specs.Run.Spends.{SpendsScript}
+use Rattle.gl_protocol.specs.Run.Call.{input_of, input_by}
 use Rattle.gl_run.specs.Status.{IfDone}
 use Rattle.gl_run.proofs.top.run.Goals as goal
 

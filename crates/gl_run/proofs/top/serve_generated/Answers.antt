@@ -1,7 +1,7 @@
 use Rattle.std.proofs.Common.{◌≡◌, ◌∙◌, ℕ, List, false, IsTrue, subst}
-use Rattle.gl_protocol.specs.Output.{is_within_limit, items_of, generated}
-use Rattle.gl_run.specs.Out.{WroteAll, WroteAllTelling, WroteSome, WroteCut, Exceeds}
-use Rattle.gl_run.specs.Spends.{SpendsScript}
+use Rattle.gl_protocol.specs.Scripts.Output.{is_within_limit, items_of, generated}
+use Rattle.gl_protocol.specs.Run.Out.{WroteAll, WroteAllTelling, WroteSome, WroteCut, Exceeds}
+use Rattle.gl_protocol.specs.Run.Spends.{SpendsScript}
 use Rattle.gl_run.specs.Status.{IfDone}
 use Rattle.gl_run.specs.declared.top.Status.TheVariants as status
 use Rattle.gl_run.proofs.Ends.{wrote_none}

@@ -1,14 +1,14 @@
 use Rattle.std.proofs.Common.{◌∙◌, ◌++◌, [], List, Option, option_map, sym, ap, subst, append_assoc, arith}
 use Rattle.std.proofs.lemmas.Grind.{common_steps}
 use Rattle.std.specs.Vec.Iter.{into_iter_items}
-use Rattle.gl_calculus.specs.Grid.{Addr}
-use Rattle.gl_calculus.specs.Formula.{Cells}
+use Rattle.gl_calculus.specs.Grid.Grid.{Addr}
+use Rattle.gl_calculus.specs.Formulas.Formula.{Cells}
 use Rattle.gl_cells.specs.Content.{content_tree}
 use Rattle.gl_cells.specs.declared.content.Content.{Content}
 use Rattle.gl_cells.specs.Sheet.{sheet}
 use Rattle.gl_undo.specs.View.{changes_tree, AreProperChanges}
-use Rattle.gl_protocol.specs.Script.{and_content, coming}
-use Rattle.gl_run.specs.Touched.{and_address, going}
+use Rattle.gl_calculus.specs.Edits.Sheets.{and_content, coming}
+use Rattle.gl_protocol.specs.Run.Touched.{and_address, going}
 use Rattle.gl_run.proofs.Stepping.{coming_first, going_first}
 use Rattle.gl_run.proofs.undoing.parted.Goals as goal
 

@@ -2,8 +2,8 @@ use Rattle.std.proofs.Common.{◌≡◌, ◌++◌}
 use Rattle.std.specs.Vec.Iter.{into_iter_items}
 use Rattle.gl_cells.specs.Sheet.{sheet, AreProper}
 use Rattle.gl_undo.specs.View.{changes_tree, AreProperChanges}
-use Rattle.gl_protocol.specs.Script.{coming}
-use Rattle.gl_run.specs.Touched.{going}
+use Rattle.gl_calculus.specs.Edits.Sheets.{coming}
+use Rattle.gl_protocol.specs.Run.Touched.{going}
 use Rattle.gl_run.proofs.undoing.parted.Given as goal
 
 abbrev pub invariant-loop-a : goal.invariant-loop-a

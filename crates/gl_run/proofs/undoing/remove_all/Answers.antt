@@ -1,7 +1,7 @@
 use Rattle.std.proofs.Common.{◌∙◌, ◌+◌, ◌++◌, List, drop, ap, subst, arith, refl}
 use Rattle.std.proofs.lemmas.List.{drop_all}
-use Rattle.gl_calculus.specs.Grid.{Addr, Range}
-use Rattle.gl_protocol.specs.Commands.{without, places_in}
+use Rattle.gl_calculus.specs.Grid.Grid.{Addr, Range}
+use Rattle.gl_calculus.specs.Edits.Sheets.{without, places_in}
 use Rattle.gl_calc.specs.View.{sheet_of}
 use Rattle.gl_demand.proofs.Counting.{drop_item}
 use Rattle.gl_run.proofs.Stepping.{Clearing, one_cleared, all_cleared}

@@ -1,12 +1,12 @@
 use Rattle.std.proofs.Common.{◌≡◌, ◌∙◌, ◌++◌, List, map, ap, subst}
-use Rattle.gl_calculus.specs.Grid.{Addr}
-use Rattle.gl_calculus.specs.Formula.{Cells, Content, IsSheet}
-use Rattle.gl_protocol.specs.Commands.{with_contents}
+use Rattle.gl_calculus.specs.Grid.Grid.{Addr}
+use Rattle.gl_calculus.specs.Formulas.Formula.{Cells, Content, IsSheet}
+use Rattle.gl_calculus.specs.Edits.Sheets.{with_contents}
 use Rattle.gl_calc.specs.View.{sheet_of}
 use Rattle.gl_undo.specs.View.{changes_tree}
 use Rattle.gl_run.specs.Changed.{Marks}
-use Rattle.gl_protocol.specs.Script.{coming}
-use Rattle.gl_run.specs.Touched.{going, cleared, without_these}
+use Rattle.gl_calculus.specs.Edits.Sheets.{coming}
+use Rattle.gl_protocol.specs.Run.Touched.{going, cleared, without_these}
 use Rattle.gl_run.proofs.Listed.{apart_tree}
 use Rattle.gl_run.proofs.Stepping.{restored_sheet, restored_marks}
 use Rattle.gl_run.proofs.undoing.restore.Goals as goal

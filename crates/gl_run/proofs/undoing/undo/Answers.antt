@@ -1,18 +1,18 @@
 use Rattle.std.proofs.Common.{rules, ◌≡◌, ◌∙◌, ℕ, Some, Vec, Global, option_map, refl, sym, ap, subst}
 use Rattle.std.proofs.lemmas.Result.{IfOk-weaker}
-use Rattle.gl_edits.specs.Steps.{befores}
-use Rattle.gl_protocol.specs.Commands as C
-use Rattle.gl_protocol.specs.Commands.{error_line}
-use Rattle.gl_protocol.specs.Script.{change}
+use Rattle.gl_calculus.specs.Edits.Steps.{befores}
+use Rattle.gl_protocol.specs.Scripts.Commands as C
+use Rattle.gl_protocol.specs.Scripts.Commands.{error_line}
+use Rattle.gl_protocol.specs.Scripts.Script.{change}
 use Rattle.gl_merge.specs.Replica.{replica_tree}
 use Rattle.gl_calc.specs.View.{sheet_of}
-use Rattle.gl_replies.specs.Rooms.{HasRoom}
+use Rattle.laws_protocol.specs.Rooms.{HasRoom}
 use Rattle.gl_undo.specs.View.{changes_tree}
 use Rattle.gl_undo.specs.History.{done}
 use Rattle.gl_run.specs.Changed.{IsChanged}
 use Rattle.gl_run.specs.Script.{known_of, script_of}
-use Rattle.gl_run.specs.Spends.{Touches}
-use Rattle.gl_run.specs.Touched.{touched_by}
+use Rattle.gl_protocol.specs.Run.Spends.{Touches}
+use Rattle.gl_protocol.specs.Run.Touched.{touched_by}
 use Rattle.gl_run.proofs.Keeping.{can_undo}
 use Rattle.gl_run.proofs.Spending.{touches_kept}
 use Rattle.gl_run.proofs.Stepping.{alone, some_replica, told_first, told_nothing, undo_in_replica, undo_nothing}

@@ -1,13 +1,13 @@
 use Rattle.std.proofs.Common.{ap, subst, option_map}
-use Rattle.gl_edits.specs.Replicas.{Changes}
-use Rattle.gl_edits.specs.Steps.{befores}
+use Rattle.gl_calculus.specs.Edits.Replicas.{Changes}
+use Rattle.gl_calculus.specs.Edits.Steps.{befores}
 use Rattle.gl_calc.specs.View.{sheet_of}
 use Rattle.gl_merge.specs.Replica.{replica_tree}
 use Rattle.gl_undo.specs.View.{changes_tree}
 use Rattle.gl_undo.specs.History.{history_tree, done}
 use Rattle.gl_run.specs.Changed.{Marks}
 use Rattle.gl_run.specs.Script.{script_of}
-use Rattle.gl_run.specs.Touched.{touched_by_all, latest_changes}
+use Rattle.gl_protocol.specs.Run.Touched.{touched_by_all, latest_changes}
 use Rattle.gl_run.proofs.Spending.{touches_marks}
 use Rattle.gl_run.proofs.Stepping.{undo_done}
 use Rattle.gl_run.proofs.undoing.undo_step.Goals as goal

@@ -1,8 +1,8 @@
 use Rattle.std.proofs.Common.{◌<◌, ◌∷◌, ◌∙◌, sym, ap, length, arith, Some, None, lit<, refl}
 use Rattle.std.specs.Prelude.{codes}
 use Rattle.std.proofs.lemmas.Str.Pattern.{split_parts}
-use Rattle.gl_protocol.specs.Pieces.{pieces}
-use Rattle.gl_protocol.specs.Header.{count_by}
+use Rattle.gl_protocol.specs.Framing.Pieces.{pieces}
+use Rattle.gl_protocol.specs.Framing.Header.{count_by}
 use Rattle.gl_script.proofs.Headers.{count_behind, pieces-none}
 use Rattle.gl_script.proofs.header.count_behind_place.Goals as goal
 

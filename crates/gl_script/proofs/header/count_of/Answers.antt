@@ -1,5 +1,5 @@
 use Rattle.std.proofs.Common.{◌≡◌, true, arith}
-use Rattle.gl_protocol.specs.Pieces.{is_number}
+use Rattle.gl_protocol.specs.Framing.Pieces.{is_number}
 use Rattle.gl_script.proofs.Headers.{count_read, count_past, count_off}
 use Rattle.gl_script.proofs.header.count_of.Goals as goal
 

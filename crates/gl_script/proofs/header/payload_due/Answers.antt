@@ -3,7 +3,7 @@ use Rattle.std.specs.Prelude.{codes, bytes_eq}
 use Rattle.std.specs.Str.{is_utf8}
 use Rattle.std.proofs.lemmas.Str.{is_utf8-from_IsUtf8}
 use Rattle.std.proofs.lemmas.Str.Pattern.{split_parts}
-use Rattle.gl_protocol.specs.Header.{payload_len}
+use Rattle.gl_protocol.specs.Framing.Header.{payload_len}
 use Rattle.gl_script.proofs.Headers.{len_of_import, len_of_other, len_of_word, len_of_bytes, not_utf8}
 use Rattle.gl_script.proofs.header.payload_due.Goals as goal
 

@@ -1,5 +1,5 @@
 use Rattle.std.proofs.Common.{◌≡◌, true, arith}
-use Rattle.gl_protocol.specs.Pieces.{is_number}
+use Rattle.gl_protocol.specs.Framing.Pieces.{is_number}
 use Rattle.gl_script.proofs.Stamped.{site_is}
 use Rattle.gl_script.proofs.numbers.site_of.Goals as goal
 

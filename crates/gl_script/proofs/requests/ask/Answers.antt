@@ -1,4 +1,4 @@
-use Rattle.gl_protocol.specs.Commands.{Is}
+use Rattle.gl_protocol.specs.Scripts.Commands.{Is}
 use Rattle.gl_script.specs.Asked.{asked_words, asked_request}
 use Rattle.gl_script.proofs.Lines.{line_reads, no_place, asked_reads, asked_nowhere}
 use Rattle.gl_script.proofs.requests.ask.Goals as goal

@@ -1,5 +1,5 @@
-use Rattle.gl_protocol.specs.Commands.{ClearWords, Is}
-use Rattle.gl_protocol.specs.Commands as C
+use Rattle.gl_protocol.specs.Scripts.Commands.{ClearWords, Is}
+use Rattle.gl_protocol.specs.Scripts.Commands as C
 use Rattle.gl_script.proofs.Lines.{line_reads, clear_refused}
 use Rattle.gl_script.proofs.requests.clear.Goals as goal
 

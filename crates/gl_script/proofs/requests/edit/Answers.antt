@@ -1,6 +1,6 @@
 use Rattle.std.specs.Prelude.{option_copied}
-use Rattle.gl_protocol.specs.Commands.{EditWords}
-use Rattle.gl_protocol.specs.Commands as C
+use Rattle.gl_protocol.specs.Scripts.Commands.{EditWords}
+use Rattle.gl_protocol.specs.Scripts.Commands as C
 use Rattle.gl_script.proofs.Lines.{edit_asks, edit_refused, edit_no_stamp, no_place}
 use Rattle.gl_script.proofs.requests.edit.Goals as goal
 

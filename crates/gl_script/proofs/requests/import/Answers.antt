@@ -1,4 +1,4 @@
-use Rattle.gl_protocol.specs.Commands.{IsAddress, NoAddress}
+use Rattle.gl_protocol.specs.Scripts.Commands.{IsAddress, NoAddress}
 use Rattle.gl_script.proofs.Lines.{import_asks, import_refused, option_cases}
 use Rattle.gl_script.proofs.requests.import.Goals as goal
 

@@ -1,6 +1,6 @@
 use Rattle.std.proofs.Common.{subst}
-use Rattle.gl_protocol.specs.Commands as C
-use Rattle.gl_protocol.specs.Commands.{Is}
+use Rattle.gl_protocol.specs.Scripts.Commands as C
+use Rattle.gl_protocol.specs.Scripts.Commands.{Is}
 use Rattle.gl_script.specs.Parts.{HasWords, words_tree}
 use Rattle.gl_script.specs.declared.words.Words.{Words}
 use Rattle.gl_script.proofs.Lines.{line_reads}

@@ -1,5 +1,5 @@
-use Rattle.gl_protocol.specs.Commands.{SetWords}
-use Rattle.gl_protocol.specs.Commands as C
+use Rattle.gl_protocol.specs.Scripts.Commands.{SetWords}
+use Rattle.gl_protocol.specs.Scripts.Commands as C
 use Rattle.gl_script.proofs.Lines.{set_asks, set_refused, no_place}
 use Rattle.gl_script.proofs.requests.set.Goals as goal
 

@@ -1,6 +1,6 @@
 use Rattle.std.proofs.Common.{◌≡◌, ◌∙◌, sym, ap, true, false, length}
 use Rattle.std.specs.Prelude.{codes, bytes_eq, ◌==◌}
-use Rattle.gl_protocol.specs.Pieces.{is_number}
+use Rattle.gl_protocol.specs.Framing.Pieces.{is_number}
 use Rattle.gl_script.proofs.Cuts.{import-some, import-word, import-place, import-count}
 use Rattle.gl_script.proofs.words.import_words.Goals as goal
 use Rattle.gl_script.proofs.words.import_words.Goals.{else-eq-via-then-eq+then-not-is_empty+else-is_number, else-eq-via-then-eq+else-not-is_empty, else-eq-via-else-eq}

@@ -1,7 +1,7 @@
 use Rattle.std.proofs.Common.{◌∙◌, ◌∷◌, sym, ap, Some, None, lit<}
-use Rattle.gl_language.specs.Text.{Bytes}
-use Rattle.gl_protocol.specs.Pieces.{pieces}
-use Rattle.gl_protocol.specs.Commands.{words_of_pieces}
+use Rattle.gl_language.specs.Texts.Text.{Bytes}
+use Rattle.gl_protocol.specs.Framing.Pieces.{pieces}
+use Rattle.gl_protocol.specs.Scripts.Commands.{words_of_pieces}
 use Rattle.std.proofs.lemmas.Str.Pattern.{split_parts}
 use Rattle.gl_script.proofs.Cuts.{two-empty, two-some, more-cut}
 use Rattle.gl_script.proofs.words.more_words.Goals as goal

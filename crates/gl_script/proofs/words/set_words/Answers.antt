@@ -1,6 +1,6 @@
 use Rattle.std.proofs.Common.{◌∙◌, sym, ap, Some, None, lit<}
-use Rattle.gl_language.specs.Text.{Bytes}
-use Rattle.gl_protocol.specs.Commands.{set_words}
+use Rattle.gl_language.specs.Texts.Text.{Bytes}
+use Rattle.gl_protocol.specs.Scripts.Commands.{set_words}
 use Rattle.std.proofs.lemmas.Str.Pattern.{split_parts}
 use Rattle.gl_script.proofs.Cuts.{set-none, set-empty_place, set-empty_text, set-both}
 use Rattle.gl_script.proofs.words.set_words.Goals as goal

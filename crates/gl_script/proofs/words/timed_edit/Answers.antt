@@ -1,6 +1,6 @@
 use Rattle.std.proofs.Common.{◌∙◌, sym, ap, Some, None, lit<}
-use Rattle.gl_language.specs.Text.{Bytes}
-use Rattle.gl_protocol.specs.Pieces.{cut_at}
+use Rattle.gl_language.specs.Texts.Text.{Bytes}
+use Rattle.gl_protocol.specs.Framing.Pieces.{cut_at}
 use Rattle.gl_script.specs.Parts.{edit_behind}
 use Rattle.std.proofs.lemmas.Str.Pattern.{split_parts}
 use Rattle.gl_script.proofs.Cuts.{edit-no_site, edit-site}

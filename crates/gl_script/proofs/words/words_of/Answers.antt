@@ -1,6 +1,6 @@
 use Rattle.std.proofs.Common.{◌≡◌, ◌∙◌, sym, ap, true, false, arith, Some, None, lit<}
 use Rattle.std.specs.Prelude.{codes, bytes_eq}
-use Rattle.gl_protocol.specs.Commands.{words_of}
+use Rattle.gl_protocol.specs.Scripts.Commands.{words_of}
 use Rattle.std.proofs.lemmas.Str.Pattern.{split_parts}
 use Rattle.gl_script.proofs.Cuts.{words-one, words-set, words-edit, words-more}
 use Rattle.gl_script.proofs.words.words_of.Goals as goal

@@ -1,8 +1,8 @@
 use Rattle.std.proofs.Common.{◌≡◌, ◌∙◌, ◌∷◌, [], ◌+◌, ◌<◌, drop, length, nat_eq, refl, sym, ap, subst, arith}
 use Rattle.std.proofs.Math.ListN.{drop_of_length-le}
 use Rattle.std.proofs.lemmas.List.{drop_more}
-use Rattle.gl_query.specs.Lists.{has_member}
-use Rattle.gl_query.specs.InOrder.{gone_after}
+use Rattle.gl_calculus.specs.Computation.Lists.{has_member}
+use Rattle.gl_machine.specs.InOrder.{gone_after}
 use Rattle.gl_support.specs.Rows.{notes_of, gone_numbers, gone_with}
 use Rattle.gl_support.specs.declared.row.Row.{Row}
 use Rattle.gl_support.proofs.Places.{none_marked}

@@ -1,5 +1,5 @@
 use Rattle.std.proofs.Common.{◌≡◌, ℕ, List, [], drop, nat_eq, vec_len}
-use Rattle.gl_query.specs.InOrder.{gone_after}
+use Rattle.gl_machine.specs.InOrder.{gone_after}
 use Rattle.gl_support.specs.Rows.{notes_of, AreMarked}
 use Rattle.gl_support.proofs.pass.mark.Given as goal
 

@@ -1,6 +1,6 @@
 use Rattle.std.proofs.Common.{◌≡◌, arith}
 use Rattle.std.proofs.lemmas.Grind.{common_steps}
-use Rattle.gl_edits.specs.Steps as E
+use Rattle.gl_calculus.specs.Edits.Steps as E
 use Rattle.gl_cells.specs.Sheet.{sheet}
 use Rattle.gl_undo.specs.View.{step_tree, changes_tree}
 use Rattle.gl_undo.proofs.Places.{apart_step}

@@ -1,7 +1,7 @@
 use Rattle.std.proofs.Common.{◌≡◌, ◌≤◌, ◌+◌, ◌++◌, length, vec_len, vec_capacity}
 use Rattle.std.specs.List.{AllByRecursion}
 use Rattle.std.specs.Vec.Iter.{into_iter_items}
-use Rattle.gl_edits.specs.Steps as E
+use Rattle.gl_calculus.specs.Edits.Steps as E
 use Rattle.gl_cells.specs.Sheet.{sheet}
 use Rattle.gl_undo.specs.declared.changes.Change.{Change}
 use Rattle.gl_undo.specs.View.{step_tree, changes_tree, IsProperOption, AreProperChanges}

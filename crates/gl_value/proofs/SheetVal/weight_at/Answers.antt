@@ -1,5 +1,5 @@
 use Rattle.std.proofs.Common.{◌≡◌, ap, sym, subst, ◌∙◌, true, Some, None}
-use Rattle.gl_calculus.specs.Sheet.{override_at}
+use Rattle.gl_calculus.specs.Values.Sheet.{override_at}
 use Rattle.gl_value.specs.Forms.{sheet_tree_is}
 use Rattle.gl_value.specs.Sound.{sheet_facts}
 use Rattle.gl_value.specs.View.{value_tree, override_trees}

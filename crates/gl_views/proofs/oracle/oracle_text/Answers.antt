@@ -2,7 +2,7 @@ use Rattle.std.proofs.Common.{◌∙◌, sym, arith}
 use Rattle.std.specs.String.{string_bytes}
 use Rattle.std.proofs.lemmas.Option.{slice_get_within}
 use Rattle.std.proofs.lemmas.Grind.{elements}
-use Rattle.gl_protocol.specs.Tables.{line, entry_text}
+use Rattle.gl_protocol.specs.Replies.Tables.{line, entry_text}
 use Rattle.gl_views.proofs.Appending.{append_more, append_all, past_end}
 use Rattle.gl_views.proofs.oracle.oracle_text.Goals as goal
 

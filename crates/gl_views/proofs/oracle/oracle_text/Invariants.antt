@@ -1,7 +1,7 @@
 use Rattle.std.proofs.Common.{◌≡◌, ◌++◌, ◌-◌, length, drop}
 use Rattle.std.specs.Prelude.{flat_map}
 use Rattle.std.specs.String.{string_bytes}
-use Rattle.gl_protocol.specs.Tables.{line, entry_text, oracle_text}
+use Rattle.gl_protocol.specs.Replies.Tables.{line, entry_text, oracle_text}
 use Rattle.gl_views.proofs.oracle.oracle_text.Given as goal
 
 abbrev pub invariant-loop-entry : goal.invariant-loop-entry

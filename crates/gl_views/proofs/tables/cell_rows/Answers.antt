@@ -1,7 +1,7 @@
 use Rattle.std.proofs.Common.{◌≡◌, ◌∙◌, ◌+◌, ◌++◌, ◌∷◌, [], List, map, take, drop, sym, ap, subst, Vec, String, Global}
 use Rattle.std.proofs.lemmas.List.{map-append, take-map, drop-map}
-use Rattle.gl_calculus.specs.Calculation.{Shown}
-use Rattle.gl_language.specs.Text.{Bytes}
+use Rattle.gl_calculus.specs.Calculation.Calculation.{Shown}
+use Rattle.gl_language.specs.Texts.Text.{Bytes}
 use Rattle.gl_value.specs.Made.{shown_tree}
 use Rattle.gl_views.specs.Cells.{cell_of, texts_of, rows_of}
 use Rattle.gl_views.proofs.InRows.{IsBegun, next_row}

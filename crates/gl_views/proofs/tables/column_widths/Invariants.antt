@@ -1,5 +1,5 @@
 use Rattle.std.proofs.Common.{◌≡◌, drop, replicate}
-use Rattle.gl_protocol.specs.Tables.{widths}
+use Rattle.gl_protocol.specs.Replies.Tables.{widths}
 use Rattle.gl_views.specs.Cells.{rows_of}
 use Rattle.gl_views.proofs.tables.column_widths.Given as goal
 

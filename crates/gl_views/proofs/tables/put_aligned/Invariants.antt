@@ -1,6 +1,6 @@
 use Rattle.std.proofs.Common.{◌≡◌, ◌++◌, ◌-◌, replicate}
 use Rattle.std.specs.String.{string_bytes}
-use Rattle.gl_protocol.specs.Tables.{right_aligned}
+use Rattle.gl_protocol.specs.Replies.Tables.{right_aligned}
 use Rattle.gl_views.proofs.tables.put_aligned.Given as goal
 
 abbrev pub invariant-loop-i : goal.invariant-loop-i

@@ -5,7 +5,7 @@ use Rattle.std.specs.Iterator.Adapters.{zip_first, zip_second}
 use Rattle.std.specs.Slice.Iter.{iter_rest}
 use Rattle.std.proofs.lemmas.List.{length_push}
 use Rattle.std.proofs.lemmas.Slice.Zip.{zip_turn, zip_end}
-use Rattle.gl_protocol.specs.Tables.{right_aligned, aligned}
+use Rattle.gl_protocol.specs.Replies.Tables.{right_aligned, aligned}
 use Rattle.gl_views.specs.Cells.{texts_of}
 use Rattle.gl_views.proofs.Lines.{to_come, from_place, come_more, come_all, aligned_more, aligned_all}
 use Rattle.gl_views.proofs.tables.put_line.Goals as goal

@@ -1,7 +1,7 @@
 use Rattle.std.proofs.Common.{◌≡◌, ◌++◌, length}
 use Rattle.std.specs.List.{join_with_byte}
 use Rattle.std.specs.String.{string_bytes}
-use Rattle.gl_protocol.specs.Tables.{aligned}
+use Rattle.gl_protocol.specs.Replies.Tables.{aligned}
 use Rattle.gl_views.specs.Cells.{texts_of}
 use Rattle.gl_views.proofs.Lines.{to_come, from_place}
 use Rattle.gl_views.proofs.tables.put_line.Given as goal

@@ -1,6 +1,6 @@
 use Rattle.std.proofs.Common.{rules, ◌≡◌, ◌∙◌, ℕ, List, drop, Option, Some, String, Global, ap, sym}
-use Rattle.gl_protocol.specs.Output.{items_of}
-use Rattle.gl_run.specs.Call.{words_call, input_of}
+use Rattle.gl_protocol.specs.Scripts.Output.{items_of}
+use Rattle.gl_protocol.specs.Run.Call.{words_call, input_of}
 use Rattle.gl_run.proofs.Ends.{wrote_none}
 use Rattle.gridlet_c.proofs.Leaving.{leaves}
 use Rattle.gridlet_c.proofs.answering.answer.Goals as goal

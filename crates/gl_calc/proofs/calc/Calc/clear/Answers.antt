@@ -1,6 +1,6 @@
 use Rattle.std.proofs.Common.{◌≡◌, length, ap, sym, subst, arith}
-use Rattle.gl_calculus.specs.Formula.{content}
-use Rattle.gl_protocol.specs.Commands.{places_in}
+use Rattle.gl_calculus.specs.Formulas.Formula.{content}
+use Rattle.gl_calculus.specs.Edits.Sheets.{places_in}
 use Rattle.gl_ast.specs.View.{version_tree}
 use Rattle.gl_cells.specs.Sheet.{sheet}
 use Rattle.gl_calc.specs.Places.{ArePlaces}

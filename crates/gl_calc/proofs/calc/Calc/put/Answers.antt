@@ -1,5 +1,5 @@
 use Rattle.std.proofs.Common.{◌≡◌, ◌++◌, ◌∷◌, [], length, ap, sym, subst, ◌∙◌, arith}
-use Rattle.gl_calculus.specs.Formula.{content}
+use Rattle.gl_calculus.specs.Formulas.Formula.{content}
 use Rattle.gl_ast.specs.View.{version_tree}
 use Rattle.gl_cells.specs.Content.{content_tree}
 use Rattle.gl_cells.specs.Sheet.{sheet}

@@ -1,9 +1,9 @@
 use Rattle.std.proofs.Common.{◌≡◌, ◌++◌, List, length, map, ap, sym, subst, ◌∙◌, arith}
 use Rattle.std.proofs.lemmas.Grind.{common_steps}
-use Rattle.gl_calculus.specs.Grid.{Addr}
-use Rattle.gl_calculus.specs.Formula.{content}
-use Rattle.gl_protocol.specs.Commands.{with_contents}
-use Rattle.gl_protocol.proofs.SheetChanges.{sets_these}
+use Rattle.gl_calculus.specs.Grid.Grid.{Addr}
+use Rattle.gl_calculus.specs.Formulas.Formula.{content}
+use Rattle.gl_calculus.specs.Edits.Sheets.{with_contents}
+use Rattle.laws_calculus.proofs.SheetEdits.SheetChanges.{sets_these}
 use Rattle.gl_ast.specs.View.{version_tree}
 use Rattle.gl_cells.proofs.TableLemmas.{length_sheet}
 use Rattle.gl_cells.specs.declared.content.Content.{Content}

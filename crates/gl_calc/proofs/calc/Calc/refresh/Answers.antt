@@ -1,6 +1,6 @@
 use Rattle.std.proofs.Common.{◌≡◌, [], List, Vec, Global, OnErr, Some, if◌then◌else◌, sym, ap, subst, ◌∙◌, arith}
-use Rattle.gl_calculus.specs.Memory as M
-use Rattle.gl_calculus.specs.Memory.{Table, AreTables, tables_for}
+use Rattle.gl_calculus.specs.Calculation.Memory as M
+use Rattle.gl_calculus.specs.Calculation.Memory.{Table, AreTables, tables_for}
 use Rattle.gl_ast.specs.View.{version_tree}
 use Rattle.gl_cells.specs.Sheet.{sheet}
 use Rattle.gl_calc.specs.View.{View, sheet_of, memory_of}

@@ -1,6 +1,6 @@
 use Rattle.std.proofs.Common.{◌≡◌, ◌++◌, ◌∷◌, [], ℕ, ◌<◌, ◌≤◌, List, length, None, Some, ap, ◌∙◌, arith}
 use Rattle.std.proofs.lemmas.Bool.Decides.{nat_tests}
-use Rattle.gl_calculus.specs.Memory.{Table}
+use Rattle.gl_calculus.specs.Calculation.Memory.{Table}
 use Rattle.gl_calc.specs.Progress.{Progress, made_with, beyond_with}
 use Rattle.gl_calc.proofs.tables.Tables.keep.Goals as goal
 use Rattle.gl_calc.proofs.tables.Tables.keep.Goals.{in-Some-1, in-None-1, in-Some-2, in-None-2}

@@ -1,6 +1,6 @@
 use Rattle.std.proofs.Common.{◌≡◌, List, IfOk, ap, sym, subst, ◌∙◌}
-use Rattle.gl_calculus.specs.Grid.{Addr}
-use Rattle.gl_calculus.specs.Memory.{Table}
+use Rattle.gl_calculus.specs.Grid.Grid.{Addr}
+use Rattle.gl_calculus.specs.Calculation.Memory.{Table}
 use Rattle.gl_calc.specs.Progress.{Progress, next_base, since}
 use Rattle.gl_calc.specs.declared.tables.Base.{Base}
 use Rattle.gl_calc.proofs.Following.{before_base, last_base}

@@ -1,5 +1,5 @@
 use Rattle.std.proofs.Common.{◌∙◌, ap, arith, length}
-use Rattle.gl_protocol.specs.Commands.{without}
+use Rattle.gl_calculus.specs.Edits.Sheets.{without}
 use Rattle.gl_cells.specs.Sheet.{Table, sheet}
 use Rattle.gl_cells.proofs.TableLemmas.{length_sheet, without_sheet}
 use Rattle.gl_cells.proofs.cells.Cells.clear.Goals as goal

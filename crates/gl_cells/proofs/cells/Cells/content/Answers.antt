@@ -1,6 +1,6 @@
 use Rattle.std.proofs.Common.{◌∙◌, ap, sym, subst, Option, IfSome, option_map}
-use Rattle.gl_calculus.specs.Formula.{content}
-use Rattle.gl_language.specs.Content.{IsProperContent}
+use Rattle.gl_calculus.specs.Formulas.Formula.{content}
+use Rattle.gl_language.specs.Reading.Content.{IsProperContent}
 use Rattle.gl_cells.specs.declared.content.Content.{Content}
 use Rattle.gl_cells.specs.Content.{content_tree}
 use Rattle.gl_cells.specs.Sheet.{Table, sheet}

@@ -1,5 +1,5 @@
 use Rattle.std.proofs.Common.{◌∙◌, ap, sym, subst, length}
-use Rattle.gl_calculus.specs.Formula.{IsSheet}
+use Rattle.gl_calculus.specs.Formulas.Formula.{IsSheet}
 use Rattle.gl_cells.specs.Sheet.{Table, sheet}
 use Rattle.gl_cells.proofs.TableLemmas.{length_sheet, ordered_sheet}
 use Rattle.gl_cells.proofs.cells.Cells.contents.Goals as goal

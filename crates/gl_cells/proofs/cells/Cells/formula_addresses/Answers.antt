@@ -1,6 +1,6 @@
 use Rattle.std.proofs.Common.{◌≤◌, ◌∙◌, ap, sym, subst, length}
-use Rattle.gl_calculus.specs.Formula.{IsSheet, formula_addresses}
-use Rattle.gl_calculus.specs.Limits.{max_formulas}
+use Rattle.gl_calculus.specs.Formulas.Formula.{IsSheet, formula_addresses}
+use Rattle.gl_calculus.specs.Grid.Limits.{max_formulas}
 use Rattle.gl_cells.specs.Sheet.{Table, sheet}
 use Rattle.gl_cells.proofs.TableLemmas.{formulas_sheet, ordered_sheet}
 use Rattle.gl_cells.proofs.cells.Cells.formula_addresses.Goals as goal

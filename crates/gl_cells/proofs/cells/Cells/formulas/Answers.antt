@@ -1,5 +1,5 @@
 use Rattle.std.proofs.Common.{◌∙◌, ap, sym, subst, length}
-use Rattle.gl_calculus.specs.Formula.{IsSheet, formula_addresses}
+use Rattle.gl_calculus.specs.Formulas.Formula.{IsSheet, formula_addresses}
 use Rattle.gl_cells.specs.Sheet.{Table, sheet}
 use Rattle.gl_cells.proofs.TableLemmas.{formulas_sheet, ordered_sheet}
 use Rattle.gl_cells.proofs.cells.Cells.formulas.Goals as goal

@@ -1,5 +1,5 @@
 use Rattle.std.proofs.Common.{◌≡◌, List, IfOk, subst}
-use Rattle.gl_calculus.specs.Grid.{Addr}
+use Rattle.gl_calculus.specs.Grid.Grid.{Addr}
 use Rattle.gl_cells.proofs.Listing.{formulas_told}
 use Rattle.gl_cells.proofs.contents.Contents.formula_addresses.Goals as goal
 

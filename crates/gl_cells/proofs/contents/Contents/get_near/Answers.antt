@@ -1,6 +1,6 @@
 use Rattle.std.proofs.Common.{◌≡◌, Some, ◌∙◌, sym, subst}
 use Rattle.indexmap.specs.IndexMap.{get}
-use Rattle.gl_calculus.specs.Grid.{same_addr}
+use Rattle.gl_calculus.specs.Grid.Grid.{same_addr}
 use Rattle.gl_calculus.proofs.Tests.{addr_exact}
 use Rattle.gl_cells.proofs.Listing.{seen_listed}
 use Rattle.gl_cells.proofs.contents.Contents.get_near.Goals as goal

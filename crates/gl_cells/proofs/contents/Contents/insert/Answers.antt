@@ -1,6 +1,6 @@
 use Rattle.std.proofs.Common.{◌≡◌, Option, None, IfOk, OnErr, sym, subst}
 use Rattle.indexmap.specs.IndexMap.{get}
-use Rattle.gl_calculus.specs.Grid.{same_addr}
+use Rattle.gl_calculus.specs.Grid.Grid.{same_addr}
 use Rattle.gl_cells.specs.declared.content.Content.{Content}
 use Rattle.gl_cells.proofs.Listing.{seen_listed, sorted_listed}
 use Rattle.gl_cells.proofs.contents.Contents.insert.Goals as goal

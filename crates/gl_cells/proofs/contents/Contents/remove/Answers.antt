@@ -2,7 +2,7 @@ use Rattle.std.proofs.Common.{◌≡◌, ◌∙◌, Bool, List, length, Option, 
 use Rattle.indexmap.specs.IndexMap.{get}
 use Rattle.std.specs.BTreeMap.{is_at}
 use Rattle.std.specs.Map.{keys_of, remove_entry}
-use Rattle.gl_calculus.specs.Grid.{Addr, same_addr}
+use Rattle.gl_calculus.specs.Grid.Grid.{Addr, same_addr}
 use Rattle.gl_cells.specs.declared.content.Content.{Content}
 use Rattle.gl_cells.specs.Listed.{listed}
 use Rattle.gl_cells.specs.Sheet.{Table, addr_cmp}

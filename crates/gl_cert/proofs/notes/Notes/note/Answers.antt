@@ -1,6 +1,6 @@
 use Rattle.std.proofs.Common.{[], ◌∷◌, ◌++◌, map}
-use Rattle.gl_calculus.specs.Key.{same_key}
-use Rattle.gl_explanation.specs.Walk.{noted}
+use Rattle.gl_calculus.specs.Evaluation.Key.{same_key}
+use Rattle.gl_calculus.specs.Explanation.Walk.{noted}
 use Rattle.gl_demand.specs.Sound.{AreSoundKeys, IsSoundTable}
 use Rattle.gl_demand.specs.View.{key_tree, outcome_tree}
 use Rattle.gl_cert.specs.Claims.{claim_trees}

@@ -1,5 +1,5 @@
 use Rattle.std.proofs.Common.{◌≡◌, List, Some, length, option_map, slice_get, ap, sym, ◌∙◌, arith}
-use Rattle.gl_calculus.specs.Key as K
+use Rattle.gl_calculus.specs.Evaluation.Key as K
 use Rattle.gl_calculus.proofs.Tests.{key_equality}
 use Rattle.gl_demand.specs.View.{key_tree}
 use Rattle.gl_demand.specs.Equal.{eq_is_key}

@@ -1,5 +1,5 @@
 use Rattle.std.proofs.Common.{List, option_map, slice_get, ap, sym, ◌∙◌}
-use Rattle.gl_calculus.specs.Key as K
+use Rattle.gl_calculus.specs.Evaluation.Key as K
 use Rattle.gl_demand.specs.View.{key_tree}
 use Rattle.gl_intern.proofs.Keys.{second_at}
 use Rattle.gl_core.proofs.book.Book.key.Goals as goal

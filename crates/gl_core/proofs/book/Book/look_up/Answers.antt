@@ -1,6 +1,6 @@
 use Rattle.std.proofs.Common.{List, subst, sym}
-use Rattle.gl_query.specs.Lists.{Member}
-use Rattle.gl_calculus.specs.Key as K
+use Rattle.gl_calculus.specs.Computation.Lists.{Member}
+use Rattle.gl_calculus.specs.Evaluation.Key as K
 use Rattle.gl_demand.specs.View.{key_tree}
 use Rattle.gl_core.specs.Numbers.{IsNumber}
 use Rattle.gl_core.specs.Shorts.{key_pairs}

@@ -1,5 +1,5 @@
 use Rattle.std.proofs.Common.{◌≡◌, ◌+◌, ◌++◌, ◌∷◌, [], length, set, refl, ap, sym, subst, arith, ◌∙◌}
-use Rattle.gl_calculus.specs.Grid.{Range}
+use Rattle.gl_calculus.specs.Grid.Grid.{Range}
 use Rattle.gl_support.specs.declared.row.Row.{Row}
 use Rattle.gl_demand.specs.declared.outcome.Outcome.{Outcome}
 use Rattle.gl_core.specs.Numbers.{numbers_of, IsIndex}

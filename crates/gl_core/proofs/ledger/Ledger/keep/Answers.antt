@@ -1,8 +1,8 @@
 use Rattle.std.proofs.Common.{◌≡◌, ◌<◌, refl, List, Bool, not, nat_eq, filter, ap, sym, subst, arith, ◌∙◌, length}
-use Rattle.gl_query.specs.Lists.{AreDistinct}
-use Rattle.gl_calculus.specs.Grid.{Range}
+use Rattle.gl_calculus.specs.Computation.Lists.{AreDistinct}
+use Rattle.gl_calculus.specs.Grid.Grid.{Range}
 use Rattle.gl_plane.specs.Changes.{reaches}
-use Rattle.gl_query.specs.Lists.{has_member}
+use Rattle.gl_calculus.specs.Computation.Lists.{has_member}
 use Rattle.gl_support.specs.Rows.{AreBelow, gone_numbers}
 use Rattle.gl_support.specs.Reach.{is_marked}
 use Rattle.gl_support.specs.declared.row.Row.{Row}

@@ -1,6 +1,6 @@
 use Rattle.std.proofs.Common.{◌≡◌, ◌+◌, ◌++◌, ◌∷◌, [], List, ℕ, map, take, ap, sym, subst, ◌∙◌, arith}
 use Rattle.std.proofs.lemmas.Grind.{common_steps}
-use Rattle.gl_calculus.specs.Key as K
+use Rattle.gl_calculus.specs.Evaluation.Key as K
 use Rattle.gl_demand.specs.View.{key_tree}
 use Rattle.gl_core.specs.Numbers.{AreNumbers}
 use Rattle.gl_core.proofs.Places.{member_at}

@@ -1,10 +1,10 @@
 use Rattle.std.proofs.Common.{rules, [], ◌≡◌, ◌⊎◌, ◌<◌, ◌^◌, length, ap, sym, subst, arith, ◌∙◌}
-use Rattle.gl_query.specs.Machine.{idle_keys, nth, pick}
-use Rattle.gl_query.specs.Costs.{answer_at}
-use Rattle.gl_query.specs.InOrder.{AreOrdered}
-use Rattle.gl_calculus.specs.Limits.{max_demanded}
-use Rattle.gl_calculus.specs.Key.{same_key}
-use Rattle.gl_calculus.specs.Evaluation.{program}
+use Rattle.gl_machine.specs.Machine.{idle_keys, nth, pick}
+use Rattle.gl_machine.specs.Costs.{answer_at}
+use Rattle.gl_machine.specs.InOrder.{AreOrdered}
+use Rattle.gl_calculus.specs.Grid.Limits.{max_demanded}
+use Rattle.gl_calculus.specs.Evaluation.Key.{same_key}
+use Rattle.gl_calculus.specs.Evaluation.Evaluation.{program}
 use Rattle.gl_ast.specs.View.{version_tree}
 use Rattle.gl_cells.specs.Sheet.{sheet}
 use Rattle.gl_core.specs.Held.{Held}

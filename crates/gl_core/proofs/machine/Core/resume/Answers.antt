@@ -1,13 +1,13 @@
 use Rattle.std.proofs.Common.{◌≡◌, [], length, map, ap, sym, subst, ◌∙◌}
-use Rattle.gl_query.specs.Remembered.{AreTrue}
-use Rattle.gl_calculus.specs.Value.{Top}
-use Rattle.gl_calculus.specs.Key as K
-use Rattle.gl_calculus.specs.Key.{same_key}
-use Rattle.gl_calculus.specs.Evaluation.{program}
-use Rattle.gl_calculus.specs.Memory.{Notes}
+use Rattle.gl_machine.specs.Remembered.{AreTrue}
+use Rattle.gl_calculus.specs.Values.Value.{Top}
+use Rattle.gl_calculus.specs.Evaluation.Key as K
+use Rattle.gl_calculus.specs.Evaluation.Key.{same_key}
+use Rattle.gl_calculus.specs.Evaluation.Evaluation.{program}
+use Rattle.gl_calculus.specs.Calculation.Memory.{Notes}
 use Rattle.gl_ast.specs.View.{version_tree}
 use Rattle.gl_cells.specs.Sheet.{sheet}
-use Rattle.gl_query.specs.InOrder.{AreOrdered}
+use Rattle.gl_machine.specs.InOrder.{AreOrdered}
 use Rattle.gl_core.specs.State.{first_keys, IsFor}
 use Rattle.gl_core.specs.Table.{table_of, held}
 use Rattle.gl_core.proofs.Numbered.{length-map}

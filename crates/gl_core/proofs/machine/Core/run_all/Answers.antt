@@ -1,9 +1,9 @@
 use Rattle.std.proofs.Common.{[], ◌<◌, ◌≤◌, ◌+◌, ◌^◌, ◌-◌, sym, subst, ap, arith, ◌∙◌}
-use Rattle.gl_query.specs.Laws.{IsQuiet}
-use Rattle.gl_query.specs.Costs.{settled}
-use Rattle.gl_query.specs.InOrder.{AreOrdered}
-use Rattle.gl_calculus.specs.Key.{same_key}
-use Rattle.gl_calculus.specs.Evaluation.{program}
+use Rattle.gl_machine.specs.Quiet.{IsQuiet}
+use Rattle.gl_machine.specs.Costs.{settled}
+use Rattle.gl_machine.specs.InOrder.{AreOrdered}
+use Rattle.gl_calculus.specs.Evaluation.Key.{same_key}
+use Rattle.gl_calculus.specs.Evaluation.Evaluation.{program}
 use Rattle.gl_ast.specs.View.{version_tree}
 use Rattle.gl_cells.specs.Sheet.{sheet}
 use Rattle.gl_core.specs.Held.{Held}

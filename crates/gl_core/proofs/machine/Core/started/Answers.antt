@@ -1,6 +1,6 @@
 use Rattle.std.proofs.Common.{◌≡◌, List, ℕ, length, map, ap, sym, subst, ◌∙◌, arith}
-use Rattle.gl_query.specs.Lists.{AreDistinct}
-use Rattle.gl_calculus.specs.Key as K
+use Rattle.gl_calculus.specs.Computation.Lists.{AreDistinct}
+use Rattle.gl_calculus.specs.Evaluation.Key as K
 use Rattle.gl_demand.specs.View.{key_tree}
 use Rattle.gl_core.proofs.Cores.{written_grown, marks_length}
 use Rattle.gl_core.proofs.Numbered.{length-map}

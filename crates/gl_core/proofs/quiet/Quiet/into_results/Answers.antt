@@ -1,7 +1,7 @@
 use Rattle.std.proofs.Common.{sym, subst, ◌∙◌}
-use Rattle.gl_query.specs.InOrder.{note_keys}
-use Rattle.gl_query.specs.Lists.{AreDistinct}
-use Rattle.gl_calculus.specs.Memory.{Notes}
+use Rattle.gl_calculus.specs.Computation.Notes.{note_keys}
+use Rattle.gl_calculus.specs.Computation.Lists.{AreDistinct}
+use Rattle.gl_calculus.specs.Calculation.Memory.{Notes}
 use Rattle.gl_core.specs.Results.{AreResults}
 use Rattle.gl_core.proofs.Filtered.{notes_apart}
 use Rattle.gl_core.proofs.Kept.{the_notes, resolved_ordered}

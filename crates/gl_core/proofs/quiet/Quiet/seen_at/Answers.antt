@@ -1,6 +1,6 @@
 use Rattle.std.proofs.Common.{◌≡◌, slice_get, subst, MatchOption, None, Some, IfSome}
-use Rattle.gl_query.specs.Machine as Machine
-use Rattle.gl_calculus.specs.Key as K
+use Rattle.gl_machine.specs.Machine as Machine
+use Rattle.gl_calculus.specs.Evaluation.Key as K
 use Rattle.gl_core.specs.Held.{Held}
 use Rattle.gl_core.specs.State.{state_of}
 use Rattle.gl_core.specs.Table.{known_keys}

@@ -1,5 +1,5 @@
 use Rattle.std.proofs.Common.{sym, subst, ◌∙◌}
-use Rattle.gl_calculus.specs.Memory.{Notes}
+use Rattle.gl_calculus.specs.Calculation.Memory.{Notes}
 use Rattle.gl_core.specs.Results.{AreResults}
 use Rattle.gl_core.proofs.results.Results.copy.Goals as goal
 

@@ -1,11 +1,11 @@
 use Rattle.std.proofs.Common.{[], ap, sym, subst, ◌∙◌}
-use Rattle.gl_query.specs.Remembered.{AreClosed, AreTheKept}
-use Rattle.gl_query.specs.InOrder.{kept_after}
-use Rattle.gl_query.proofs.Orders.{ordered_closed}
-use Rattle.gl_calculus.specs.Grid.{Range}
-use Rattle.gl_calculus.specs.Key as K
-use Rattle.gl_calculus.specs.Key.{same_key}
-use Rattle.gl_calculus.specs.Memory.{Notes}
+use Rattle.gl_machine.specs.Remembered.{AreClosed, AreTheKept}
+use Rattle.gl_machine.specs.InOrder.{kept_after}
+use Rattle.laws_calculus.proofs.Query.Orders.{ordered_closed}
+use Rattle.gl_calculus.specs.Grid.Grid.{Range}
+use Rattle.gl_calculus.specs.Evaluation.Key as K
+use Rattle.gl_calculus.specs.Evaluation.Key.{same_key}
+use Rattle.gl_calculus.specs.Calculation.Memory.{Notes}
 use Rattle.gl_plane.specs.Changes.{reaches}
 use Rattle.gl_core.specs.Ledger.{written}
 use Rattle.gl_core.proofs.Places.{on_ok}

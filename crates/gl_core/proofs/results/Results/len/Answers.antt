@@ -1,7 +1,8 @@
 use Rattle.std.proofs.Common.{[], length, ap, sym, subst, ◌∙◌}
-use Rattle.gl_query.specs.Lists.{AreDistinct}
-use Rattle.gl_query.specs.InOrder.{AreOrdered, note_keys}
-use Rattle.gl_calculus.specs.Memory.{Notes}
+use Rattle.gl_calculus.specs.Computation.Lists.{AreDistinct}
+use Rattle.gl_machine.specs.InOrder.{AreOrdered}
+use Rattle.gl_calculus.specs.Computation.Notes.{note_keys}
+use Rattle.gl_calculus.specs.Calculation.Memory.{Notes}
 use Rattle.gl_core.proofs.Filtered.{notes_apart, length-written}
 use Rattle.gl_core.proofs.results.Results.len.Goals as goal
 

@@ -1,5 +1,5 @@
 use Rattle.std.proofs.Common.{ap, sym, ◌∙◌}
-use Rattle.gl_calculus.specs.Memory.{Notes}
+use Rattle.gl_calculus.specs.Calculation.Memory.{Notes}
 use Rattle.gl_demand.specs.View.{key_tree}
 use Rattle.gl_core.specs.Ledger.{written}
 use Rattle.gl_core.specs.Results.{outcome_in}

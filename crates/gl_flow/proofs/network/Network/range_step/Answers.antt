@@ -1,6 +1,6 @@
 use Rattle.std.proofs.Common.{◌+◌, ◌-◌, ◌∷◌, ◌∙◌, sym, ap, drop, arith}
 use Rattle.std.specs.List.{flat_map}
-use Rattle.gl_calculus.specs.Grid.{addresses}
+use Rattle.gl_calculus.specs.Grid.Grid.{addresses}
 use Rattle.gl_flow.specs.Pieces.{rows_read}
 use Rattle.gl_flow.specs.Network.{address_steps}
 use Rattle.gl_flow.specs.Plans.{plan}

@@ -1,5 +1,5 @@
 use Rattle.std.proofs.Common.{◌≡◌}
-use Rattle.gl_forecast.specs.Forecast as Fo
+use Rattle.gl_calculus.specs.Forecast as Fo
 use Rattle.gl_flow.specs.Network.{piece_steps}
 use Rattle.gl_flow.specs.Plans.{plan}
 use Rattle.gl_flow.proofs.network.Network.range_step.Given as goal

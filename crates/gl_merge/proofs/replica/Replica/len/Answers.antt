@@ -1,5 +1,5 @@
 use Rattle.std.proofs.Common.{length, ap, sym, subst, arith}
-use Rattle.gl_calculus.specs.Grid.{AreInOrder}
+use Rattle.gl_calculus.specs.Grid.Grid.{AreInOrder}
 use Rattle.gl_merge.specs.Index.{registers}
 use Rattle.gl_merge.specs.Replica.{ReplicaValue, registers_of}
 use Rattle.gl_merge.proofs.Listed.{listed_places, registers_length}

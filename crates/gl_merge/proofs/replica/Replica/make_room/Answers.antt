@@ -1,5 +1,5 @@
 use Rattle.std.proofs.Common.{◌≡◌, ◌∙◌, ◌+◌, ◌≤◌, List, length, vec_len, vec_capacity, sym, ap, arith}
-use Rattle.gl_edits.specs.Replicas.{missing}
+use Rattle.gl_calculus.specs.Edits.Replicas.{missing}
 use Rattle.gl_merge.specs.Edit.{EditValue}
 use Rattle.gl_merge.specs.Index.{Index, registers}
 use Rattle.gl_merge.specs.Replica.{ReplicaValue, registers_of}

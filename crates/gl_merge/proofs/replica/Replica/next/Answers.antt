@@ -1,6 +1,6 @@
 use Rattle.std.proofs.Common.{IfSome, subst}
-use Rattle.gl_calculus.specs.Grid.{Addr}
-use Rattle.gl_edits.specs.Replicas.{register_at, IsOlder}
+use Rattle.gl_calculus.specs.Grid.Grid.{Addr}
+use Rattle.gl_calculus.specs.Edits.Replicas.{register_at, IsOlder}
 use Rattle.gl_merge.specs.Index.{registers}
 use Rattle.gl_merge.specs.Replica.{ReplicaValue, registers_of}
 use Rattle.gl_merge.proofs.Clocks.{next_wins, past_registers}

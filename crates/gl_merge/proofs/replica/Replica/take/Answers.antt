@@ -1,9 +1,9 @@
 use Rattle.std.proofs.Common.{◌≡◌, ◌∙◌, ◌⊎◌, ℕ, ◌≤◌, max, [], ◌∷◌, ◌++◌, IsSome, vec_len, sym, ap, subst, arith}
-use Rattle.gl_edits.specs.Joins.{HasTaken}
-use Rattle.gl_edits.specs.Limits.{max_time}
-use Rattle.gl_edits.specs.Replicas as R
-use Rattle.gl_edits.specs.Replicas.{register_at, taking}
-use Rattle.gl_edits.proofs.Taking.{one_more_taken}
+use Rattle.gl_calculus.specs.Edits.Joins.{HasTaken}
+use Rattle.gl_calculus.specs.Edits.Limits.{max_time}
+use Rattle.gl_calculus.specs.Edits.Replicas as R
+use Rattle.gl_calculus.specs.Edits.Replicas.{register_at, taking}
+use Rattle.laws_calculus.proofs.Edits.Taking.{one_more_taken}
 use Rattle.gl_merge.specs.Edit.{EditValue, edit_tree}
 use Rattle.gl_merge.specs.Index.{registers}
 use Rattle.gl_merge.specs.Replica.{ReplicaValue, registers_of, replica_tree, spare_of}

@@ -1,6 +1,6 @@
 use Rattle.std.proofs.Common.{◌∙◌, sym, ap}
 use Rattle.std.specs.List.{list_any}
-use Rattle.gl_calculus.specs.Grid.{addresses, covers}
+use Rattle.gl_calculus.specs.Grid.Grid.{addresses, covers}
 use Rattle.gl_plane.specs.Changes.{reaches}
 use Rattle.gl_plane.proofs.Ranges.{shared, apart_from_hull, no_hull}
 use Rattle.gl_plane.proofs.changes.Changes.touches.Goals as goal

@@ -1,5 +1,5 @@
 use Rattle.std.proofs.Common.{◌+◌, ◌-◌, ◌*◌, ap, ◌∙◌}
-use Rattle.gl_calculus.specs.Grid.{addr}
+use Rattle.gl_calculus.specs.Grid.Grid.{addr}
 use Rattle.gl_plane.proofs.Places.{counted}
 use Rattle.gl_plane.proofs.range.Range.cells.Goals as goal
 

@@ -1,5 +1,5 @@
 use Rattle.std.proofs.Common.{◌∙◌, arith}
-use Rattle.gl_calculus.specs.Grid.{addr}
+use Rattle.gl_calculus.specs.Grid.Grid.{addr}
 use Rattle.gl_plane.proofs.Places.{placed}
 use Rattle.gl_plane.proofs.range.Range.place.Goals as goal
 

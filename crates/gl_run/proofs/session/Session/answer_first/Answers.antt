@@ -2,7 +2,7 @@ use Rattle.std.proofs.Common.{◌≡◌, option_map, ap, rules}
 use Rattle.gl_ast.specs.View.{version_tree}
 use Rattle.gl_run.specs.Script.{known_of}
 use Rattle.gl_script.specs.Framer.{told}
-use Rattle.gl_protocol.specs.Commands.{ok_line}
+use Rattle.gl_protocol.specs.Scripts.Commands.{ok_line}
 use Rattle.gl_run.proofs.Acting.{acts_two, one_reply}
 use Rattle.gl_run.proofs.session.Session.answer_first.Goals as goal
 

@@ -1,6 +1,6 @@
 use Rattle.gl_ast.specs.View.{version_tree}
-use Rattle.gl_protocol.specs.Framing.{Item}
-use Rattle.gl_protocol.specs.Commands.{LineWord, TruncatedWord}
+use Rattle.gl_protocol.specs.Framing.Framing.{Item}
+use Rattle.gl_protocol.specs.Scripts.Commands.{LineWord, TruncatedWord}
 use Rattle.gl_run.specs.Script.{known_of, script_of}
 use Rattle.gl_run.proofs.Acting.{long_reply, truncated_reply}
 use Rattle.gl_run.proofs.Spending.{refused_reply}

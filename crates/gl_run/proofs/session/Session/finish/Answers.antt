@@ -1,8 +1,8 @@
 use Rattle.std.proofs.Common.{IfSome, Option, Some, List, ℕ, [], sym, subst}
 use Rattle.std.specs.Option.{option_to_list}
 use Rattle.gl_script.specs.Framer.{told, stream_at}
-use Rattle.gl_protocol.specs.Framing.{Item}
-use Rattle.gl_protocol.specs.Stream.{closing}
+use Rattle.gl_protocol.specs.Framing.Framing.{Item}
+use Rattle.gl_protocol.specs.Framing.Stream.{closing}
 use Rattle.gl_run.specs.State.{state_of}
 use Rattle.gl_run.specs.Serving.{last_item}
 use Rattle.gl_run.specs.Emitted.{Emitted}

@@ -1,6 +1,6 @@
 use Rattle.std.proofs.Common.{ap, arith}
 use Rattle.std.proofs.lemmas.Grind.{common_steps}
-use Rattle.gl_run.specs.Known.{Known}
+use Rattle.gl_protocol.specs.Run.Known.{Known}
 use Rattle.gl_run.specs.State.{fresh}
 use Rattle.gl_run.proofs.session.Session.new.Goals as goal
 

@@ -1,7 +1,7 @@
 use Rattle.std.proofs.Common.{IfSome, Option, subst}
 use Rattle.gl_script.specs.Framer.{stream_at}
-use Rattle.gl_protocol.specs.Framing.{Item}
-use Rattle.gl_protocol.specs.Stream.{Stream}
+use Rattle.gl_protocol.specs.Framing.Framing.{Item}
+use Rattle.gl_protocol.specs.Framing.Stream.{Stream}
 use Rattle.gl_run.specs.Framed.{IsFramed}
 use Rattle.gl_run.proofs.Headers.{step_framed}
 use Rattle.gl_run.proofs.session.Session.take_byte.Goals as goal

@@ -1,7 +1,7 @@
 use Rattle.std.proofs.Common.{subst, sym}
-use Rattle.gl_query.specs.Laws.{IsQuiet}
-use Rattle.gl_query.specs.Remembered.{AreTrue}
-use Rattle.gl_calculus.specs.Key.{same_key}
+use Rattle.gl_machine.specs.Quiet.{IsQuiet}
+use Rattle.gl_machine.specs.Remembered.{AreTrue}
+use Rattle.gl_calculus.specs.Evaluation.Key.{same_key}
 use Rattle.gl_ast.specs.View.{version_tree}
 use Rattle.gl_cells.specs.Sheet.{sheet}
 use Rattle.gl_demand.specs.Evaluators.{program_of}

@@ -1,5 +1,5 @@
 use Rattle.std.proofs.Common.{map, refl, sym, ap, subst, ◌∙◌}
-use Rattle.gl_query.specs.Lists.{Member}
+use Rattle.gl_calculus.specs.Computation.Lists.{Member}
 use Rattle.gl_demand.specs.View.{key_tree}
 use Rattle.tests_evaluation.proofs.tests.resumed.resumed.Goals as goal
 

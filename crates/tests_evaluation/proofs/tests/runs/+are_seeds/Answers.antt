@@ -1,7 +1,7 @@
 use Rattle.std.proofs.Common.{◌≡◌, List, [], ◌∷◌, map, false, true≢false, inl, inr, subst, sym, ◌∙◌}
 use Rattle.std.proofs.lemmas.Bool.{or_parts}
 use Rattle.std.specs.List.{list_any}
-use Rattle.gl_query.specs.Lists.{Member, AreDistinct}
+use Rattle.gl_calculus.specs.Computation.Lists.{Member, AreDistinct}
 use Rattle.gl_demand.specs.View.{key_tree}
 use Rattle.gl_demand.specs.Equal.{key_equal}
 use Rattle.gl_demand.specs.contracts.key.KeyPartialEq.TheImpl.{ghosts as key}

@@ -1,8 +1,8 @@
 -- The first that is told of a key, from where the loop stands.
 use Rattle.std.proofs.Common.{◌≡◌, ◌∙◌, ap, sym, ℕ, ◌+◌, ◌<◌, List, length, drop, get_or, Bool, true, false, cond, Some, option_map}
 use Rattle.std.specs.List.{find}
-use Rattle.gl_calculus.specs.Key as K
-use Rattle.gl_calculus.specs.Key.{same_key}
+use Rattle.gl_calculus.specs.Evaluation.Key as K
+use Rattle.gl_calculus.specs.Evaluation.Key.{same_key}
 use Rattle.gl_demand.specs.Equal.{eq_is_key}
 use Rattle.gl_demand.specs.View.{key_tree, outcome_tree}
 use Rattle.tests_evaluation.specs.declared.tests.table.Told.{Told}

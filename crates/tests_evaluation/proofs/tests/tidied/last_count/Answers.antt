@@ -1,6 +1,6 @@
 use Rattle.std.proofs.Common.{subst, sym}
-use Rattle.gl_query.specs.Remembered.{AreTrue}
-use Rattle.gl_calculus.specs.Key.{same_key}
+use Rattle.gl_machine.specs.Remembered.{AreTrue}
+use Rattle.gl_calculus.specs.Evaluation.Key.{same_key}
 use Rattle.gl_demand.specs.Evaluators.{program_of}
 use Rattle.tests_evaluation.proofs.tests.tidied.last_count.Goals as goal
 

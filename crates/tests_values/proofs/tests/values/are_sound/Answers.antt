@@ -1,6 +1,6 @@
 use Rattle.std.proofs.Common.{◌≡◌, get_or, below_more, sym, true, IsTrue}
 use Rattle.std.proofs.lemmas.List.{get_or_read}
-use Rattle.gl_calculus.specs.Sound.{is_sound_value}
+use Rattle.gl_calculus.specs.Evaluation.Sound.{is_sound_value}
 use Rattle.gl_value.specs.View.{value_tree}
 use Rattle.tests_values.proofs.tests.values.are_sound.Goals as goal
 

@@ -1,5 +1,5 @@
 use Rattle.std.proofs.Common.{ℕ, ◌<◌, get_or, IsTrue}
-use Rattle.gl_calculus.specs.Sound.{is_sound_value}
+use Rattle.gl_calculus.specs.Evaluation.Sound.{is_sound_value}
 use Rattle.gl_value.specs.View.{value_tree}
 use Rattle.gl_value.specs.declared.Value.{Value}
 use Rattle.tests_values.proofs.tests.values.are_sound.Given as goal

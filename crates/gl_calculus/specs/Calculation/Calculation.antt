@@ -1,0 +1,162 @@
+-- The whole calculation: round by round to an oracle that is its own next one, or to a spent budget; and what is shown then.
+use Rattle.std.specs.Prelude.{◌≡◌, ◌≢◌, ◌⊎◌, ◌↔◌, ℕ, suc, ◌+◌, Bool, true, false, List, [], ◌∷◌, length, map, Option, Some, None, is_some, Ok, IsFalse}
+use Rattle.std.specs.List.{AllByRecursion}
+use Rattle.gl_calculus.specs.Computation.Lists.{Member, MoreThan}
+use Rattle.gl_calculus.specs.Computation.Query.{Has, Loops, Gives}
+use Rattle.gl_calculus.specs.Computation.Evaluation.{given}
+use Rattle.gl_calculus.specs.Computation.Demanded.{Demanded}
+use Rattle.gl_calculus.specs.Grid.Limits.{max_demanded, extra_rounds}
+use Rattle.gl_calculus.specs.Grid.Grid.{Addr, Size, grid}
+use Rattle.gl_calculus.specs.Values.Value.{Permit, Oracle, Scalar, Blank, Scalars, One, Array, Top}
+use Rattle.gl_calculus.specs.Values.Value as V
+use Rattle.gl_calculus.specs.Formulas.Formula.{Version, Formula, Form, Cells, content, formula_addresses}
+use Rattle.gl_calculus.specs.Evaluation.Oracle.{IsInOrder, entry_at, Cover, cover, Sizes, grant, ArePermits, first_difference, Obstacle, blocker}
+use Rattle.gl_calculus.specs.Values.Value.{Entry}
+use Rattle.gl_calculus.specs.Evaluation.Facts.{fact, facts}
+use Rattle.gl_calculus.specs.Evaluation.Key.{Key, Cell, Budget, Outcome, Abort}
+use Rattle.gl_calculus.specs.Evaluation.Reference.{own, at_address}
+use Rattle.gl_calculus.specs.Evaluation.Evaluation.{program}
+
+-- the addresses of the sheet that have content
+abbrev pub has_content : Cells → Addr → Bool
+has_content S a = is_some (content S a)
+
+pub data SpentKind : Type 0 where
+  Rounds : Addr → SpentKind
+  CopyRounds Depth : Addr → SpentKind
+  Work : SpentKind
+
+abbrev pub spent_at : Budget → Addr → SpentKind
+spent_at Budget.Depth a = SpentKind.Depth a
+spent_at Budget.CopyRounds a = SpentKind.CopyRounds a
+
+pub data Answer : Type 0 where
+  Settled : Oracle → (rounds : ℕ) → Answer
+  Spent : SpentKind → Answer
+
+abbrev pub is_array : Outcome → Bool
+is_array (Outcome.Value (Array z xs)) = true
+is_array o = false
+
+abbrev pub is_abort : Outcome → Bool
+is_abort (Abort b) = true
+is_abort o = false
+
+-- the rounds that may be made
+abbrev pub round_budget : Cells → ℕ
+round_budget S = length (formula_addresses S) + extra_rounds
+
+-- what an address shows: a cycle is only shown, and is no value
+pub data Shown : Type 0 where
+  Cycle : Shown
+  Value : Scalar → Shown
+
+module _ (version : Version) (S : Cells) where
+  -- the outcome of a formula cell of the top sheet under an oracle
+  abbrev pub TopHas : Oracle → Addr → Outcome → Type 0
+  TopHas w a o = Has (program version S w) (Cell Top a) o
+
+  abbrev pub TopLoops : Oracle → Addr → Type 0
+  TopLoops w a = Loops (program version S w) (Cell Top a)
+
+  -- the cell loops, or its outcome fails the test
+  abbrev pub TopFails : (Outcome → Bool) → Oracle → Addr → Type 0
+  TopFails test w a = TopLoops w a ⊎ ((o : Outcome) × TopHas w a o × IsFalse (test o))
+
+  -- the arrays among the values of these formula cells
+  pub data Arrays (w : Oracle) : List Addr → Sizes → Type 0 where
+    none : Arrays w [] []
+    array : {a : Addr} {z : Size} {rest : List Addr} {zs : Sizes} (xs : Scalars) → TopHas w a (Outcome.Value (Array z xs)) → Arrays w rest zs → Arrays w (a ∷ rest) ((a, z) ∷ zs)
+    other : {a : Addr} {rest : List Addr} {zs : Sizes} → TopFails is_array w a → Arrays w rest zs → Arrays w (a ∷ rest) zs
+
+  -- the oracle after w: permits are granted anew to the arrays under w
+  abbrev pub IsNext : Oracle → Oracle → Type 0
+  IsNext w next = (zs : Sizes) × Arrays w (formula_addresses S) zs × (next ≡ grant grid (has_content S) zs)
+
+  -- the oracle of round i; that of round 0 is empty
+  pub data IsRound : ℕ → Oracle → Type 0 where
+    first_round : IsRound 0 []
+    next_round : {i : ℕ} {w next : Oracle} → IsRound i w → IsNext w next → IsRound (suc i) next
+
+  -- the keys that a round demands
+  abbrev pub DemandedIn : Oracle → Key → Type 0
+  DemandedIn w = Demanded (program version S w) (map (Cell Top) (formula_addresses S))
+
+  abbrev pub SpendsWork : Oracle → Type 0
+  SpendsWork w = MoreThan max_demanded (DemandedIn w)
+
+  -- the first of these formula cells that ends as spent
+  pub data FirstAbort (w : Oracle) : List Addr → Addr → Budget → Type 0 where
+    here : {a : Addr} {b : Budget} {rest : List Addr} → TopHas w a (Abort b) → FirstAbort w (a ∷ rest) a b
+    behind : {a c : Addr} {b : Budget} {rest : List Addr} → TopFails is_abort w a → FirstAbort w rest c b → FirstAbort w (a ∷ rest) c b
+
+  -- neither the work of the round nor a budget of a formula cell is spent
+  pub record IsUnspent (w : Oracle) : Type 0 where
+    pub work : SpendsWork w → ⊥
+    pub no_abort : AllByRecursion (TopFails is_abort w) (formula_addresses S)
+
+  -- round i under w doesn't end the calculation, and leads to the next oracle
+  pub record GoesOn (i : ℕ) (w next : Oracle) : Type 0 where
+    pub unspent : IsUnspent w
+    pub is_next : IsNext w next
+    pub moves : next ≢ w
+    pub not_last : suc i ≢ round_budget S
+
+  -- the calculation comes to round i, under the oracle w
+  pub data Reaches : ℕ → Oracle → Type 0 where
+    first : Reaches 0 []
+    later : {i : ℕ} {w next : Oracle} → Reaches i w → GoesOn i w next → Reaches (suc i) next
+
+  -- the calculation comes to the round, and the round doesn't spend its work
+  abbrev pub IsFinished : ℕ → Oracle → Type 0
+  IsFinished i w = Reaches i w × (SpendsWork w → ⊥)
+
+  -- how round i under w ends the calculation: the first of the cases that holds
+  pub data Ends (i : ℕ) (w : Oracle) : Answer → Type 0 where
+    work : SpendsWork w → Ends i w (Spent Work)
+    abort : {a : Addr} {b : Budget} → (SpendsWork w → ⊥) → FirstAbort w (formula_addresses S) a b → Ends i w (Spent (spent_at b a))
+    settled : IsUnspent w → IsNext w w → Ends i w (Settled w (suc i))
+    rounds : {a : Addr} (next : Oracle) → IsUnspent w → IsNext w next → first_difference w next ≡ Some a → suc i ≡ round_budget S → Ends i w (Spent (Rounds a))
+
+  -- the answer of the calculation
+  pub record IsAnswer (r : Answer) : Type 0 where
+    pub round : ℕ
+    pub oracle : Oracle
+    pub reached : Reaches round oracle
+    pub ends : Ends round oracle r
+
+  -- ---- a consistent oracle, said without the granting of permits
+
+  -- the own value of an address of the top sheet
+  abbrev pub Owns : Oracle → Addr → V.Value → Type 0
+  Owns w a v = Gives (program version S w) (given (facts S w) (own Top (fact S w a))) (Ok (Some v))
+
+  pub record IsConsistent (w : Oracle) : Type 0 where
+    -- one entry for each root, in row-major order
+    pub in_order : IsInOrder w
+    -- the entries are exactly the contents whose own values are arrays, with their sizes
+    pub entries : (a : Addr) (z : Size) → ((p : Permit) × Member (record { root = a; size = z; permit = p }) w) ↔ ((xs : Scalars) × Owns w a (Array z xs))
+    pub permits : ArePermits grid (has_content S) w
+
+  -- ---- what an address shows
+
+  pub data IsShown (w : Oracle) (a : Addr) : Shown → Type 0 where
+    cycle : (f : Formula) → content S a ≡ Some (Form f) → TopLoops w a → IsShown w a Cycle
+    value : {x : Scalar} → Gives (program version S w) (given (facts S w) (at_address Top a)) (Ok (One x)) → IsShown w a (Shown.Value x)
+    -- a root that loops spills nothing
+    blank : (c : Cover) → content S a ≡ None → cover w a ≡ Some c → TopLoops w c.root → IsShown w a (Shown.Value Blank)
+
+-- ---- why a root has its permit
+
+pub data Why : Type 0 where
+  NoEntry Permitted : Why
+  Blocked : Obstacle → Why
+
+-- of no obstacle, by whether there is an entry
+abbrev pub why_of : Option Entry → Option Obstacle → Why
+why_of None o = NoEntry
+why_of (Some x) None = Why.Permitted
+why_of (Some x) (Some o) = Blocked o
+
+abbrev pub why : Cells → Oracle → Addr → Why
+why S w a = why_of (entry_at w a) (blocker grid (has_content S) w a)

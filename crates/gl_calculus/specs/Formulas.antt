@@ -1,0 +1,3 @@
+-- Formulas as trees, and sheets.
+pub mod Formula
+pub mod Fit

@@ -1,0 +1,37 @@
+-- The steps of a calculation, round by round, where rounds begin with tables from before.
+use Rattle.std.specs.Prelude.{ℕ, suc, List, [], false}
+use Rattle.gl_calculus.specs.Grid.Grid.{Addr}
+use Rattle.gl_calculus.specs.Values.Value.{Oracle}
+use Rattle.gl_calculus.specs.Formulas.Formula.{Version, Cells}
+use Rattle.gl_calculus.specs.Evaluation.Evaluation.{program}
+use Rattle.gl_calculus.specs.Calculation.Calculation as C
+use Rattle.gl_calculus.specs.Calculation.Calculation.{GoesOn, Ends}
+use Rattle.gl_calculus.specs.Calculation.Memory.{Table, no_table, base, IsTableOf}
+use Rattle.gl_calculus.specs.Steps.Costs.{IsAnew, Finishes}
+use Rattle.gl_calculus.specs.Steps.Demanded.{AllowsDemanded}
+
+-- the steps of a round that spends its work, begun with a table and with what was touched since
+abbrev pub Breaks : Version → Cells → Table × List Addr → Oracle → ℕ → ℕ → Type 0
+Breaks version S b w n m = AllowsDemanded (IsAnew version S b w) (program version S w) (λ k. false) n m
+
+-- the steps of the last round, by the answer
+abbrev pub Last : Version → Cells → C.Answer → Table × List Addr → ℕ → Oracle → ℕ → ℕ → Type 0
+Last version S (C.Settled v rounds) b i w = Finishes version S b i w
+Last version S (C.Spent C.Work) b i w = Breaks version S b w
+Last version S (C.Spent k) b i w = Finishes version S b i w
+
+module _ (version : Version) (S : Cells) (tables : List Table) (touched : List Addr) where
+  -- the calculation comes to round i, under w; before it stands the table of the round before; and the steps of the rounds so far go from n to m
+  pub data Comes (n : ℕ) : ℕ → Oracle → Table → ℕ → Type 0 where
+    first : Comes n 0 [] no_table n
+    later : {i m k : ℕ} {w next : Oracle} {before : Table} → Comes n i w before m → (t : Table) → IsTableOf version S w t → Finishes version S (base tables touched before i) i w m k → GoesOn version S i w next → Comes n (suc i) next t k
+
+  -- the steps of all rounds to the answer go from n to m
+  pub record Costs (r : C.Answer) (n m : ℕ) : Type 0 where
+    pub round : ℕ
+    pub oracle : Oracle
+    pub table : Table
+    pub before : ℕ
+    pub comes : Comes n round oracle table before
+    pub ends : Ends version S round oracle r
+    pub last : Last version S r (base tables touched table round) round oracle before m

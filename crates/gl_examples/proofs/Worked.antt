@@ -1,0 +1,20 @@
+-- Sheets, texts and scripts that are worked out by hand.
+pub mod Sheets
+pub mod Examples
+pub mod MoreExamples
+pub mod LateExamples
+pub mod Runs
+pub mod Large
+pub mod Deep
+pub mod Readings
+pub mod Cycles
+pub mod Looks
+pub mod WholeAnswer
+pub mod Few
+pub mod ParseExample
+pub mod TextExamples
+pub mod StateExamples
+pub mod ScriptExamples
+pub mod TableExamples
+pub mod WorkedExplanations
+pub mod WorkedForecasts

@@ -1,4 +1,0 @@
-pub mod Walk
-pub mod Certificate
-pub mod Allowance
-pub mod Laws

@@ -1,2 +1,0 @@
-pub mod Forecast
-pub mod Laws

@@ -1,0 +1,3 @@
+-- What is written.
+pub mod Tables
+pub mod Explanations

@@ -1,0 +1,60 @@
+-- The addresses that a command touches.
+use Rattle.std.specs.Prelude.{List, [], ◌∷◌, ◌++◌, map, Option, Some, None, Bool, true, if◌then◌else◌}
+use Rattle.gl_calculus.specs.Grid.Grid.{Addr, single}
+use Rattle.gl_calculus.specs.Formulas.Formula.{Content, Cells}
+use Rattle.gl_calculus.specs.Edits.Replicas.{Changes, Edit, is_earlier}
+use Rattle.gl_calculus.specs.Edits.Steps.{Step, befores, afters}
+use Rattle.gl_protocol.specs.Scripts.Commands.{Request, Set, Clear, Undo, Redo, Merge}
+use Rattle.gl_calculus.specs.Edits.Sheets.{places_in, with_contents, without}
+use Rattle.gl_protocol.specs.Scripts.Script.{Script, register_of}
+use Rattle.gl_calculus.specs.Edits.Sheets.{coming}
+
+-- ---- changes that are put, and then cleared
+
+abbrev pub and_address : Addr → Option Content → List Addr → List Addr
+and_address a (Some c) ps = ps
+and_address a None ps = a ∷ ps
+
+-- the addresses that lose their contents by changes
+abbrev pub going : Changes → List Addr
+going [] = []
+going (c ∷ cs) = and_address c.0 c.1 (going cs)
+
+-- a sheet without the contents of these addresses, one after the other, and the addresses that had one
+abbrev pub without_these : Cells → List Addr → Cells
+without_these S [] = S
+without_these S (a ∷ ps) = without_these (without S (single a)) ps
+
+abbrev pub cleared : Cells → List Addr → List Addr
+cleared S [] = []
+cleared S (a ∷ ps) = places_in S (single a) ++ cleared (without S (single a)) ps
+
+-- what changes touch that are put all at once, and then cleared one by one
+abbrev pub touched_by_all : Cells → Changes → List Addr
+touched_by_all S cs = map (λ c. c.0) (coming cs) ++ cleared (with_contents S (coming cs)) (going cs)
+
+-- what one change touches
+abbrev pub touched_by_one : Cells → Addr → Option Content → List Addr
+touched_by_one S a (Some c) = a ∷ []
+touched_by_one S a None = places_in S (single a)
+
+-- ---- commands
+
+-- the changes that the latest of these steps is for
+abbrev pub latest_changes : (Step → Changes) → List Step → Changes
+latest_changes f [] = []
+latest_changes f (d ∷ ds) = f d
+
+-- the edit is later than the register of its address, if there is one
+abbrev pub is_later : Option Edit → Edit → Bool
+is_later None e = true
+is_later (Some r) e = is_earlier r.stamp e.stamp
+
+-- the addresses whose content a request sets or removes, where it isn't refused
+abbrev pub touched_by : Script → Request → List Addr
+touched_by s (Set a c) = a ∷ []
+touched_by s (Clear r) = places_in s.sheet r
+touched_by s Undo = touched_by_all s.sheet (latest_changes befores s.history.done)
+touched_by s Redo = touched_by_all s.sheet (latest_changes afters s.history.undone)
+touched_by s (Merge e) = if is_later (register_of s e.place) e then touched_by_one s.sheet e.place e.content else []
+touched_by s x = []

@@ -1,4 +1,0 @@
-pub mod Laws
-pub mod States
-pub mod Rooms
-pub mod Lists

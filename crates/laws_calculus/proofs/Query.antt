@@ -1,0 +1,24 @@
+-- Lemmas of computation by questions, and of the machine of picks.
+pub mod AmongMore
+pub mod Asked
+pub mod Bound
+pub mod Climbing
+pub mod Cost
+pub mod Counts
+pub mod Credit
+pub mod Forming
+pub mod Least
+pub mod Levels
+pub mod Lookups
+pub mod Looping
+pub mod Needs
+pub mod Ordered
+pub mod Orders
+pub mod Proved
+pub mod Quiet
+pub mod Reached
+pub mod Remember
+pub mod Started
+pub mod Steps
+pub mod Tables
+pub mod Walks

@@ -1,0 +1,6 @@
+pub mod Acts
+pub mod FramingLaw
+pub mod States
+pub mod Lists
+pub mod Rooms
+pub mod Replies
