@@ -28,7 +28,7 @@ use Rattle.gl_value.specs.declared.Value.{Value, One}
 use Rattle.gl_demand.specs.Choices.{by_choice, by_replacement}
 use Rattle.gl_funs.specs.Elements.{AreSound}
 use Rattle.gl_demand.specs.Values.{plain_call}
-use Rattle.gl_demand.specs.Walk.{World, Trail, End, walk, then_walk}
+use Rattle.gl_demand.specs.Walk.{Inputs, Trail, End, walk, then_walk}
 use Rattle.gl_demand.specs.Walks.{Walks, trail_tree}
 use Rattle.gl_demand.specs.declared.choosing.Choice.{Choice}
 use Rattle.gl_demand.specs.declared.choosing.Replacement.{Replacement}
@@ -174,7 +174,7 @@ module _ (v : Version) (e : Frame) (bs : E.Bindings) where
 
 -- ---- IF and IFERROR
 
-module _ (w : World) (v : Version) (e : Frame) (bs : E.Bindings) where
+module _ (w : Inputs) (v : Version) (e : Frame) (bs : E.Bindings) where
   -- an error is given
   pub fails_with : (k : ErrKind) (t : Code.Trail) → Walks w (give (V.Value.One (V.Scalar.Err (error_tree k)))) value_tree t (Ok (One (ScalarErr k))) t
   fails_with k t = ap (λ x. (Ready (Ok x), trail_tree t)) (sym (value_tree-One (ScalarErr k) ∙ ap V.Value.One (scalar_tree-Err k)))
@@ -205,7 +205,7 @@ module _ (w : World) (v : Version) (e : Frame) (bs : E.Bindings) where
 
 -- ---- all arguments evaluated, one after another
 
-module _ (w : World) (v : Version) (e : Frame) (bs : E.Bindings) (f : F.Fun) where
+module _ (w : Inputs) (v : Version) (e : Frame) (bs : E.Bindings) (f : F.Fun) where
   -- on with the arguments that are left, behind these values
   abbrev pub behind_values : List Value → List Formula → Eval V.Value
   behind_values out xs = E.all_values (args v e bs xs) >>= λ vs. give (A.apply f (map value_tree out ++ vs))
@@ -216,7 +216,7 @@ module _ (w : World) (v : Version) (e : Frame) (bs : E.Bindings) (f : F.Fun) whe
   abbrev pub on_values : V.Value → List Formula → Eval (List V.Value)
   on_values y xs = E.all_values (args v e bs xs) >>= λ vs. give (y ∷ vs)
 
-  joined : (s : World) (out : List Value) (z : Value) (x : End (Result (List V.Value) Budget))
+  joined : (s : Inputs) (out : List Value) (z : Value) (x : End (Result (List V.Value) Budget))
       → then_walk (then_walk x (λ r u. walk s (on_result (λ vs. give (value_tree z ∷ vs)) r) u)) (λ r u. walk s (on_result (λ vs. give (A.apply f (map value_tree out ++ vs))) r) u)
       ≡ then_walk x (λ r u. walk s (on_result (λ vs. give (A.apply f (map value_tree (out ++ z ∷ []) ++ vs))) r) u)
   joined s out z (Ready (Ok vs), t) = ap (λ l. (Ready (Ok (A.apply f l)), t)) (values_more out z vs)

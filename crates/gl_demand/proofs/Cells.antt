@@ -13,7 +13,7 @@ use Rattle.gl_value.specs.Forms.{value_tree-One, scalar_tree-Blank}
 use Rattle.gl_value.specs.declared.Scalar.{Blank}
 use Rattle.gl_value.specs.declared.Value.{One}
 use Rattle.gl_demand.specs.Cells.{looked_cell}
-use Rattle.gl_demand.specs.Walk.{World, walk, looking}
+use Rattle.gl_demand.specs.Walk.{Inputs, walk, looking}
 use Rattle.gl_demand.specs.Walks.{Walks, trail_tree}
 use Rattle.gl_demand.specs.declared.trail.Trail as Code
 use Rattle.gl_demand.specs.declared.trail.Halt.{Halt}
@@ -25,7 +25,7 @@ blank_tree = sym (value_tree-One Blank ∙ ap V.Value.One scalar_tree-Blank)
 pub blank_sound : IsTrue (is_sound_value (value_tree (One Blank)))
 blank_sound = subst (λ v. IsTrue (is_sound_value v)) blank_tree refl
 
-module _ (w : World) (v : Version) (e : Frame) where
+module _ (w : Inputs) (v : Version) (e : Frame) where
   pub looked_on : {B : Type 0} (held h : Option Held) (a : Addr) (f : B → V.Value) (old mid new : Code.Trail) (r : Result B Halt) → trail_tree mid ≡ looking (single a) (trail_tree old) → held ≡ h
       → Walks w (cell_value v e held) f mid r new → Walks w (looked_cell v e h a) f old r new
   looked_on held h a f old mid new r l i =

@@ -20,13 +20,13 @@ use Rattle.gl_ast.specs.declared.Formula.{Formula}
 use Rattle.gl_ast.specs.declared.Formula.TheVariants as form
 use Rattle.gl_value.specs.View.{value_tree}
 use Rattle.gl_value.specs.declared.Value.{Value}
-use Rattle.gl_demand.specs.Walk.{World, walk}
+use Rattle.gl_demand.specs.Walk.{Inputs, walk}
 use Rattle.gl_demand.specs.Walks.{Walks, trail_tree}
 use Rattle.gl_demand.specs.declared.trail.Trail as Code
 use Rattle.gl_demand.specs.declared.trail.Halt.{Halt}
 use Rattle.gl_demand.proofs.Walking.{Same, now, same_part, same_then, same_on, halts, later}
 
-module _ (w : World) (v : Version) (e : Frame) (bs : E.Bindings) where
+module _ (w : Inputs) (v : Version) (e : Frame) (bs : E.Bindings) where
   abbrev value : F.Formula → Eval V.Value
   value f = E.eval v e bs f
 

@@ -18,12 +18,12 @@ use Rattle.gl_ast.specs.declared.Formula.{Formula}
 use Rattle.gl_ast.specs.declared.Formula.TheVariants as form
 use Rattle.gl_machine.specs.Ahead.Demands.{first_reads, call_reads, begun_reads, argument_reads, operand_reads}
 use Rattle.gl_demand.specs.Passing.{Stands, Passes}
-use Rattle.gl_demand.specs.Walk.{World}
+use Rattle.gl_demand.specs.Walk.{Inputs}
 use Rattle.gl_demand.specs.declared.lacking.Passing.{Passing}
 use Rattle.gl_demand.specs.declared.own_reads.Way.{Way}
 
 -- the same reads
-pub passes_as : (w : World) (e : Frame) (f g : List Addr → List Addr) (old : Way) (r : Result Passing NoMemory) (new : Way) → ((on : List Addr) → f on ≡ g on) → Passes w e g old r new → Passes w e f old r new
+pub passes_as : (w : Inputs) (e : Frame) (f g : List Addr → List Addr) (old : Way) (r : Result Passing NoMemory) (new : Way) → ((on : List Addr) → f on ≡ g on) → Passes w e g old r new → Passes w e f old r new
 passes_as w e f g old (Ok p) new h a = λ all from on s. a all from on (subst (λ z. Stands w e all from (drop old.skip z) old.place) (h on) s)
 passes_as w e f g old (Err n) new h a = tt
 

@@ -12,7 +12,7 @@ use Rattle.gl_ast.specs.View.{formula_tree}
 use Rattle.gl_ast.specs.declared.Formula.{Formula}
 use Rattle.gl_value.specs.View.{value_tree}
 use Rattle.gl_value.specs.declared.Value.{Value}
-use Rattle.gl_demand.specs.Walk.{World, Trail, walk}
+use Rattle.gl_demand.specs.Walk.{Inputs, Trail, walk}
 use Rattle.gl_demand.specs.Walks.{Walks, trail_tree}
 use Rattle.gl_demand.specs.declared.trail.Trail as Code
 use Rattle.gl_demand.specs.declared.trail.Halt.{Halt}
@@ -25,7 +25,7 @@ most_rest μ zero xs = omega arith
 most_rest μ (suc i) [] = omega arith
 most_rest μ (suc i) (x ∷ xs) = let h : most μ (drop i xs) ≤ most μ xs = most_rest μ i xs in omega arith
 
-module _ (w : World) where
+module _ (w : Inputs) where
   -- an update with a value that is evaluated first
   abbrev pub update_on : Frame → E.Argument → E.Argument → V.Value → Eval V.Value
   update_on e a f u = f.eval >>= λ z. E.on_sheet (λ s. E.made (S.update e s (E.written_address a.form) z)) u

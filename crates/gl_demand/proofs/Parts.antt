@@ -1,7 +1,7 @@
 -- Evaluations whose parts are walked one after another.
 use Rattle.std.proofs.Common.{◌≡◌, Result, Ok, Err, IfOk, IfErr, refl, sym, subst}
 use Rattle.gl_calculus.specs.Evaluation.Key.{Eval, give, ◌>>=◌}
-use Rattle.gl_demand.specs.Walk.{World}
+use Rattle.gl_demand.specs.Walk.{Inputs}
 use Rattle.gl_demand.specs.Walks.{Walks}
 use Rattle.gl_demand.specs.declared.trail.Trail.{Trail}
 use Rattle.gl_demand.specs.declared.trail.Halt.{Halt}
@@ -9,7 +9,7 @@ use Rattle.gl_demand.specs.declared.trail.Halt.TheVariants as halt
 use Rattle.gl_demand.proofs.Walking.{goes_on, halts}
 use Rattle.gl_demand.proofs.References.{gives}
 
-module _ (w : World) where
+module _ (w : Inputs) where
   pub one_then : {X Y A B : Type 0} (p : Eval B) (q : Eval A) (g : A → Eval B) (f : X → A) (f' : Y → B) (old mid new : Trail) (x : X) (r : Result Y Halt)
       → p ≡ (q >>= g) → Walks w q f old (Ok x) mid → Walks w (g (f x)) f' mid r new → Walks w p f' old r new
   one_then p q g f f' old mid new x r e a b = subst (λ z. Walks w z f' old r new) (sym e) (goes_on w g q f f' old mid new x r a b)

@@ -14,7 +14,7 @@ use Rattle.laws_calculus.proofs.Ahead.Onward.{past}
 use Rattle.gl_demand.specs.View.{key_tree}
 use Rattle.gl_demand.specs.Lacking.{IsPassing, IsNext}
 use Rattle.gl_demand.specs.Passing.{own_keys_from, Stands, Passes}
-use Rattle.gl_demand.specs.Walk.{World}
+use Rattle.gl_demand.specs.Walk.{Inputs}
 use Rattle.gl_demand.specs.declared.lacking.Lacked.{Lacked}
 use Rattle.gl_demand.specs.declared.lacking.Passing.{Passing}
 use Rattle.gl_demand.specs.declared.lacking.Passing.TheVariants.{On, Lacks, Ends}
@@ -47,7 +47,7 @@ drop_next (x ∷ xs) (suc n) y ys e = let d : suc n + 1 ≡ suc (n + 1) = omega 
 
 -- ---- one part after another
 
-module _ (w : World) (e : Frame) where
+module _ (w : Inputs) (e : Frame) where
   abbrev keys : List Addr → List K.Key
   keys = reads_keys (fact w.cells w.oracle) e
 

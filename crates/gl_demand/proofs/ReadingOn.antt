@@ -16,7 +16,7 @@ use Rattle.gl_lift.proofs.Soundness.{sound_more}
 use Rattle.gl_value.specs.View.{scalar_tree, value_tree, item_trees}
 use Rattle.gl_value.specs.declared.Scalar.{Scalar}
 use Rattle.gl_value.specs.declared.Value.{Value}
-use Rattle.gl_demand.specs.Walk.{World, Trail, walk, then_walk, looking, behind}
+use Rattle.gl_demand.specs.Walk.{Inputs, Trail, walk, then_walk, looking, behind}
 use Rattle.gl_machine.specs.Ahead.Ahead.{IsAhead}
 use Rattle.gl_machine.specs.Ahead.Demands.{is_value}
 use Rattle.gl_machine.specs.Ahead.Reading as A
@@ -33,7 +33,7 @@ use Rattle.gl_demand.proofs.Seeing.{none_seen}
 use Rattle.gl_demand.proofs.References.{gives}
 
 -- What a reference has read so far: its walk goes on with the facts that are left.
-pub record ReadSoFar (w : World) (e : Frame) (all : List Fact) (start : Code.Trail) (roots : List Addr) (before : List Scalar) (rest : List Fact) (now : Code.Trail) : Type 0 where
+pub record ReadSoFar (w : Inputs) (e : Frame) (all : List Fact) (start : Code.Trail) (roots : List Addr) (before : List Scalar) (rest : List Fact) (now : Code.Trail) : Type 0 where
   pub seen : List Fact
   pub are_seen : AreSeen w roots seen
   pub walked : walk w (deref_all e [] all) (trail_tree start) ≡ behind (map scalar_tree before) (walk w (deref_all e seen rest) (trail_tree now))
@@ -41,7 +41,7 @@ pub record ReadSoFar (w : World) (e : Frame) (all : List Fact) (start : Code.Tra
 pub still_sound : (xs ys : List Scalar) (x : Scalar) → ys ≡ xs ++ x ∷ [] → IsTrue (are_sound (item_trees xs)) → IsTrue (is_sound_scalar (scalar_tree x)) → IsTrue (are_sound (item_trees ys))
 still_sound xs ys x e h k = subst (λ zs. IsTrue (are_sound (item_trees zs))) (sym e) (sound_more xs x h k)
 
-module _ (w : World) (e : Frame) where
+module _ (w : Inputs) (e : Frame) where
   module _ (s : List Fact) (x : Fact) (rest : List Fact) where
     abbrev on : Reading → Eval (List V.Scalar)
     on y = deref_all e y.1 rest >>= λ ys. give (y.0 ∷ ys)

@@ -14,7 +14,7 @@ use Rattle.gl_rounds.specs.Answers.{Settles, RunsOut, Breaks, Answers}
 use Rattle.gl_rounds.specs.declared.Settled.{Settled}
 use Rattle.gl_rounds.specs.declared.IterFault.{IterFault}
 use Rattle.gl_rounds.specs.declared.IterFault.TheVariants as fault
-use Rattle.gl_demand.specs.Walk.{World, Trail, walk}
+use Rattle.gl_demand.specs.Walk.{Inputs, Trail, walk}
 use Rattle.gl_demand.specs.Walks.{Walks, trail_tree}
 use Rattle.gl_demand.specs.Blocks.{has_content_in}
 use Rattle.gl_demand.specs.Settling.{region_facts, round_arrays, halt_of}
@@ -37,7 +37,7 @@ no_difference (x ∷ xs) = rw (entry_same x, no_difference xs) refl
 differs : (o p : Oracle) (a : Addr) → first_difference o p ≡ Some a → p ≢ o
 differs o p a h e = let q : None ≡ Some a = sym (no_difference o) ∙ subst (λ u. first_difference o u ≡ Some a) e h in absurd (cc q)
 
-module _ (w : World) (s : SheetValue) where
+module _ (w : Inputs) (s : SheetValue) where
   -- the oracle after these arrays
   abbrev pub next : Sizes → Oracle
   next zs = grant (region s) (has_content_in w.cells s) zs
@@ -67,7 +67,7 @@ module _ (w : World) (s : SheetValue) where
 
 -- ---- all rounds
 
-module _ {S : Type 0} (gives : Oracle → Sizes → Type 0) (fails : Oracle → Halt → Type 0) (calls : Calls S Code.Trail Halt) (w : World) (s : SheetValue) (budget : ℕ) (x : S) (c : Code.Trail)
+module _ {S : Type 0} (gives : Oracle → Sizes → Type 0) (fails : Oracle → Halt → Type 0) (calls : Calls S Code.Trail Halt) (w : Inputs) (s : SheetValue) (budget : ℕ) (x : S) (c : Code.Trail)
     (means : (d : Code.Trail) (o : Oracle) (r : Result Sizes Halt) (y : S) (e : Code.Trail) → calls x d o r y e → (y ≡ x) × Walks w (round_arrays w s o) (λ zs. zs) d r e) (some : 1 ≤ budget) where
   record Reached (i : ℕ) (o : Oracle) (y : S) (d : Code.Trail) : Type 0 where
     same : y ≡ x

@@ -8,7 +8,7 @@ use Rattle.gl_calculus.specs.Evaluation.Facts.{Fact, fact, find_fact}
 use Rattle.gl_calculus.specs.Evaluation.Reference.{seen_or_looked}
 use Rattle.gl_calculus.proofs.Tests.{addr_exact, addr_same}
 use Rattle.laws_calculus.proofs.Calculus.Proper.{fact_at_single}
-use Rattle.gl_demand.specs.Walk.{World, Trail, walk, looking}
+use Rattle.gl_demand.specs.Walk.{Inputs, Trail, walk, looking}
 use Rattle.gl_demand.specs.Seen.{AreSeen}
 
 same_back : (a b : Addr) (c : Bool) → same_addr a b ≡ c → same_addr b a ≡ c
@@ -19,7 +19,7 @@ same_back a b false h = by (same_addr b a) refl
     by true e = sym (subst (λ x. same_addr a x ≡ true) (sym (addr_exact b a e)) (addr_same a)) ∙ h
     by false e = refl
 
-module _ (w : World) where
+module _ (w : Inputs) where
   pub none_seen : AreSeen w [] []
   none_seen a = refl
 

@@ -12,7 +12,7 @@ use Rattle.gl_calculus.specs.Evaluation.Sound.{is_sound_value}
 use Rattle.laws_calculus.proofs.Calculus.Proper.{fact_at_single}
 use Rattle.gl_value.specs.View.{value_tree}
 use Rattle.gl_value.specs.declared.Value.{Value}
-use Rattle.gl_demand.specs.Walk.{World, walk, looking}
+use Rattle.gl_demand.specs.Walk.{Inputs, walk, looking}
 use Rattle.gl_demand.specs.Walks.{Walks, trail_tree}
 use Rattle.gl_demand.specs.declared.trail.Trail.{Trail}
 use Rattle.gl_demand.specs.declared.trail.Halt.{Halt}
@@ -26,7 +26,7 @@ spilling_sound (Some v) h = by (value_tree v) h
     by (V.Value.One y) k = refl
     by (V.Value.Array s xs) k = k
 
-module _ (w : World) (e : Frame) (a : Addr) (old mid new : Trail) where
+module _ (w : Inputs) (e : Frame) (a : Addr) (old mid new : Trail) where
   pub permitted_ok : (h : Held) (v : Option Value) (x : Value) → Walks w (own e (fact w.cells w.oracle a)) (option_map value_tree) old (Ok v) new → value_tree x ≡ spilling (option_map value_tree v) → Walks w (whole e (fact w.cells w.oracle a) (Some h) (Some Permitted)) value_tree old (Ok x) new
   permitted_ok h v x m q = goes_on w (λ o. give (spilling o)) (own e (fact w.cells w.oracle a)) (option_map value_tree) value_tree old new new v (Ok x) m (ap (λ z. (Ready (Ok z), trail_tree new)) (sym q))
 

@@ -11,7 +11,7 @@ use Rattle.gl_calculus.specs.Evaluation.Facts.{Fact, fact, facts}
 use Rattle.gl_calculus.specs.Evaluation.Key.{Budget, Eval, give, on_result, ◌>>=◌}
 use Rattle.gl_calculus.specs.Evaluation.Reference.{Held, own_content, own, value_of}
 use Rattle.gl_calculus.specs.Evaluation.Evaluation.{array_at, arrays}
-use Rattle.gl_demand.specs.Walk.{World, Trail, End, walk, then_walk, behind}
+use Rattle.gl_demand.specs.Walk.{Inputs, Trail, End, walk, then_walk, behind}
 use Rattle.gl_machine.specs.Ahead.Ahead.{IsAhead}
 use Rattle.gl_machine.specs.Ahead.Demands.{is_value}
 use Rattle.gl_machine.specs.Ahead.Reading as A
@@ -30,7 +30,7 @@ use Rattle.gl_demand.proofs.Ordered.{order_first, order_without}
 
 -- ---- one address after another
 
-module _ (w : World) (e : Frame) where
+module _ (w : Inputs) (e : Frame) where
   -- on behind an own value
   abbrev on : Addr → List Fact → Option Value → Eval Sizes
   on a rest v = arrays e rest >>= λ zs. give (array_at a v ++ zs)
@@ -78,7 +78,7 @@ still_in_order zs zs' a v (Err h) g rest o = tt
 
 -- ---- addresses without content have no array
 
-module _ (w : World) (e : Frame) (p : Addr → Bool) (none : (a : Addr) → p a ≡ false → own e (fact w.cells w.oracle a) ≡ give None) where
+module _ (w : Inputs) (e : Frame) (p : Addr → Bool) (none : (a : Addr) → p a ≡ false → own e (fact w.cells w.oracle a) ≡ give None) where
   same_on : (a : Addr) (xs ys : List Fact) (z : End (Result (Option Value) Budget)) → ((u : Trail) → walk w (arrays e xs) u ≡ walk w (arrays e ys) u) → then_walk z (λ r u. walk w (on_result (on w e a xs) r) u) ≡ then_walk z (λ r u. walk w (on_result (on w e a ys) r) u)
   same_on a xs ys (Ready (Ok v), u) h = on_walk w e a xs v u ∙ ap (behind (array_at a v)) (h u) ∙ sym (on_walk w e a ys v u)
   same_on a xs ys (Ready (Err b), u) h = refl
@@ -110,7 +110,7 @@ no_value : (e : Frame) (a : Addr) (h : Option Held) → is_some h ≡ false → 
 no_value e a None h = refl
 no_value e a (Some x) h = absurd (cc h)
 
-module _ (w : World) (s : SheetValue) (o : Oracle) where
+module _ (w : Inputs) (s : SheetValue) (o : Oracle) where
   none_own : (a : Addr) → has_content_in w.cells s a ≡ false → own (In s o) (fact w.cells w.oracle a) ≡ give None
   none_own a h = no_value (In s o) a (own_content (content w.cells a) (In s o) a) (ap is_some (any_oracle (content w.cells a) s o a) ∙ h)
 

@@ -8,7 +8,7 @@ use Rattle.gl_calculus.specs.Evaluation.Facts.{Fact, facts}
 use Rattle.gl_calculus.specs.Evaluation.Key.{Eval}
 use Rattle.gl_calculus.specs.Evaluation.Evaluation.{arrays, rounds, copy_budget}
 use Rattle.gl_demand.specs.View.{key_tree, budget_tree}
-use Rattle.gl_demand.specs.Walk.{World, walk, behind}
+use Rattle.gl_demand.specs.Walk.{Inputs, walk, behind}
 use Rattle.gl_demand.specs.Walks.{EndsWalk, trail_tree}
 use Rattle.gl_demand.specs.declared.trail.Trail.{Trail}
 use Rattle.gl_demand.specs.declared.trail.Halt.{Halt}
@@ -18,29 +18,29 @@ use Rattle.gl_rounds.specs.declared.IterFault.{IterFault}
 use Rattle.gl_rounds.specs.declared.IterFault.TheVariants as fault
 
 -- what the sheet and the oracle of the top say of the region
-abbrev pub region_facts : World → SheetValue → List Fact
+abbrev pub region_facts : Inputs → SheetValue → List Fact
 region_facts w s = facts w.cells w.oracle (region s)
 
 -- the arrays of the round under an oracle
-abbrev pub round_arrays : World → SheetValue → Oracle → Eval Sizes
+abbrev pub round_arrays : Inputs → SheetValue → Oracle → Eval Sizes
 round_arrays w s o = arrays (In s o) (region_facts w s)
 
 -- all rounds
-abbrev pub all_rounds : World → SheetValue → Eval Oracle
+abbrev pub all_rounds : Inputs → SheetValue → Eval Oracle
 all_rounds w s = rounds s (region_facts w s) (copy_budget s (region_facts w s)) []
 
 -- a round under the oracle finds these arrays
-abbrev pub Gives : World → SheetValue → Oracle → Sizes → Type 0
+abbrev pub Gives : Inputs → SheetValue → Oracle → Sizes → Type 0
 Gives w s o zs = found w.known (given (facts w.cells w.oracle) (round_arrays w s o)) ≡ Ready (Ok zs)
 
 -- a round under the oracle halts like this
-abbrev pub Fails : World → SheetValue → Oracle → Halt → Type 0
+abbrev pub Fails : Inputs → SheetValue → Oracle → Halt → Type 0
 Fails w s o (halt.Need k a) = found w.known (given (facts w.cells w.oracle) (round_arrays w s o)) ≡ Need (key_tree k)
 Fails w s o (halt.Spent b) = found w.known (given (facts w.cells w.oracle) (round_arrays w s o)) ≡ Ready (Err (budget_tree b))
 Fails w s o halt.NoMemory = Unit {0}
 
 -- A visit of an address adds its array, if its own value is one: then a walk through it and any further addresses goes on with those, else it halts.
-abbrev pub Visits : World → Frame → Fact → Sizes → Trail → Result (Unit {0}) Halt → Sizes → Trail → Type 0
+abbrev pub Visits : Inputs → Frame → Fact → Sizes → Trail → Result (Unit {0}) Halt → Sizes → Trail → Type 0
 Visits w e x zs old (Ok u) zs' new = (rest : List Fact) → behind zs (walk w (arrays e (x ∷ rest)) (trail_tree old)) ≡ behind zs' (walk w (arrays e rest) (trail_tree new))
 Visits w e x zs old (Err h) zs' new = (rest : List Fact) → EndsWalk {T = Sizes} w (arrays e (x ∷ rest)) (λ ys. ys) old (Err h) new
 

@@ -15,6 +15,7 @@ use Rattle.gl_calculus.specs.Values.Value.{Entry}
 use Rattle.gl_calculus.specs.Evaluation.Facts.{fact, facts}
 use Rattle.gl_calculus.specs.Evaluation.Key.{Key, Cell, Budget, Outcome, Abort}
 use Rattle.gl_calculus.specs.Evaluation.Reference.{own, at_address}
+use Rattle.gl_calculus.specs.Evaluation.World.{World, world}
 use Rattle.gl_calculus.specs.Evaluation.Evaluation.{program}
 
 -- the addresses of the sheet that have content
@@ -51,54 +52,92 @@ pub data Shown : Type 0 where
   Cycle : Shown
   Value : Scalar → Shown
 
-module _ (version : Version) (S : Cells) where
-  -- the outcome of a formula cell of the top sheet under an oracle
-  abbrev pub TopHas : Oracle → Addr → Outcome → Type 0
-  TopHas w a o = Has (program version S w) (Cell Top a) o
+module _ (W : World) where
+  -- the outcome of a formula cell of the top sheet
+  abbrev pub TopHas : Addr → Outcome → Type 0
+  TopHas a o = Has (program W) (Cell Top a) o
 
-  abbrev pub TopLoops : Oracle → Addr → Type 0
-  TopLoops w a = Loops (program version S w) (Cell Top a)
+  abbrev pub TopLoops : Addr → Type 0
+  TopLoops a = Loops (program W) (Cell Top a)
 
   -- the cell loops, or its outcome fails the test
-  abbrev pub TopFails : (Outcome → Bool) → Oracle → Addr → Type 0
-  TopFails test w a = TopLoops w a ⊎ ((o : Outcome) × TopHas w a o × IsFalse (test o))
+  abbrev pub TopFails : (Outcome → Bool) → Addr → Type 0
+  TopFails test a = TopLoops a ⊎ ((o : Outcome) × TopHas a o × IsFalse (test o))
 
   -- the arrays among the values of these formula cells
-  pub data Arrays (w : Oracle) : List Addr → Sizes → Type 0 where
-    none : Arrays w [] []
-    array : {a : Addr} {z : Size} {rest : List Addr} {zs : Sizes} (xs : Scalars) → TopHas w a (Outcome.Value (Array z xs)) → Arrays w rest zs → Arrays w (a ∷ rest) ((a, z) ∷ zs)
-    other : {a : Addr} {rest : List Addr} {zs : Sizes} → TopFails is_array w a → Arrays w rest zs → Arrays w (a ∷ rest) zs
+  pub data Arrays : List Addr → Sizes → Type 0 where
+    none : Arrays [] []
+    array : {a : Addr} {z : Size} {rest : List Addr} {zs : Sizes} (xs : Scalars) →
+        TopHas a (Outcome.Value (Array z xs)) → Arrays rest zs → Arrays (a ∷ rest) ((a, z) ∷ zs)
+    other : {a : Addr} {rest : List Addr} {zs : Sizes} →
+        TopFails is_array a → Arrays rest zs → Arrays (a ∷ rest) zs
 
-  -- the oracle after w: permits are granted anew to the arrays under w
-  abbrev pub IsNext : Oracle → Oracle → Type 0
-  IsNext w next = (zs : Sizes) × Arrays w (formula_addresses S) zs × (next ≡ grant grid (has_content S) zs)
+  -- the oracle of the next round: permits are granted anew to the arrays of this one
+  abbrev pub IsNext : Oracle → Type 0
+  IsNext next =
+      (zs : Sizes) × Arrays (formula_addresses W.sheet) zs ×
+      (next ≡ grant grid (has_content W.sheet) zs)
 
+  -- the keys that a round demands
+  abbrev pub DemandedIn : Key → Type 0
+  DemandedIn = Demanded (program W) (map (Cell Top) (formula_addresses W.sheet))
+
+  abbrev pub SpendsWork : Type 0
+  SpendsWork = MoreThan max_demanded DemandedIn
+
+  -- the first of these formula cells that ends as spent
+  pub data FirstAbort : List Addr → Addr → Budget → Type 0 where
+    here : {a : Addr} {b : Budget} {rest : List Addr} →
+        TopHas a (Abort b) → FirstAbort (a ∷ rest) a b
+    behind : {a c : Addr} {b : Budget} {rest : List Addr} →
+        TopFails is_abort a → FirstAbort rest c b → FirstAbort (a ∷ rest) c b
+
+  -- neither the work of the round nor a budget of a formula cell is spent
+  pub record IsUnspent : Type 0 where
+    pub work : SpendsWork → ⊥
+    pub no_abort : AllByRecursion (TopFails is_abort) (formula_addresses W.sheet)
+
+  -- ---- a consistent oracle, said without the granting of permits
+
+  -- the own value of an address of the top sheet
+  abbrev pub Owns : Addr → V.Value → Type 0
+  Owns a v =
+      Gives (program W) (given (facts W.sheet W.oracle) (own Top (fact W.sheet W.oracle a)))
+      (Ok (Some v))
+
+  pub record IsConsistent : Type 0 where
+    -- one entry for each root, in row-major order
+    pub in_order : IsInOrder W.oracle
+    -- the entries are exactly the contents whose own values are arrays, with their sizes
+    pub entries : (a : Addr) (z : Size) →
+        ((p : Permit) × Member (record { root = a; size = z; permit = p }) W.oracle) ↔
+        ((xs : Scalars) × Owns a (Array z xs))
+    pub permits : ArePermits grid (has_content W.sheet) W.oracle
+
+  -- ---- what an address shows
+
+  pub data IsShown (a : Addr) : Shown → Type 0 where
+    cycle : (f : Formula) → content W.sheet a ≡ Some (Form f) → TopLoops a → IsShown a Cycle
+    value : {x : Scalar} →
+        Gives (program W) (given (facts W.sheet W.oracle) (at_address Top a)) (Ok (One x)) →
+        IsShown a (Shown.Value x)
+    -- a root that loops spills nothing
+    blank : (c : Cover) → content W.sheet a ≡ None → cover W.oracle a ≡ Some c →
+        TopLoops c.root → IsShown a (Shown.Value Blank)
+
+-- ---- rounds
+
+module _ (version : Version) (S : Cells) where
   -- the oracle of round i; that of round 0 is empty
   pub data IsRound : ℕ → Oracle → Type 0 where
     first_round : IsRound 0 []
-    next_round : {i : ℕ} {w next : Oracle} → IsRound i w → IsNext w next → IsRound (suc i) next
-
-  -- the keys that a round demands
-  abbrev pub DemandedIn : Oracle → Key → Type 0
-  DemandedIn w = Demanded (program version S w) (map (Cell Top) (formula_addresses S))
-
-  abbrev pub SpendsWork : Oracle → Type 0
-  SpendsWork w = MoreThan max_demanded (DemandedIn w)
-
-  -- the first of these formula cells that ends as spent
-  pub data FirstAbort (w : Oracle) : List Addr → Addr → Budget → Type 0 where
-    here : {a : Addr} {b : Budget} {rest : List Addr} → TopHas w a (Abort b) → FirstAbort w (a ∷ rest) a b
-    behind : {a c : Addr} {b : Budget} {rest : List Addr} → TopFails is_abort w a → FirstAbort w rest c b → FirstAbort w (a ∷ rest) c b
-
-  -- neither the work of the round nor a budget of a formula cell is spent
-  pub record IsUnspent (w : Oracle) : Type 0 where
-    pub work : SpendsWork w → ⊥
-    pub no_abort : AllByRecursion (TopFails is_abort w) (formula_addresses S)
+    next_round : {i : ℕ} {w next : Oracle} →
+        IsRound i w → IsNext (world version S w) next → IsRound (suc i) next
 
   -- round i under w doesn't end the calculation, and leads to the next oracle
   pub record GoesOn (i : ℕ) (w next : Oracle) : Type 0 where
-    pub unspent : IsUnspent w
-    pub is_next : IsNext w next
+    pub unspent : IsUnspent (world version S w)
+    pub is_next : IsNext (world version S w) next
     pub moves : next ≢ w
     pub not_last : suc i ≢ round_budget S
 
@@ -109,14 +148,18 @@ module _ (version : Version) (S : Cells) where
 
   -- the calculation comes to the round, and the round doesn't spend its work
   abbrev pub IsFinished : ℕ → Oracle → Type 0
-  IsFinished i w = Reaches i w × (SpendsWork w → ⊥)
+  IsFinished i w = Reaches i w × (SpendsWork (world version S w) → ⊥)
 
   -- how round i under w ends the calculation: the first of the cases that holds
   pub data Ends (i : ℕ) (w : Oracle) : Answer → Type 0 where
-    work : SpendsWork w → Ends i w (Spent Work)
-    abort : {a : Addr} {b : Budget} → (SpendsWork w → ⊥) → FirstAbort w (formula_addresses S) a b → Ends i w (Spent (spent_at b a))
-    settled : IsUnspent w → IsNext w w → Ends i w (Settled w (suc i))
-    rounds : {a : Addr} (next : Oracle) → IsUnspent w → IsNext w next → first_difference w next ≡ Some a → suc i ≡ round_budget S → Ends i w (Spent (Rounds a))
+    work : SpendsWork (world version S w) → Ends i w (Spent Work)
+    abort : {a : Addr} {b : Budget} → (SpendsWork (world version S w) → ⊥) →
+        FirstAbort (world version S w) (formula_addresses S) a b → Ends i w (Spent (spent_at b a))
+    settled : IsUnspent (world version S w) → IsNext (world version S w) w →
+        Ends i w (Settled w (suc i))
+    rounds : {a : Addr} (next : Oracle) → IsUnspent (world version S w) →
+        IsNext (world version S w) next → first_difference w next ≡ Some a →
+        suc i ≡ round_budget S → Ends i w (Spent (Rounds a))
 
   -- the answer of the calculation
   pub record IsAnswer (r : Answer) : Type 0 where
@@ -124,27 +167,6 @@ module _ (version : Version) (S : Cells) where
     pub oracle : Oracle
     pub reached : Reaches round oracle
     pub ends : Ends round oracle r
-
-  -- ---- a consistent oracle, said without the granting of permits
-
-  -- the own value of an address of the top sheet
-  abbrev pub Owns : Oracle → Addr → V.Value → Type 0
-  Owns w a v = Gives (program version S w) (given (facts S w) (own Top (fact S w a))) (Ok (Some v))
-
-  pub record IsConsistent (w : Oracle) : Type 0 where
-    -- one entry for each root, in row-major order
-    pub in_order : IsInOrder w
-    -- the entries are exactly the contents whose own values are arrays, with their sizes
-    pub entries : (a : Addr) (z : Size) → ((p : Permit) × Member (record { root = a; size = z; permit = p }) w) ↔ ((xs : Scalars) × Owns w a (Array z xs))
-    pub permits : ArePermits grid (has_content S) w
-
-  -- ---- what an address shows
-
-  pub data IsShown (w : Oracle) (a : Addr) : Shown → Type 0 where
-    cycle : (f : Formula) → content S a ≡ Some (Form f) → TopLoops w a → IsShown w a Cycle
-    value : {x : Scalar} → Gives (program version S w) (given (facts S w) (at_address Top a)) (Ok (One x)) → IsShown w a (Shown.Value x)
-    -- a root that loops spills nothing
-    blank : (c : Cover) → content S a ≡ None → cover w a ≡ Some c → TopLoops w c.root → IsShown w a (Shown.Value Blank)
 
 -- ---- why a root has its permit
 

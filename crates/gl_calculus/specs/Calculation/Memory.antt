@@ -14,6 +14,7 @@ use Rattle.gl_calculus.specs.Formulas.Formula.{Version, Cells}
 use Rattle.gl_calculus.specs.Formulas.Formula as F
 use Rattle.gl_calculus.specs.Evaluation.Oracle.{status, Cover, cover}
 use Rattle.gl_calculus.specs.Evaluation.Key.{Key, same_key, Outcome}
+use Rattle.gl_calculus.specs.Evaluation.World.{World, world}
 use Rattle.gl_calculus.specs.Evaluation.Evaluation.{program}
 use Rattle.gl_calculus.specs.Calculation.Calculation.{DemandedIn, IsFinished}
 
@@ -26,8 +27,8 @@ pub record Table : Type 0 where
   pub notes : Notes
 
 -- the note says what the evaluation of its key is
-abbrev pub IsTrueNote : Version → Cells → Oracle → Note Key Outcome Range → Type 0
-IsTrueNote version S w n = IsNote same_key (program version S w) n.key n.outcome n.reads n.looked
+abbrev pub IsTrueNote : World → Note Key Outcome Range → Type 0
+IsTrueNote W n = IsNote same_key (program W) n.key n.outcome n.reads n.looked
 
 abbrev pub same_status : Option Permit → Option Permit → Bool
 same_status None None = true
@@ -72,18 +73,22 @@ before_round (suc i) before = Some before
 abbrev pub base : List Table → List Addr → (before : Table) → (round : ℕ) → Table × List Addr
 base tables touched before round = base_by (slice_get tables round) touched (before_round round before)
 
--- The table says of the round under w all that is to be remembered: exactly the demanded keys that have an outcome, each once, each with its outcome, reads and looked ranges.
-pub record IsTableOf (version : Version) (S : Cells) (w : Oracle) (t : Table) : Type 0 where
-  pub oracle : t.oracle ≡ w
+-- The table says of a round all that is to be remembered: exactly the demanded keys that have an
+-- outcome, each once, each with its outcome, reads and looked ranges.
+pub record IsTableOf (W : World) (t : Table) : Type 0 where
+  pub oracle : t.oracle ≡ W.oracle
   pub distinct : AreDistinct (note_keys t.notes)
-  pub true_notes : (n : Note Key Outcome Range) → Member n t.notes → IsTrueNote version S w n
-  pub demanded : (k : Key) → Member k (note_keys t.notes) → DemandedIn version S w k
-  pub complete : (k : Key) (o : Outcome) → DemandedIn version S w k → Has (program version S w) k o → Member k (note_keys t.notes)
+  pub true_notes : (n : Note Key Outcome Range) → Member n t.notes → IsTrueNote W n
+  pub demanded : (k : Key) → Member k (note_keys t.notes) → DemandedIn W k
+  pub complete : (k : Key) (o : Outcome) → DemandedIn W k → Has (program W) k o →
+      Member k (note_keys t.notes)
 
 -- The tables are those of the finished rounds of a calculation, in order, as far as tables are kept.
 pub record AreTables (version : Version) (S : Cells) (tables : List Table) : Type 0 where
-  pub each : (i : ℕ) (t : Table) → slice_get tables i ≡ Some t → (w : Oracle) × IsFinished version S i w × IsTableOf version S w t
-  pub all : (i : ℕ) (w : Oracle) → IsFinished version S i w → i < kept_rounds → (t : Table) × (slice_get tables i ≡ Some t)
+  pub each : (i : ℕ) (t : Table) → slice_get tables i ≡ Some t →
+      (w : Oracle) × IsFinished version S i w × IsTableOf (world version S w) t
+  pub all : (i : ℕ) (w : Oracle) → IsFinished version S i w → i < kept_rounds →
+      (t : Table) × (slice_get tables i ≡ Some t)
   pub few : length tables ≤ kept_rounds
 
 -- what a calculation remembers: the sheet, the answer that it holds with the version of it, the tables of the first rounds, and the addresses touched since they were made

@@ -8,7 +8,7 @@ use Rattle.gl_calculus.specs.Values.ErrKind.{ErrKind}
 use Rattle.gl_calculus.specs.Values.Value.{Oracle, Scalar, Blank, Value, One, Array, SheetValue, Frame, Top, In, region}
 use Rattle.gl_calculus.specs.Values.Sheet.{Made, Outside, Deep, Heavy, sheet, update}
 use Rattle.gl_calculus.specs.Values.Same.{same_oracle}
-use Rattle.gl_calculus.specs.Formulas.Formula.{Version, Formula, Formulas, Operands, Fun, Cells}
+use Rattle.gl_calculus.specs.Formulas.Formula.{Version, Formula, Formulas, Operands, Fun}
 use Rattle.gl_calculus.specs.Formulas.Formula as F
 use Rattle.gl_calculus.specs.Evaluation.Oracle.{Sizes, grant}
 use Rattle.gl_calculus.specs.Evaluation.Facts.{Fact, facts, fact_at}
@@ -16,6 +16,7 @@ use Rattle.gl_calculus.specs.Values.Operators.{negate, compare, operate}
 use Rattle.gl_calculus.specs.Values.Lift.{lift1, lift2, lift3}
 use Rattle.gl_calculus.specs.Values.Functions.{apply}
 use Rattle.gl_calculus.specs.Evaluation.Key.{Key, Cell, Settle, Depth, CopyRounds, Outcome, Eval, give, stop, ◌>>=◌, settled_oracle, as_value, as_settled}
+use Rattle.gl_calculus.specs.Evaluation.World.{World}
 use Rattle.gl_calculus.specs.Evaluation.Reference.{Held, Given, Computed, own_content, own, at_address, at_range, spill_of}
 
 -- ---- sheet values
@@ -228,6 +229,6 @@ unfoldable pub evaluation : Version → Key → Evaluation Key Outcome Range (Li
 evaluation version (Cell e a) = LookAt (single a) (λ xs. bind (cell_value version e (own_content (fact_at xs a).content e a)) (λ r. Done (as_value r)))
 evaluation version (Settle s) = LookAt (region s) (λ xs. bind (rounds s xs (copy_budget s xs) []) (λ r. Done (as_settled r)))
 
--- the same where a sheet and an oracle give the facts
-unfoldable pub program : Version → Cells → Oracle → Key → Query Key Outcome Range Outcome
-program version S w k = given (facts S w) (evaluation version k)
+-- the same where the sheet and the oracle of a world give the facts
+unfoldable pub program : World → Key → Query Key Outcome Range Outcome
+program W k = given (facts W.sheet W.oracle) (evaluation W.version k)

@@ -7,15 +7,16 @@ use Rattle.gl_calculus.specs.Grid.Grid.{Addr}
 use Rattle.gl_calculus.specs.Values.Value as V
 use Rattle.gl_calculus.specs.Values.Value.{Scalar, Blank, Oracle, Top}
 use Rattle.gl_calculus.specs.Values.Same.{same_scalar}
-use Rattle.gl_calculus.specs.Formulas.Formula.{Version, Content, Const, Form, Cells, content}
+use Rattle.gl_calculus.specs.Formulas.Formula.{Content, Const, Form, Cells, content}
 use Rattle.gl_calculus.specs.Evaluation.Oracle.{status, Cover, cover}
 use Rattle.gl_calculus.specs.Evaluation.Key.{Key, Cell, Settle, same_key, Budget, Outcome, Abort}
 use Rattle.gl_calculus.specs.Evaluation.SameOutcome.{same_outcome}
 use Rattle.gl_calculus.specs.Evaluation.Reference.{own_content, is_computed, shown, spilled}
+use Rattle.gl_calculus.specs.Evaluation.World.{World}
 use Rattle.gl_calculus.specs.Evaluation.Evaluation.{program}
 use Rattle.gl_calculus.specs.Calculation.Calculation.{Shown, Cycle, Value}
-use Rattle.gl_calculus.specs.Explanation.Walk as W
-use Rattle.gl_calculus.specs.Explanation.Walk.{Claim, noted, Walked, Explained, Exhausted, IsWalk}
+use Rattle.gl_calculus.specs.Explanation.Walk.{Claim, noted, first_stray, first_free}
+use Rattle.gl_calculus.specs.Explanation.Walk.{Walked, Explained, Exhausted, IsWalk}
 
 -- ---- what notes say of an address
 
@@ -118,12 +119,12 @@ judged None None false = Wrong
 
 -- accepted; or the first note that doesn't follow from those before it; or else the first loop that
 -- doesn't wait for one of them; or else wrong
-abbrev pub verdict : Version → Cells → Oracle → Addr → Certificate → Verdict
-verdict version S w a c =
+abbrev pub verdict : World → Addr → Certificate → Verdict
+verdict W a c =
     judged
-    (W.first_stray same_key same_outcome (is_proper S) (program version S w) [] c.notes)
-    (W.first_free same_key same_outcome (is_proper S) (program version S w) c.notes c.loops c.loops)
-    (says_so c.shown (says S w a c.notes c.loops))
+    (first_stray same_key same_outcome (is_proper W.sheet) (program W) [] c.notes)
+    (first_free same_key same_outcome (is_proper W.sheet) (program W) c.notes c.loops c.loops)
+    (says_so c.shown (says W.sheet W.oracle a c.notes c.loops))
 
 -- ---- the certificate of the walk
 
@@ -139,17 +140,18 @@ abbrev pub start : Option Key → List Key
 start None = []
 start (Some k) = k ∷ []
 
-module _ (version : Version) (S : Cells) (w : Oracle) (a : Addr) where
+module _ (W : World) (a : Addr) where
   -- the walk from the key that decides finds this
   abbrev pub IsWalked : Walked Key Outcome → Type 0
-  IsWalked r = IsWalk same_key max_demanded (program version S w) (start (key_at S w a)) r
+  IsWalked r =
+      IsWalk same_key max_demanded (program W) (start (key_at W.sheet W.oracle a)) r
 
   -- how the walk explains the address
   pub data Explains : Answer → Type 0 where
     work : IsWalked Exhausted → Explains Work
     aborts : {k : Key} {b : Budget} {notes : List (Claim Key Outcome)} {loops : List Key} →
-        IsWalked (Explained notes loops) → key_at S w a ≡ Some k →
+        IsWalked (Explained notes loops) → key_at W.sheet W.oracle a ≡ Some k →
         noted same_key notes k ≡ Some (Abort b) → Explains (Aborts b)
     cert : {notes : List (Claim Key Outcome)} {loops : List Key} {x : Shown} →
-        IsWalked (Explained notes loops) → says S w a notes loops ≡ Some x →
+        IsWalked (Explained notes loops) → says W.sheet W.oracle a notes loops ≡ Some x →
         Explains (Cert (record { notes = notes; loops = loops; shown = x }))

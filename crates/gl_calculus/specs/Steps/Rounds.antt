@@ -3,6 +3,7 @@ use Rattle.std.specs.Prelude.{ℕ, suc, List, [], false}
 use Rattle.gl_calculus.specs.Grid.Grid.{Addr}
 use Rattle.gl_calculus.specs.Values.Value.{Oracle}
 use Rattle.gl_calculus.specs.Formulas.Formula.{Version, Cells}
+use Rattle.gl_calculus.specs.Evaluation.World.{World, world}
 use Rattle.gl_calculus.specs.Evaluation.Evaluation.{program}
 use Rattle.gl_calculus.specs.Calculation.Calculation as C
 use Rattle.gl_calculus.specs.Calculation.Calculation.{GoesOn, Ends}
@@ -11,20 +12,24 @@ use Rattle.gl_calculus.specs.Steps.Costs.{IsAnew, Finishes}
 use Rattle.gl_calculus.specs.Steps.Demanded.{AllowsDemanded}
 
 -- the steps of a round that spends its work, begun with a table and with what was touched since
-abbrev pub Breaks : Version → Cells → Table × List Addr → Oracle → ℕ → ℕ → Type 0
-Breaks version S b w n m = AllowsDemanded (IsAnew version S b w) (program version S w) (λ k. false) n m
+abbrev pub Breaks : World → Table × List Addr → ℕ → ℕ → Type 0
+Breaks W b n m = AllowsDemanded (IsAnew W b) (program W) (λ k. false) n m
 
 -- the steps of the last round, by the answer
-abbrev pub Last : Version → Cells → C.Answer → Table × List Addr → ℕ → Oracle → ℕ → ℕ → Type 0
-Last version S (C.Settled v rounds) b i w = Finishes version S b i w
-Last version S (C.Spent C.Work) b i w = Breaks version S b w
-Last version S (C.Spent k) b i w = Finishes version S b i w
+abbrev pub Last : World → C.Answer → Table × List Addr → ℕ → ℕ → ℕ → Type 0
+Last W (C.Settled v rounds) b i = Finishes W b i
+Last W (C.Spent C.Work) b i = Breaks W b
+Last W (C.Spent k) b i = Finishes W b i
 
 module _ (version : Version) (S : Cells) (tables : List Table) (touched : List Addr) where
-  -- the calculation comes to round i, under w; before it stands the table of the round before; and the steps of the rounds so far go from n to m
+  -- the calculation comes to round i, under w; before it stands the table of the round before; and
+  -- the steps of the rounds so far go from n to m
   pub data Comes (n : ℕ) : ℕ → Oracle → Table → ℕ → Type 0 where
     first : Comes n 0 [] no_table n
-    later : {i m k : ℕ} {w next : Oracle} {before : Table} → Comes n i w before m → (t : Table) → IsTableOf version S w t → Finishes version S (base tables touched before i) i w m k → GoesOn version S i w next → Comes n (suc i) next t k
+    later : {i m k : ℕ} {w next : Oracle} {before : Table} → Comes n i w before m →
+        (t : Table) → IsTableOf (world version S w) t →
+        Finishes (world version S w) (base tables touched before i) i m k →
+        GoesOn version S i w next → Comes n (suc i) next t k
 
   -- the steps of all rounds to the answer go from n to m
   pub record Costs (r : C.Answer) (n m : ℕ) : Type 0 where
@@ -34,4 +39,4 @@ module _ (version : Version) (S : Cells) (tables : List Table) (touched : List A
     pub before : ℕ
     pub comes : Comes n round oracle table before
     pub ends : Ends version S round oracle r
-    pub last : Last version S r (base tables touched table round) round oracle before m
+    pub last : Last (world version S oracle) r (base tables touched table round) round before m
