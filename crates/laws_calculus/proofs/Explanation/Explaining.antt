@@ -20,7 +20,7 @@ use Rattle.laws_calculus.proofs.Calculus.Proper.{asks_proper}
 use Rattle.laws_calculus.proofs.Calculus.Settles.{formula_listed}
 use Rattle.gl_calculus.specs.Evaluation.SameOutcome.{same_outcome}
 use Rattle.laws_calculus.proofs.Calculus.OutcomeTests.{outcome_equality}
-use Rattle.gl_calculus.specs.Explanation.Walk as W
+use Rattle.gl_calculus.specs.Explanation.Walk
 use Rattle.gl_calculus.specs.Explanation.Walk.{Claim, noted, first_stray, first_free, Walked, Explained, Exhausted}
 use Rattle.gl_calculus.specs.Explanation.Certificate as Ce
 use Rattle.gl_calculus.specs.Explanation.Certificate.{same_shown, is_proper, key_at, key_by, formula_key, covering_key, says, says_so, shown_by_key, shown_by_note, value_shown, element_shown, loop_shown, constant_shown, Accepted, judged, verdict, Answer, work, aborts, cert, start}
@@ -161,13 +161,13 @@ module _ (version : Version) (S : Cells) (w : Oracle) (a : Addr) where
       Wa.Found' same_key same_outcome (is_proper S) max_demanded (program version S w) key_equality outcome_equality (λ k. asks_test S (asks_proper S w version k)) k (root_proper S w a k e) r
   finds k e r (n, h) =
       Wa.walk_finds same_key same_outcome (is_proper S) max_demanded (program version S w) key_equality outcome_equality (λ k. asks_test S (asks_proper S w version k)) k (root_proper S w a k e) n r
-      (subst (λ o. W.walk same_key max_demanded (program version S w) n [] (start o) ≡ Some r) e h)
+      (subst (λ o. Walk.walk same_key max_demanded (program version S w) n [] (start o) ≡ Some r) e h)
 
   -- where there is none
   finds_nothing : key_at S w a ≡ None → (r : Walked Key Outcome) → Ce.IsWalked version S w a r → r ≡ Explained [] []
-  finds_nothing e r (n, h) = by n (subst (λ o. W.walk same_key max_demanded (program version S w) n [] (start o) ≡ Some r) e h)
+  finds_nothing e r (n, h) = by n (subst (λ o. Walk.walk same_key max_demanded (program version S w) n [] (start o) ≡ Some r) e h)
     where
-      by : (n : ℕ) → W.walk same_key max_demanded (program version S w) n [] [] ≡ Some r → r ≡ Explained [] []
+      by : (n : ℕ) → Walk.walk same_key max_demanded (program version S w) n [] [] ≡ Some r → r ≡ Explained [] []
       by zero z = absurd (cc z)
       by (suc n) z = cc z
 
