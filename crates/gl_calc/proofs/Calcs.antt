@@ -16,6 +16,7 @@ use Rattle.laws_calculus.proofs.Calculus.Settles.{array_order}
 use Rattle.gl_calc.proofs.Formulas.{formulas_in_order}
 use Rattle.laws_calculus.proofs.Calculus.Proved.{grant_gives_permits}
 use Rattle.gl_calculus.specs.Edits.Sheets.{with_content, with_contents, without, places_in}
+use Rattle.gl_calculus.specs.Evaluation.World.{world}
 use Rattle.laws_calculus.proofs.SheetEdits.SheetChanges.{sets_these, clears_these}
 use Rattle.gl_ast.specs.View.{version_tree}
 use Rattle.gl_ast.specs.declared.Version.{Version}
@@ -117,7 +118,7 @@ reached_apart : (version : F.Version) (S : Cells) → IsSheet S → (i : ℕ) (w
 reached_apart version S o _ _ C.Reaches.first = λ x y m n s t e. absurd m
 reached_apart version S o _ _ (C.Reaches.later {w = v} {next = w} r g) =
     let (zs, a, e) = g.is_next in
-    let sizes = array_order version S v (formula_addresses S) zs a (formulas_in_order S o) in
+    let sizes = array_order (world version S v) (formula_addresses S) zs a (formulas_in_order S o) in
     subst AreApart (sym e) (apart grid (has_content S) (grant grid (has_content S) zs) (grant_gives_permits grid (has_content S) zs sizes).1)
 
 slice_of : {X : Type 0} (xs : List X) (x : X) → Member x xs → (j : ℕ) × (slice_get xs j ≡ Some x)
@@ -129,7 +130,7 @@ tables_earlier : (version : F.Version) (S : Cells) → IsSheet S → (tables : L
 tables_earlier version S o tables a t m =
     let (j, e) = slice_of tables t m in
     let (w, f, h) = a.each j t e in
-    table_earlier version S w t (reached_apart version S o j w f.0) h
+    table_earlier (world version S w) t (reached_apart version S o j w f.0) h
 
 module _ (version : Version) (S : Cells) (before : List Table) (touched : List Addr) (x : Ended) (n m : ℕ) (o : IsSheet S) (ends : EndsWith (version_tree version) S before touched x n m) (r : Option Answered) where
   abbrev left : Option Answered

@@ -14,6 +14,7 @@ use Rattle.gl_calculus.specs.Formulas.Formula.{Version, Cells, formula_addresses
 use Rattle.gl_calculus.specs.Grid.Limits.{kept_rounds}
 use Rattle.gl_calculus.specs.Evaluation.Oracle.{Sizes}
 use Rattle.gl_calculus.specs.Evaluation.Key.{Key, Cell, same_key, Outcome}
+use Rattle.gl_calculus.specs.Evaluation.World.{World, world}
 use Rattle.gl_calculus.specs.Evaluation.Evaluation.{program}
 use Rattle.gl_calculus.specs.Calculation.Calculation.{DemandedIn, SpendsWork}
 use Rattle.gl_calculus.specs.Calculation.Differences.{AreApart}
@@ -62,7 +63,7 @@ module _ (version : Version) (S : Cells) (touched : List Addr) (p : Progress) (h
       by (t ∷ ts) e = h.earlier t (subst (Member t) (sym e) (inl refl))
 
   -- what is kept of it is true
-  pub kept_true : (w : Oracle) (kept : Notes) → AreKept (next_base p touched) w kept → AreTrue same_key (program version S w) kept
+  pub kept_true : (w : Oracle) (kept : Notes) → AreKept (next_base p touched) w kept → AreTrue same_key (program (world version S w)) kept
   kept_true w kept k =
       let b = next_base p touched in
       let e = base_earlier in
@@ -80,11 +81,11 @@ module _ (version : Version) (S : Cells) (touched : List Addr) (p : Progress) (h
       rest_member (y ∷ ts) x m = inr m
 
 -- a table of the sheet is one with which rounds may begin
-pub table_earlier : (version : Version) (S : Cells) (w : Oracle) (t : Table) → AreApart w → IsTableOf version S w t → IsEarlier version S (t, [])
-table_earlier version S w t a h = record {
-  cells = S;
+pub table_earlier : (W : World) (t : Table) → AreApart W.oracle → IsTableOf W t → IsEarlier W.version W.sheet (t, [])
+table_earlier W t a h = record {
+  cells = W.sheet;
   same = λ b f. refl;
-  true_notes = subst (λ v. AreTrue same_key (program version S v) t.notes) (sym h.oracle) h.true_notes;
+  true_notes = subst (λ v. AreTrue same_key (program (world W.version W.sheet v)) t.notes) (sym h.oracle) h.true_notes;
   apart = subst AreApart (sym h.oracle) a;
 }
 
@@ -102,7 +103,7 @@ kept_ready version S touched p q w a h k = record {
 }
   where
     here : IsEarlier version S (k.table, [])
-    here = table_earlier version S w k.table a k.is_table
+    here = table_earlier (world version S w) k.table a k.is_table
 
     of_last : (x : Table) → Member x p.made ⊎ (x ≡ k.table) → IsEarlier version S (x, [])
     of_last x (inl n) = h.made x n
@@ -121,22 +122,22 @@ set_again version S places touched ranges p q h r = record { all = h.all; few = 
 
 -- ---- what it gives
 
-module _ (version : Version) (S : Cells) (w : Oracle) where
+module _ (W : World) where
   -- each formula is demanded
-  pub all_demanded : (places : List Addr) → places ≡ formula_addresses S → (a : Addr) → Member a places → DemandedIn version S w (Cell Top a)
-  all_demanded places e a m = Seed (key_member (formula_addresses S) a (subst (λ bs. Member a bs) e m))
+  pub all_demanded : (places : List Addr) → places ≡ formula_addresses W.sheet → (a : Addr) → Member a places → DemandedIn W (Cell Top a)
+  all_demanded places e a m = Seed (key_member (formula_addresses W.sheet) a (subst (λ bs. Member a bs) e m))
 
-  pub gives : (places : List Addr) (zs : Sizes) → places ≡ formula_addresses S → (SpendsWork version S w → ⊥) → Collects version S w places (Ok zs) → Gives version S w zs
-  gives places zs e few c = (let d = subst (λ bs. Collects version S w bs (Ok zs)) e c in (record { work = few; no_abort = d.1 }, d.0))
+  pub gives : (places : List Addr) (zs : Sizes) → places ≡ formula_addresses W.sheet → (SpendsWork W → ⊥) → Collects W places (Ok zs) → Gives W zs
+  gives places zs e few c = (let d = subst (λ bs. Collects W bs (Ok zs)) e c in (record { work = few; no_abort = d.1 }, d.0))
 
-  fails_by : (e : RoundFault) → (SpendsWork version S w → ⊥) → Collects version S w (formula_addresses S) (Err e) → Fails version S w e
+  fails_by : (e : RoundFault) → (SpendsWork W → ⊥) → Collects W (formula_addresses W.sheet) (Err e) → Fails W e
   fails_by fault.Work few c = absurd c
   fails_by (fault.Depth a) few c = (few, c)
   fails_by (fault.CopyRounds a) few c = (few, c)
   fails_by fault.NoMemory few c = tt
 
-  pub fails : (places : List Addr) (e : RoundFault) → places ≡ formula_addresses S → (SpendsWork version S w → ⊥) → Collects version S w places (Err e) → Fails version S w e
-  fails places e p few c = fails_by e few (subst (λ bs. Collects version S w bs (Err e)) p c)
+  pub fails : (places : List Addr) (e : RoundFault) → places ≡ formula_addresses W.sheet → (SpendsWork W → ⊥) → Collects W places (Err e) → Fails W e
+  fails places e p few c = fails_by e few (subst (λ bs. Collects W bs (Err e)) p c)
 
 -- ---- what is kept of it
 
@@ -145,42 +146,42 @@ note_of [] k m = absurd m
 note_of (n ∷ ns) k (inl e) = (n, inl refl, sym e)
 note_of (n ∷ ns) k (inr m) = let (x, i, e) = note_of ns k m in (x, inr i, e)
 
-pub finished_table : (version : Version) (S : Cells) (w v : Oracle) (q : Held) (notes : Notes) → v ≡ w → IsEvaluated version S w q →
-    ((u : Version) (T : Cells) (x : Oracle) → IsFor u T x q → IsQuiet same_key (program u T x) (seeds_of q) (state_of q) → AreTheNotes (program u T x) (seeds_of q) notes) →
-    IsTableOf version S w (record { oracle = v; notes = notes })
+pub finished_table : (version : Version) (S : Cells) (w v : Oracle) (q : Held) (notes : Notes) → v ≡ w → IsEvaluated (world version S w) q →
+    ((u : Version) (T : Cells) (x : Oracle) → IsFor (world u T x) q → IsQuiet same_key (program (world u T x)) (seeds_of q) (state_of q) → AreTheNotes (program (world u T x)) (seeds_of q) notes) →
+    IsTableOf (world version S w) (record { oracle = v; notes = notes })
 finished_table version S w v q notes e h f =
-    let n = f version S w h.started.for_it (subst (λ ks. IsQuiet same_key (program version S w) ks (state_of q)) (sym h.started.seeds) h.round) in
+    let n = f version S w h.started.for_it (subst (λ ks. IsQuiet same_key (program (world version S w)) ks (state_of q)) (sym h.started.seeds) h.round) in
     record {
       oracle = e;
       distinct = n.apart;
       true_notes = λ x m. (n.each x m).1;
-      demanded = λ k m. (let (x, i, d) = note_of notes k m in subst (DemandedIn version S w) d (subst (λ ks. Demanded (program version S w) ks x.key) h.started.seeds (n.each x i).0));
-      complete = λ k o d g. (let (x, i, j) = noted_note notes k (n.all k o (subst (λ ks. Demanded (program version S w) ks k) (sym h.started.seeds) d) g) in subst (λ y. Member y (note_keys notes)) j (key_of notes x i));
+      demanded = λ k m. (let (x, i, d) = note_of notes k m in subst (DemandedIn (world version S w)) d (subst (λ ks. Demanded (program (world version S w)) ks x.key) h.started.seeds (n.each x i).0));
+      complete = λ k o d g. (let (x, i, j) = noted_note notes k (n.all k o (subst (λ ks. Demanded (program (world version S w)) ks k) (sym h.started.seeds) d) g) in subst (λ y. Member y (note_keys notes)) j (key_of notes x i));
     }
 
 -- ---- by the answer of the sizes
 
 module _ (w : Oracle) (places : List Addr) (q : Held) where
   abbrev Collected : Result Sizes RoundFault → Type 0
-  Collected r = (version : Version) (S : Cells) (v : Oracle) → IsRound version S v (state_of q) → StandFirst places (state_of q) → AreDistinct (keys (state_of q))
-      → ((a : Addr) → Member a places → DemandedIn version S v (Cell Top a)) → Collects version S v places r
+  Collected r = (version : Version) (S : Cells) (v : Oracle) → IsRound (world version S v) (state_of q) → StandFirst places (state_of q) → AreDistinct (keys (state_of q))
+      → ((a : Addr) → Member a places → DemandedIn (world version S v) (Cell Top a)) → Collects (world version S v) places r
 
-  collects : (r : Result Sizes RoundFault) → Collected r → (version : Version) (S : Cells) → IsEvaluated version S w q → places ≡ formula_addresses S → Collects version S w places r
+  collects : (r : Result Sizes RoundFault) → Collected r → (version : Version) (S : Cells) → IsEvaluated (world version S w) q → places ≡ formula_addresses S → Collects (world version S w) places r
   collects r h version S e p =
       let first = stand_first q.seeds places (state_of q) (e.started.seeds ∙ sym (ap (map (Cell Top)) p)) in
-      h version S w e.round first e.started.for_it.sound.apart (all_demanded version S w places p)
+      h version S w e.round first e.started.for_it.sound.apart (all_demanded (world version S w) places p)
 
-  pub sizes_given : (r : Result Sizes RoundFault) → Collected r → IfOk r (λ zs. (version : Version) (S : Cells) → IsEvaluated version S w q → places ≡ formula_addresses S → Gives version S w zs)
-  sizes_given (Ok zs) h = λ version S e p. gives version S w places zs p e.finished (collects (Ok zs) h version S e p)
+  pub sizes_given : (r : Result Sizes RoundFault) → Collected r → IfOk r (λ zs. (version : Version) (S : Cells) → IsEvaluated (world version S w) q → places ≡ formula_addresses S → Gives (world version S w) zs)
+  sizes_given (Ok zs) h = λ version S e p. gives (world version S w) places zs p e.finished (collects (Ok zs) h version S e p)
   sizes_given (Err f) h = tt
 
-  pub sizes_failed : (r : Result Sizes RoundFault) → Collected r → IfErr r (λ f. (version : Version) (S : Cells) → IsEvaluated version S w q → places ≡ formula_addresses S → Fails version S w f)
+  pub sizes_failed : (r : Result Sizes RoundFault) → Collected r → IfErr r (λ f. (version : Version) (S : Cells) → IsEvaluated (world version S w) q → places ≡ formula_addresses S → Fails (world version S w) f)
   sizes_failed (Ok zs) h = tt
-  sizes_failed (Err f) h = λ version S e p. fails version S w places f p e.finished (collects (Err f) h version S e p)
+  sizes_failed (Err f) h = λ version S e p. fails (world version S w) places f p e.finished (collects (Err f) h version S e p)
 
-  pub sizes_finished : (r : Result Sizes RoundFault) → Collected r → IfErr r (λ f. f ≡ fault.Work → (version : Version) (S : Cells) → IsEvaluated version S w q → places ≡ formula_addresses S → ⊥)
+  pub sizes_finished : (r : Result Sizes RoundFault) → Collected r → IfErr r (λ f. f ≡ fault.Work → (version : Version) (S : Cells) → IsEvaluated (world version S w) q → places ≡ formula_addresses S → ⊥)
   sizes_finished (Ok zs) h = tt
-  sizes_finished (Err f) h = λ k version S e p. subst (λ (u : RoundFault). Collects version S w places (Err u)) k (collects (Err f) h version S e p)
+  sizes_finished (Err f) h = λ k version S e p. subst (λ (u : RoundFault). Collects (world version S w) places (Err u)) k (collects (Err f) h version S e p)
 
 -- what a base rests on goes by no touched address
 module _ (version : Version) (S : Cells) (touched : List Addr) (p : Progress) (h : IsReady version S touched p) where
@@ -202,7 +203,7 @@ after_ready version S touched p t q w a h k (inl x) = kept_ready version S touch
 after_ready version S touched p t q w a h k (inr (e, x)) = subst (IsReady version S touched) (sym e) (taken_ready version S touched p h t k)
 
 module _ (version : Version) (S : Cells) (touched : List Addr) (p t q : Progress) (w : Oracle) (n m : ℕ) (taken : IsTaken p t) where
-  keeps : ((i : ℕ) → Finishes version S (next_base p touched) i w n m) → IsKeptBy version S t w q → Keeps version S touched p w q n m
+  keeps : ((i : ℕ) → Finishes (world version S w) (next_base p touched) i n m) → IsKeptBy version S t w q → Keeps version S touched p w q n m
   keeps f k = record {
     table = k.table;
     is_table = k.is_table;
@@ -212,8 +213,8 @@ module _ (version : Version) (S : Cells) (touched : List Addr) (p t q : Progress
     steps = f;
   }
 
-  pub called : (places : List Addr) (c : Held) (r : Result Sizes RoundFault) → ((i : ℕ) → Finishes version S (next_base p touched) i w n m) → IsKeptBy version S t w q ⊎ ((q ≡ t) × (r ≡ Err fault.NoMemory)) → IsEvaluated version S w c → places ≡ formula_addresses S →
-      IfErr r (λ f. f ≡ fault.Work → (u : Version) (T : Cells) → IsEvaluated u T w c → places ≡ formula_addresses T → ⊥) → Calls version S touched p w r q n m
+  pub called : (places : List Addr) (c : Held) (r : Result Sizes RoundFault) → ((i : ℕ) → Finishes (world version S w) (next_base p touched) i n m) → IsKeptBy version S t w q ⊎ ((q ≡ t) × (r ≡ Err fault.NoMemory)) → IsEvaluated (world version S w) c → places ≡ formula_addresses S →
+      IfErr r (λ f. f ≡ fault.Work → (u : Version) (T : Cells) → IsEvaluated (world u T w) c → places ≡ formula_addresses T → ⊥) → Calls version S touched p w r q n m
   called places c (Ok zs) f (inl k) e s h = keeps f k
   called places c (Ok zs) f (inr (d, x)) e s h = absurd (cc x)
   called places c (Err fault.Work) f k e s h = absurd (h refl version S e s)
@@ -223,14 +224,14 @@ module _ (version : Version) (S : Cells) (touched : List Addr) (p t q : Progress
   called places c (Err (fault.CopyRounds a)) f (inr (d, x)) e s h = absurd (cc x)
   called places c (Err fault.NoMemory) f k e s h = tt
 
-  pub stopped : (e : RoundFault) → Stops version S w (next_base p touched) e n m → Calls version S touched p w (Err e) t n m
+  pub stopped : (e : RoundFault) → Stops (world version S w) (next_base p touched) e n m → Calls version S touched p w (Err e) t n m
   stopped fault.Work h = (taken.made, h.1)
   stopped (fault.Depth a) h = absurd h
   stopped (fault.CopyRounds a) h = absurd h
   stopped fault.NoMemory h = tt
 
-pub stopped_fails : (version : Version) (S : Cells) (w : Oracle) (b : Table × List Addr) (e : RoundFault) (n m : ℕ) → Stops version S w b e n m → Fails version S w e
-stopped_fails version S w b fault.Work n m h = h.0
-stopped_fails version S w b (fault.Depth a) n m h = absurd h
-stopped_fails version S w b (fault.CopyRounds a) n m h = absurd h
-stopped_fails version S w b fault.NoMemory n m h = tt
+pub stopped_fails : (W : World) (b : Table × List Addr) (e : RoundFault) (n m : ℕ) → Stops W b e n m → Fails W e
+stopped_fails W b fault.Work n m h = h.0
+stopped_fails W b (fault.Depth a) n m h = absurd h
+stopped_fails W b (fault.CopyRounds a) n m h = absurd h
+stopped_fails W b fault.NoMemory n m h = tt

@@ -17,6 +17,7 @@ use Rattle.gl_cells.specs.Sheet as cells
 use Rattle.gl_cells.specs.declared.fault.PutFault.{PutFault}
 use Rattle.gl_cells.specs.declared.fault.PutFault.TheVariants as fault
 use Rattle.gl_calculus.specs.Steps.Rounds.{Comes, first, later, Costs}
+use Rattle.gl_calculus.specs.Evaluation.World.{world}
 use Rattle.gl_calc.specs.Answers.{Answers, Takes, spent_tree}
 use Rattle.gl_calc.specs.Progress.{Progress, either, last_of, before_of}
 use Rattle.gl_calc.specs.Ending.{IsSettledTable, HasLast, EndsWith}
@@ -35,12 +36,12 @@ pub settled_held : (version : F.Version) (S : Cells) (rounds : ℕ) (t : Table) 
 settled_held version S rounds t o h = record {
   table = h.table;
   unspent = h.unspent;
-  permits = (settled_consistent version S t.oracle rounds o h.answer).permits;
+  permits = (settled_consistent (world version S t.oracle) rounds o h.answer).permits;
   tells = settled_tells version S rounds t o h;
 }
 
 pub settled_answers : (version : F.Version) (S : Cells) (rounds : ℕ) (t : Table) (old new : Option (F.Version × Oracle)) → IsSheet S → IsSettledTable version S rounds t → new ≡ Some (version, t.oracle) → Answers version S (Settled rounds) old new
-settled_answers version S rounds t old new o h e = (t.oracle, h.answer, e, settled_consistent version S t.oracle rounds o h.answer, settled_shows version S t.oracle rounds o h.answer)
+settled_answers version S rounds t old new o h e = (t.oracle, h.answer, e, settled_consistent (world version S t.oracle) rounds o h.answer, settled_shows (world version S t.oracle) rounds o h.answer)
 
 pub takes_answer : (version : F.Version) (S : Cells) (tables : List Table) (touched : List Addr) (k : SpentKind) (n m : ℕ) → Takes version S tables touched (Spent k) n m → IsAnswer version S (C.Spent (spent_tree k))
 takes_answer version S tables touched k n m c = costs_answer version S tables touched (C.Spent (spent_tree k)) n m c
@@ -68,7 +69,7 @@ module _ (S : Cells) (tables : List Table) where
   latest_answers version (Spent s) held before touched n m o h k = (takes_answer version S before touched s n m k, refl)
 
 -- the work is finished, unless it is what was spent
-unless_work : (version : F.Version) (S : Cells) (i : ℕ) (w : Oracle) (r : C.Answer) → Ends version S i w r → (r ≡ C.Spent C.Work → ⊥) → C.SpendsWork version S w → ⊥
+unless_work : (version : F.Version) (S : Cells) (i : ℕ) (w : Oracle) (r : C.Answer) → Ends version S i w r → (r ≡ C.Spent C.Work → ⊥) → C.SpendsWork (world version S w) → ⊥
 unless_work version S i w _ (C.work s) f = absurd (f refl)
 unless_work version S i w _ (C.abort n g) f = n
 unless_work version S i w _ (C.settled u x) f = u.work
@@ -100,12 +101,12 @@ module _ (version : F.Version) (S : Cells) (tables before : List Table) (touched
         come : Comes version S tables [] n c.round c.oracle c.table n
         come = again n a c.round c.oracle c.table c.before c.comes
 
-        no_step : (j : C.SpentKind) → Ends version S c.round c.oracle (C.Spent j) → (C.Spent j ≡ C.Spent C.Work → ⊥) → Finishes version S (base tables [] c.table c.round) c.round c.oracle n n
+        no_step : (j : C.SpentKind) → Ends version S c.round c.oracle (C.Spent j) → (C.Spent j ≡ C.Spent C.Work → ⊥) → Finishes (world version S c.oracle) (base tables [] c.table c.round) c.round n n
         no_step j e f = nothing_asked version S tables c.table c.round c.oracle n made
             (comes_reaches version S before touched a c.round c.before c.oracle c.table c.comes, unless_work version S c.round c.oracle (C.Spent j) e f)
 
         by : (j : SpentKind) → Ends version S c.round c.oracle (C.Spent (spent_tree j)) → Costs version S tables [] (C.Spent (spent_tree j)) n n
-        by spent.Work e = record { round = c.round; oracle = c.oracle; table = c.table; before = n; comes = come; ends = e; last = none_taken version S c.oracle (base tables [] c.table c.round) n }
+        by spent.Work e = record { round = c.round; oracle = c.oracle; table = c.table; before = n; comes = come; ends = e; last = none_taken (world version S c.oracle) (base tables [] c.table c.round) n }
         by (spent.Rounds b) e = record { round = c.round; oracle = c.oracle; table = c.table; before = n; comes = come; ends = e; last = no_step (C.Rounds b) e (λ q. cc q) }
         by (spent.Depth b) e = record { round = c.round; oracle = c.oracle; table = c.table; before = n; comes = come; ends = e; last = no_step (C.Depth b) e (λ q. cc q) }
         by (spent.CopyRounds b) e = record { round = c.round; oracle = c.oracle; table = c.table; before = n; comes = come; ends = e; last = no_step (C.CopyRounds b) e (λ q. cc q) }

@@ -14,9 +14,9 @@ use Rattle.laws_calculus.proofs.Query.Credit.{at-entry}
 use Rattle.laws_calculus.proofs.Query.Proved.{kept_or_dropped}
 use Rattle.gl_calculus.specs.Grid.Grid.{Addr, Range}
 use Rattle.gl_calculus.specs.Values.Value.{Oracle}
-use Rattle.gl_calculus.specs.Formulas.Formula.{Version, Cells}
 use Rattle.gl_calculus.specs.Evaluation.Key as K
 use Rattle.gl_calculus.specs.Evaluation.Key.{same_key}
+use Rattle.gl_calculus.specs.Evaluation.World.{World}
 use Rattle.gl_calculus.specs.Evaluation.Evaluation.{program}
 use Rattle.gl_calculus.specs.Grid.Limits.{max_demanded}
 use Rattle.gl_calculus.specs.Calculation.Calculation.{SpendsWork}
@@ -153,18 +153,18 @@ module _ (noted : K.Key → Bool) where
       by (Waiting j) e = refl
       by (Resolved o) e = ap (λ b. cond b 0 1) (h x (inl refl) o e)
 
-module _ (version : Version) (S : Cells) (w : Oracle) (core : Held) (h : IsStarted version S w core) (n m : ℕ) where
-  pub quiet_round : (q : Held) → IsQuiet same_key (program version S w) (seeds_of core) (state_of q) → IsRound version S w (state_of q)
-  quiet_round q r = subst (λ ks. IsQuiet same_key (program version S w) ks (state_of q)) h.seeds r
+module _ (W : World) (core : Held) (h : IsStarted W core) (n m : ℕ) where
+  pub quiet_round : (q : Held) → IsQuiet same_key (program W) (seeds_of core) (state_of q) → IsRound W (state_of q)
+  quiet_round q r = subst (λ ks. IsQuiet same_key (program W) ks (state_of q)) h.seeds r
 
-  pub few_demanded : (MoreThan max_demanded (Demanded (program version S w) (seeds_of core)) → ⊥) → SpendsWork version S w → ⊥
-  few_demanded f more = f (subst (λ ks. MoreThan max_demanded (Demanded (program version S w) ks)) (sym h.seeds) more)
+  pub few_demanded : (MoreThan max_demanded (Demanded (program W) (seeds_of core)) → ⊥) → SpendsWork W → ⊥
+  few_demanded f more = f (subst (λ ks. MoreThan max_demanded (Demanded (program W) ks)) (sym h.seeds) more)
 
-  pub still_started : (q : Held) → seeds_of q ≡ seeds_of core → IsFor version S w q → AreOrdered [] (notes_in q) → IsStarted version S w q
+  pub still_started : (q : Held) → seeds_of q ≡ seeds_of core → IsFor W q → AreOrdered [] (notes_in q) → IsStarted W q
   still_started q s f o = record { seeds = s ∙ h.seeds; ordered = o; for_it = f }
 
-  pub finishes : (q : Held) → IsQuiet same_key (program version S w) (seeds_of core) (state_of q) → IsFor version S w q → AllowsKnown (program version S w) (is_noted (notes_in core)) (state_of q) n m →
-      (m < 2 ^ 64 - 1 → n + settled (is_noted (notes_in core)) (state_of q) ≤ m + settled (is_noted (notes_in core)) (state_of core)) → (b : Table × List Addr) (i : ℕ) → AreKept b w (notes_in core) → Finishes version S b i w n m
+  pub finishes : (q : Held) → IsQuiet same_key (program W) (seeds_of core) (state_of q) → IsFor W q → AllowsKnown (program W) (is_noted (notes_in core)) (state_of q) n m →
+      (m < 2 ^ 64 - 1 → n + settled (is_noted (notes_in core)) (state_of q) ≤ m + settled (is_noted (notes_in core)) (state_of core)) → (b : Table × List Addr) (i : ℕ) → AreKept b W.oracle (notes_in core) → Finishes W b i n m
   finishes q r f a l b i kept =
       let noted = is_noted (notes_in core) in
       let round = quiet_round q r in
@@ -174,7 +174,7 @@ module _ (version : Version) (S : Cells) (w : Oracle) (core : Held) (h : IsStart
         distinct = subst AreDistinct (sym a.keys) (unnoted_apart noted (state_of q) f.sound.apart);
         each = λ k j.
             let (p, u) = among noted (state_of q) k (subst (Member k) a.keys j) in
-            (round.known_demanded k (member_known same_key key_equality (state_of q) k p), unnoted_anew b w (notes_in core) kept k u);
+            (round.known_demanded k (member_known same_key key_equality (state_of q) k p), unnoted_anew b W.oracle (notes_in core) kept k u);
         reads = a.reads;
         most = a.most;
         least = λ few ks d each small.
@@ -182,23 +182,23 @@ module _ (version : Version) (S : Cells) (w : Oracle) (core : Held) (h : IsStart
             let inside : length ks ≤ length (resolved_keys noted (state_of q)) =
             distinct_within ks (resolved_keys noted (state_of q)) d (λ k e.
             (let ((p, u), (o, g)) = each k e in
-            resolved_member noted (state_of q) k o (anew_unnoted b w (notes_in core) kept k u) (round.having_resolved k o p g))) in
+            resolved_member noted (state_of q) k o (anew_unnoted b W.oracle (notes_in core) kept k u) (round.having_resolved k o p g))) in
             let bound = l small in
             omega (arith, inside, some, bound, none);
       }
 
-  pub breaks : AllowsDemanded (Demanded (program version S w) (seeds_of core)) (program version S w) (is_noted (notes_in core)) n m → (b : Table × List Addr) → AreKept b w (notes_in core) → Breaks version S b w n m
+  pub breaks : AllowsDemanded (Demanded (program W) (seeds_of core)) (program W) (is_noted (notes_in core)) n m → (b : Table × List Addr) → AreKept b W.oracle (notes_in core) → Breaks W b n m
   breaks a b kept = record {
     keys = a.keys;
     distinct = a.distinct;
     few = a.few;
-    each = λ k j. (let (p, u) = a.each k j in ((subst (λ ks. Demanded (program version S w) ks k) h.seeds p, unnoted_anew b w (notes_in core) kept k u), refl));
+    each = λ k j. (let (p, u) = a.each k j in ((subst (λ ks. Demanded (program W) ks k) h.seeds p, unnoted_anew b W.oracle (notes_in core) kept k u), refl));
     most = a.most;
   }
 
-  pub stops_work : MoreThan max_demanded (Demanded (program version S w) (seeds_of core)) → AllowsDemanded (Demanded (program version S w) (seeds_of core)) (program version S w) (is_noted (notes_in core)) n m → (b : Table × List Addr) → AreKept b w (notes_in core) → SpendsWork version S w × Breaks version S b w n m
-  stops_work more a b kept = (subst (λ ks. MoreThan max_demanded (Demanded (program version S w) ks)) h.seeds more, breaks a b kept)
+  pub stops_work : MoreThan max_demanded (Demanded (program W) (seeds_of core)) → AllowsDemanded (Demanded (program W) (seeds_of core)) (program W) (is_noted (notes_in core)) n m → (b : Table × List Addr) → AreKept b W.oracle (notes_in core) → SpendsWork W × Breaks W b n m
+  stops_work more a b kept = (subst (λ ks. MoreThan max_demanded (Demanded (program W) ks)) h.seeds more, breaks a b kept)
 
 -- where no round was begun, no step was taken
-pub none_taken : (version : Version) (S : Cells) (w : Oracle) (b : Table × List Addr) (n : ℕ) → Breaks version S b w n n
-none_taken version S w b n = record { keys = []; distinct = tt; few = omega arith; each = λ k m. absurd m; most = λ cs e r. omega arith }
+pub none_taken : (W : World) (b : Table × List Addr) (n : ℕ) → Breaks W b n n
+none_taken W b n = record { keys = []; distinct = tt; few = omega arith; each = λ k m. absurd m; most = λ cs e r. omega arith }

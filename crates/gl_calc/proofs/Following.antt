@@ -8,6 +8,7 @@ use Rattle.gl_calculus.specs.Formulas.Formula.{Version, Cells}
 use Rattle.gl_calculus.specs.Grid.Limits.{kept_rounds}
 use Rattle.gl_calculus.specs.Calculation.Calculation.{Answer, SpendsWork, Reaches, IsFinished, Ends}
 use Rattle.gl_calculus.specs.Calculation.Memory.{Table, base, base_by, before_round, IsTableOf, AreTables}
+use Rattle.gl_calculus.specs.Evaluation.World.{world}
 use Rattle.laws_calculus.proofs.Calculus.Single.{one_round, goes_on, ends_not_on}
 use Rattle.gl_calc.specs.Progress.{Progress, first_of, rest_of, last_of, either, before_of, next_base, made_with, beyond_with}
 
@@ -67,7 +68,7 @@ module _ (version : Version) (S : Cells) (tables : List Table) where
   pub record Follows (i : ℕ) (before : Table) (p : Progress) : Type 0 where
     pub earlier : (j : ℕ) → slice_get p.earlier j ≡ slice_get tables (i + j)
     pub last : before_of p ≡ before_round i before
-    pub each : (j : ℕ) (t : Table) → slice_get p.made j ≡ Some t → (v : Oracle) × IsFinished version S j v × IsTableOf version S v t
+    pub each : (j : ℕ) (t : Table) → slice_get p.made j ≡ Some t → (v : Oracle) × IsFinished version S j v × IsTableOf (world version S v) t
     pub count : AreAsMany (length p.made) i
 
   pub follows_first : (before : Table) → Follows 0 before (record { earlier = tables; made = []; beyond = None })
@@ -79,7 +80,7 @@ module _ (version : Version) (S : Cells) (tables : List Table) where
       let here : first_of p.earlier ≡ slice_get tables i = first_slice p.earlier ∙ h.earlier 0 ∙ ap (slice_get tables) zero_more in
       ap (λ o. base_by o touched (before_of p)) here ∙ ap (λ b. base_by (slice_get tables i) touched b) h.last
 
-  module _ (i : ℕ) (w : Oracle) (before t : Table) (p q : Progress) (h : Follows i before p) (finished : IsFinished version S i w) (is_table : IsTableOf version S w t) (earlier : q.earlier ≡ rest_of p.earlier) (made : q.made ≡ made_with p.made t) (beyond : q.beyond ≡ beyond_with p.made t) where
+  module _ (i : ℕ) (w : Oracle) (before t : Table) (p q : Progress) (h : Follows i before p) (finished : IsFinished version S i w) (is_table : IsTableOf (world version S w) t) (earlier : q.earlier ≡ rest_of p.earlier) (made : q.made ≡ made_with p.made t) (beyond : q.beyond ≡ beyond_with p.made t) where
     abbrev has_room : Bool
     has_room = nat_lt (length p.made) kept_rounds
 
@@ -99,12 +100,12 @@ module _ (version : Version) (S : Cells) (tables : List Table) where
         by (inl (e, l)) r = e
         by (inr (e, l)) r = absurd (omega (arith, e, r))
 
-    each_by : (b : Bool) → has_room ≡ b → (j : ℕ) (x : Table) → slice_get (if b then p.made ++ t ∷ [] else p.made) j ≡ Some x → (v : Oracle) × IsFinished version S j v × IsTableOf version S v x
+    each_by : (b : Bool) → has_room ≡ b → (j : ℕ) (x : Table) → slice_get (if b then p.made ++ t ∷ [] else p.made) j ≡ Some x → (v : Oracle) × IsFinished version S j v × IsTableOf (world version S v) x
     each_by true e j x d = by (put_slice p.made t x j d)
       where
-        by : (slice_get p.made j ≡ Some x) ⊎ ((j ≡ length p.made) × (t ≡ x)) → (v : Oracle) × IsFinished version S j v × IsTableOf version S v x
+        by : (slice_get p.made j ≡ Some x) ⊎ ((j ≡ length p.made) × (t ≡ x)) → (v : Oracle) × IsFinished version S j v × IsTableOf (world version S v) x
         by (inl f) = h.each j x f
-        by (inr (f, g)) = (w, subst (λ k. IsFinished version S k w) (sym (f ∙ room_many e)) finished, subst (IsTableOf version S w) g is_table)
+        by (inr (f, g)) = (w, subst (λ k. IsFinished version S k w) (sym (f ∙ room_many e)) finished, subst (IsTableOf (world version S w)) g is_table)
     each_by false e j x d = h.each j x d
 
     count_by : (b : Bool) → has_room ≡ b → AreAsMany (length (if b then p.made ++ t ∷ [] else p.made)) (suc i)
@@ -149,7 +150,7 @@ module _ (version : Version) (S : Cells) (tables : List Table) where
       by (inr (inr l)) = omega (arith, l)
 
   -- and before it, where its own work is spent
-  pub finished_before : (i j : ℕ) (w v : Oracle) → Reaches version S i w → SpendsWork version S w → IsFinished version S j v → j < i
+  pub finished_before : (i j : ℕ) (w v : Oracle) → Reaches version S i w → SpendsWork (world version S w) → IsFinished version S j v → j < i
   finished_before i j w v a s f = by (cases_order i j) (finished_by i j w v _ a (Ends.work s) f)
     where
       by : (i ≡ j) ⊎ ((i < j) ⊎ (j < i)) → j < suc i → j < i

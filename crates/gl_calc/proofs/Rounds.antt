@@ -19,6 +19,7 @@ use Rattle.gl_rounds.specs.Answers as A
 use Rattle.gl_rounds.specs.declared.IterFault.{IterFault}
 use Rattle.gl_rounds.specs.declared.IterFault.TheVariants as iter
 use Rattle.gl_calculus.specs.Steps.Rounds.{Breaks, Comes, first, later, Costs}
+use Rattle.gl_calculus.specs.Evaluation.World.{world}
 use Rattle.gl_calc.specs.Progress.{Progress, next_base, before_of}
 use Rattle.gl_calc.specs.Round.{Gives, Fails, Keeps, Calls}
 use Rattle.gl_calc.specs.Answers.{spent_tree}
@@ -53,19 +54,19 @@ module _ (V : F.Version) (S : Cells) (tables : List M.Table) (touched : List Add
     reaches : Reaches V S i w
     reaches = comes_reaches V S tables touched n i m w s.before s.comes
 
-    steps : (q : Progress) (k : ℕ) → Keeps V S touched p w q m k → Finishes V S (base tables touched s.before i) i w m k
-    steps q k h = subst (λ b. Finishes V S b i w m k) (follows_base V S tables i s.before p touched s.follows) (h.steps i)
+    steps : (q : Progress) (k : ℕ) → Keeps V S touched p w q m k → Finishes (world V S w) (base tables touched s.before i) i m k
+    steps q k h = subst (λ b. Finishes (world V S w) b i m k) (follows_base V S tables i s.before p touched s.follows) (h.steps i)
 
-    next : (q : Progress) (k : ℕ) → (C.SpendsWork V S w → ⊥) → (h : Keeps V S touched p w q m k) → Follows V S tables (suc i) h.table q
+    next : (q : Progress) (k : ℕ) → (C.SpendsWork (world V S w) → ⊥) → (h : Keeps V S touched p w q m k) → Follows V S tables (suc i) h.table q
     next q k f h = follows_next V S tables i w s.before h.table p q s.follows (reaches, f) h.is_table h.earlier h.made h.beyond
 
     goes : (v : Oracle) (q : Progress) (k : ℕ) → GoesOn V S i w v → Keeps V S touched p w q m k → Stands (suc i) v q k
     goes v q k g h = record { before = h.table; comes = later s.comes h.table h.is_table (steps q k h) g; follows = next q k g.unspent.work h }
 
-    ends_broken : (q : Progress) → C.SpendsWork V S w → q.made ≡ p.made → AreTables V S q.made
+    ends_broken : (q : Progress) → C.SpendsWork (world V S w) → q.made ≡ p.made → AreTables V S q.made
     ends_broken q b e = subst (AreTables V S) (sym e) (follows_all V S tables i s.before p s.follows (λ j v d. finished_before V S tables i j w v reaches b d))
 
-    settles : (q : Progress) (k : ℕ) → IsUnspent V S w → C.IsNext V S w w → Keeps V S touched p w q m k → Leaves V S tables touched (C.Settled w (suc i)) q n k × ((t : M.Table) × (before_of q ≡ Some t) × IsSettledTable V S (suc i) t)
+    settles : (q : Progress) (k : ℕ) → IsUnspent (world V S w) → C.IsNext (world V S w) w → Keeps V S touched p w q m k → Leaves V S tables touched (C.Settled w (suc i)) q n k × ((t : M.Table) × (before_of q ≡ Some t) × IsSettledTable V S (suc i) t)
     settles q k u x h =
         let e : Ends V S i w (C.Settled w (suc i)) = settled u x in
         let costs : Costs V S tables touched (C.Settled w (suc i)) n k = record { round = i; oracle = w; table = s.before; before = m; comes = s.comes; ends = e; last = steps q k h } in
@@ -75,32 +76,32 @@ module _ (V : F.Version) (S : Cells) (tables : List M.Table) (touched : List Add
             h.table,
             (next q k u.work h).last,
             record {
-              table = subst (λ v. IsTableOf V S v h.table) o h.is_table;
+              table = subst (λ v. IsTableOf (world V S v) h.table) o h.is_table;
               unspent = subst (IsUnspent V S) o u;
               answer = subst (λ v. IsAnswer V S (C.Settled v (suc i))) o (costs_answer V S tables touched (C.Settled w (suc i)) n k costs);
             },
           ),
         )
 
-    runs_out : (v : Oracle) (a : Addr) (q : Progress) (k : ℕ) → IsUnspent V S w → (e : Ends V S i w (C.Spent (C.Rounds a))) → Keeps V S touched p w q m k → Leaves V S tables touched (C.Spent (C.Rounds a)) q n k
+    runs_out : (v : Oracle) (a : Addr) (q : Progress) (k : ℕ) → IsUnspent (world V S w) → (e : Ends V S i w (C.Spent (C.Rounds a))) → Keeps V S touched p w q m k → Leaves V S tables touched (C.Spent (C.Rounds a)) q n k
     runs_out v a q k u e h = record {
       costs = record { round = i; oracle = w; table = s.before; before = m; comes = s.comes; ends = e; last = steps q k h };
       made = follows_all V S tables (suc i) h.table q (next q k u.work h) (λ j x d. finished_by V S tables i j w x _ reaches e d);
     }
 
-    breaks_work : (q : Progress) (k : ℕ) → C.SpendsWork V S w → q.made ≡ p.made → Breaks V S (next_base p touched) w m k → Leaves V S tables touched (C.Spent C.Work) q n k
+    breaks_work : (q : Progress) (k : ℕ) → C.SpendsWork (world V S w) → q.made ≡ p.made → Breaks (world V S w) (next_base p touched) m k → Leaves V S tables touched (C.Spent C.Work) q n k
     breaks_work q k b e h = record {
-      costs = record { round = i; oracle = w; table = s.before; before = m; comes = s.comes; ends = work b; last = subst (λ x. Breaks V S x w m k) (follows_base V S tables i s.before p touched s.follows) h };
+      costs = record { round = i; oracle = w; table = s.before; before = m; comes = s.comes; ends = work b; last = subst (λ x. Breaks (world V S w) x m k) (follows_base V S tables i s.before p touched s.follows) h };
       made = ends_broken q b e;
     }
 
-    breaks_depth : (a : Addr) (q : Progress) (k : ℕ) → (C.SpendsWork V S w → ⊥) → Ends V S i w (C.Spent (C.Depth a)) → Keeps V S touched p w q m k → Leaves V S tables touched (C.Spent (C.Depth a)) q n k
+    breaks_depth : (a : Addr) (q : Progress) (k : ℕ) → (C.SpendsWork (world V S w) → ⊥) → Ends V S i w (C.Spent (C.Depth a)) → Keeps V S touched p w q m k → Leaves V S tables touched (C.Spent (C.Depth a)) q n k
     breaks_depth a q k f e h = record {
       costs = record { round = i; oracle = w; table = s.before; before = m; comes = s.comes; ends = e; last = steps q k h };
       made = follows_all V S tables (suc i) h.table q (next q k f h) (λ j x d. finished_by V S tables i j w x _ reaches e d);
     }
 
-    breaks_copies : (a : Addr) (q : Progress) (k : ℕ) → (C.SpendsWork V S w → ⊥) → Ends V S i w (C.Spent (C.CopyRounds a)) → Keeps V S touched p w q m k → Leaves V S tables touched (C.Spent (C.CopyRounds a)) q n k
+    breaks_copies : (a : Addr) (q : Progress) (k : ℕ) → (C.SpendsWork (world V S w) → ⊥) → Ends V S i w (C.Spent (C.CopyRounds a)) → Keeps V S touched p w q m k → Leaves V S tables touched (C.Spent (C.CopyRounds a)) q n k
     breaks_copies a q k f e h = record {
       costs = record { round = i; oracle = w; table = s.before; before = m; comes = s.comes; ends = e; last = steps q k h };
       made = follows_all V S tables (suc i) h.table q (next q k f h) (λ j x d. finished_by V S tables i j w x _ reaches e d);
@@ -153,7 +154,7 @@ module _ {T : Type 0} (version : T → Version) (table : T → Table) (marks : T
       let b : spent.Work ≡ k = cc e in
       subst (λ u. Leaves V S tables (marks s) (C.Spent (spent_tree u)) (progress t) n d) b
       (breaks_work V S tables (marks s) n h.round h.oracle (progress h.call.object) h.call.count m (progress t) d h.failed h.call.called.3.0
-      (same h.call.object i (λ v x y. Breaks v x (next_base (progress h.call.object) y) h.oracle h.call.count d) h.call.called.3.1))
+      (same h.call.object i (λ v x y. Breaks (world v x h.oracle) (next_base (progress h.call.object) y) h.call.count d) h.call.called.3.1))
   breaks_at (fault.Depth a) k t d e h =
       let (i, m) = comes h.round h.oracle h.call.object h.call.count h.call.reached in
       let b : spent.Depth a ≡ k = cc e in

@@ -11,6 +11,7 @@ use Rattle.gl_calculus.specs.Formulas.Formula.{Version, Cells, IsSheet, formula_
 use Rattle.gl_calculus.specs.Evaluation.Oracle.{sizes_of, Cover, cover, spills_over}
 use Rattle.gl_calculus.specs.Evaluation.Key as K
 use Rattle.gl_calculus.specs.Evaluation.Key.{Cell, Outcome, Settled, Abort, same_key}
+use Rattle.gl_calculus.specs.Evaluation.World.{World, world}
 use Rattle.gl_calculus.specs.Evaluation.Evaluation.{program}
 use Rattle.gl_calculus.specs.Calculation.Calculation as C
 use Rattle.gl_calculus.specs.Calculation.Calculation.{has_content, is_abort, TopHas, TopFails, DemandedIn, IsNext, Ends, settled}
@@ -37,10 +38,10 @@ noted (n ∷ ns) k m = by (same_key k n.key) refl m (noted ns k)
     by false t (inl i) r = let no : false ≡ true = sym t ∙ ap (λ u. same_key u n.key) i ∙ key_equality.1 n.key in absurd (cc no)
     by false t (inr i) r = r i
 
-fails_at : (version : Version) (S : Cells) (w : Oracle) (rest : List Addr) (a : Addr) → Member a rest → AllByRecursion (TopFails version S is_abort w) rest → TopFails version S is_abort w a
-fails_at version S w [] a m fs = absurd m
-fails_at version S w (b ∷ rest) a (inl e) (f, fs) = subst (TopFails version S is_abort w) (sym e) f
-fails_at version S w (b ∷ rest) a (inr m) (f, fs) = fails_at version S w rest a m fs
+fails_at : (W : World) (rest : List Addr) (a : Addr) → Member a rest → AllByRecursion (TopFails W is_abort) rest → TopFails W is_abort a
+fails_at W [] a m fs = absurd m
+fails_at W (b ∷ rest) a (inl e) (f, fs) = subst (TopFails W is_abort) (sym e) f
+fails_at W (b ∷ rest) a (inr m) (f, fs) = fails_at W rest a m fs
 
 -- a covering root has an entry
 covering : (w : Oracle) (a : Addr) (c : Cover) → cover w a ≡ Some c → (z : Size) × (p : Permit) × Member (record { root = c.root; size = z; permit = p }) w
@@ -51,43 +52,43 @@ covering (x ∷ xs) a c e =
       | false ↦ λ h. let (z, p, m) = covering xs a c h in (z, p, inr m)
     ]) e
 
-settled_next : (version : Version) (S : Cells) (i : ℕ) (v w : Oracle) (n : ℕ) → Ends version S i v (C.Answer.Settled w n) → IsNext version S w w
+settled_next : (version : Version) (S : Cells) (i : ℕ) (v w : Oracle) (n : ℕ) → Ends version S i v (C.Answer.Settled w n) → IsNext (world version S w) w
 settled_next version S i v w n (settled u next) = next
 
-module _ (version : Version) (S : Cells) (w : Oracle) where
+module _ (W : World) where
   -- what is no spent budget is a value
-  only_value : (a : Addr) (o : Outcome) → TopHas version S w a o → (is_abort o ≡ true → ⊥) → (v : Value) × (o ≡ Outcome.Value v)
+  only_value : (a : Addr) (o : Outcome) → TopHas W a o → (is_abort o ≡ true → ⊥) → (v : Value) × (o ≡ Outcome.Value v)
   only_value a (Outcome.Value v) h f = (v, refl)
-  only_value a (Settled s) h f = let no : false ≡ true = outcomes_fit version S w (Cell Top a) (Settled s) h in absurd (cc no)
+  only_value a (Settled s) h f = let no : false ≡ true = outcomes_fit W (Cell Top a) (Settled s) h in absurd (cc no)
   only_value a (Abort b) h f = absurd (f refl)
 
-  unspent_value : (a : Addr) (o : Outcome) → TopHas version S w a o → TopFails version S is_abort w a → (v : Value) × (o ≡ Outcome.Value v)
-  unspent_value a o h (inl l) = absurd (Has-Loops (program version S w) (Cell Top a) o h l)
-  unspent_value a o h (inr (p, g, t)) = only_value a o h (λ e. (let no : false ≡ true = sym t ∙ ap is_abort (one_outcome version S w (Cell Top a) p o g h) ∙ e in absurd (cc no)))
+  unspent_value : (a : Addr) (o : Outcome) → TopHas W a o → TopFails W is_abort a → (v : Value) × (o ≡ Outcome.Value v)
+  unspent_value a o h (inl l) = absurd (Has-Loops (program W) (Cell Top a) o h l)
+  unspent_value a o h (inr (p, g, t)) = only_value a o h (λ e. (let no : false ≡ true = sym t ∙ ap is_abort (one_outcome W (Cell Top a) p o g h) ∙ e in absurd (cc no)))
 
   -- a covering root is a formula cell with an array
-  root_has : IsSheet S → IsNext version S w w → (a : Addr) (c : Cover) → cover w a ≡ Some c → Member c.root (formula_addresses S) × (v : Value) × TopHas version S w c.root (Outcome.Value v)
+  root_has : IsSheet W.sheet → IsNext W W.oracle → (a : Addr) (c : Cover) → cover W.oracle a ≡ Some c → Member c.root (formula_addresses W.sheet) × (v : Value) × TopHas W c.root (Outcome.Value v)
   root_has o (zs, arrays, e) a c d =
-      let sizes : sizes_of w ≡ zs = ap sizes_of e ∙ (grant_permits grid (has_content S) zs (array_order version S w (formula_addresses S) zs arrays (formula_order S o))).0 in
-      let (z, p, m) = covering w a c d in
-      let (n, t) = array_has version S w (formula_addresses S) zs arrays c.root z (subst (λ u. Member (c.root, z) u) sizes (size_of_entry w c.root z p m)) in
+      let sizes : sizes_of W.oracle ≡ zs = ap sizes_of e ∙ (grant_permits grid (has_content W.sheet) zs (array_order W (formula_addresses W.sheet) zs arrays (formula_order W.sheet o))).0 in
+      let (z, p, m) = covering W.oracle a c d in
+      let (n, t) = array_has W (formula_addresses W.sheet) zs arrays c.root z (subst (λ u. Member (c.root, z) u) sizes (size_of_entry W.oracle c.root z p m)) in
       (n, Array z t.0, t.1)
 
   -- a formula cell with a value has it in the table
-  value_told : (t : Table) (a : Addr) (v : Value) → IsTableOf version S w t → Member a (formula_addresses S) → TopHas version S w a (Outcome.Value v) → HasValue t a
+  value_told : (t : Table) (a : Addr) (v : Value) → IsTableOf W t → Member a (formula_addresses W.sheet) → TopHas W a (Outcome.Value v) → HasValue t a
   value_told t a v q m h =
-      let demanded : DemandedIn version S w (Cell Top a) = Seed (key_member (formula_addresses S) a m) in
+      let demanded : DemandedIn W (Cell Top a) = Seed (key_member (formula_addresses W.sheet) a m) in
       let (o, e) = noted t.notes (Cell Top a) (q.complete (Cell Top a) (Outcome.Value v) demanded h) in
-      let same : o ≡ Outcome.Value v = one_outcome version S w (Cell Top a) o (Outcome.Value v) (top_has version S w t Top a o refl q e) h in
+      let same : o ≡ Outcome.Value v = one_outcome W (Cell Top a) o (Outcome.Value v) (top_has W t Top a o refl q e) h in
       (v, subst (λ u. Some u ≡ outcome_in t.notes (Cell Top a)) same e)
 
 pub settled_tells : (version : Version) (S : Cells) (rounds : ℕ) (t : Table) → IsSheet S → IsSettledTable version S rounds t → TellsValues S t
 settled_tells version S rounds t o h = record {
-  formulas = λ a f d p e. unspent_value version S t.oracle a p (top_has version S t.oracle t Top a p refl h.table e) (fails_at version S t.oracle (formula_addresses S) a (formula_listed S a f d) h.unspent.no_abort);
+  formulas = λ a f d p e. unspent_value (world version S t.oracle) a p (top_has (world version S t.oracle) t Top a p refl h.table e) (fails_at (world version S t.oracle) (formula_addresses S) a (formula_listed S a f d) h.unspent.no_abort);
   roots = λ a c d.
-      let next : IsNext version S t.oracle t.oracle = settled_next version S h.answer.round h.answer.oracle t.oracle rounds h.answer.ends in
-      let (m, v, g) = root_has version S t.oracle o next a c d in
-      value_told version S t.oracle t c.root v h.table m g;
+      let next : IsNext (world version S t.oracle) t.oracle = settled_next version S h.answer.round h.answer.oracle t.oracle rounds h.answer.ends in
+      let (m, v, g) = root_has (world version S t.oracle) o next a c d in
+      value_told (world version S t.oracle) t c.root v h.table m g;
 }
 
 -- a cover that is found, with its rows and columns, is of a root that the table tells a value of

@@ -10,6 +10,7 @@ use Rattle.gl_value.specs.Made.{shown_tree}
 use Rattle.gl_value.specs.declared.Shown.{Shown}
 use Rattle.gl_calc.specs.Shown.{is_sound_shown}
 use Rattle.gl_calculus.specs.Steps.Rounds.{Costs}
+use Rattle.gl_calculus.specs.Evaluation.World.{world}
 use Rattle.gl_calc.specs.declared.answers.Answer.{Answer}
 use Rattle.gl_calc.specs.declared.answers.Answer.TheVariants.{Settled, Spent}
 use Rattle.gl_calc.specs.declared.answers.SpentKind.{SpentKind}
@@ -24,7 +25,7 @@ spent_tree Work = C.SpentKind.Work
 -- what `refresh` answers, and what is held afterwards: the settled oracle, or what was held before
 abbrev pub Answers : Version → Cells → Answer → Option (Version × Oracle) → Option (Version × Oracle) → Type 0
 Answers version S (Settled rounds) old new =
-    (w : Oracle) × IsAnswer version S (C.Settled w rounds) × (new ≡ Some (version, w)) × IsConsistent version S w × ((a : Addr) → (x : C.Shown) × IsShown version S w a x)
+    (w : Oracle) × IsAnswer version S (C.Settled w rounds) × (new ≡ Some (version, w)) × IsConsistent (world version S w) × ((a : Addr) → (x : C.Shown) × IsShown (world version S w) a x)
 Answers version S (Spent k) old new = IsAnswer version S (C.Spent (spent_tree k)) × (new ≡ old)
 
 -- the steps that it takes go from n to m, where rounds begin with these tables, after these addresses were touched
@@ -36,4 +37,4 @@ Takes version S tables touched (Spent k) n m = Costs version S tables touched (C
 abbrev pub IsShownBy : Cells → Option (Version × Oracle) → Addr → Option Shown → Type 0
 IsShownBy S None a o = o ≡ None
 IsShownBy S (Some h) a None = ⊥
-IsShownBy S (Some h) a (Some x) = IsShown h.0 S h.1 a (shown_tree x) × IsTrue (is_sound_shown (shown_tree x))
+IsShownBy S (Some h) a (Some x) = IsShown (world h.0 S h.1) a (shown_tree x) × IsTrue (is_sound_shown (shown_tree x))

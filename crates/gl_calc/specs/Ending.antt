@@ -5,6 +5,7 @@ use Rattle.gl_calculus.specs.Formulas.Formula.{Version, Cells}
 use Rattle.gl_calculus.specs.Calculation.Calculation as C
 use Rattle.gl_calculus.specs.Calculation.Calculation.{IsAnswer, IsUnspent}
 use Rattle.gl_calculus.specs.Calculation.Memory.{Table, IsTableOf, AreTables}
+use Rattle.gl_calculus.specs.Evaluation.World.{world}
 use Rattle.gl_rounds.specs.declared.IterFault.{IterFault}
 use Rattle.gl_rounds.specs.declared.IterFault.TheVariants as rounds
 use Rattle.gl_calc.specs.Answers.{Takes}
@@ -19,8 +20,8 @@ use Rattle.gl_calc.specs.declared.ending.RoundFault.TheVariants as fault
 
 -- the table is that of the last round, under the settled oracle
 pub record IsSettledTable (version : Version) (S : Cells) (rounds : ℕ) (t : Table) : Type 0 where
-  pub table : IsTableOf version S t.oracle t
-  pub unspent : IsUnspent version S t.oracle
+  pub table : IsTableOf (world version S t.oracle) t
+  pub unspent : IsUnspent (world version S t.oracle)
   pub answer : IsAnswer version S (C.Settled t.oracle rounds)
 
 -- where the calculation settled, the last table is such a one

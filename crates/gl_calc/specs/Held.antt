@@ -7,6 +7,7 @@ use Rattle.gl_calculus.specs.Formulas.Formula.{Version, Cells, IsSheet}
 use Rattle.gl_calculus.specs.Evaluation.Oracle.{ArePermits}
 use Rattle.gl_calculus.specs.Calculation.Calculation.{has_content, IsUnspent}
 use Rattle.gl_calculus.specs.Calculation.Memory.{Table, IsTableOf, AreTables}
+use Rattle.gl_calculus.specs.Evaluation.World.{world}
 use Rattle.gl_ast.specs.View.{version_tree}
 use Rattle.gl_calc.specs.Kept.{AreEarlier}
 use Rattle.gl_calc.specs.Progress.{either, last_of}
@@ -28,8 +29,8 @@ answer_of tables (Some h) = option_map (λ (t : Table). (version_tree h.version,
 
 -- the table is that of an unspent round under its oracle, whose permits are those of the sheet and whose roots have values
 pub record IsHeld (version : Version) (S : Cells) (t : Table) : Type 0 where
-  pub table : IsTableOf version S t.oracle t
-  pub unspent : IsUnspent version S t.oracle
+  pub table : IsTableOf (world version S t.oracle) t
+  pub unspent : IsUnspent (world version S t.oracle)
   pub permits : ArePermits grid (has_content S) t.oracle
   pub tells : TellsValues S t
 

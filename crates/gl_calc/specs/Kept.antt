@@ -8,6 +8,7 @@ use Rattle.gl_calculus.specs.Values.Value.{Oracle}
 use Rattle.gl_calculus.specs.Formulas.Formula.{Version, Cells, IsSheet, content, formula_addresses}
 use Rattle.gl_calculus.specs.Grid.Limits.{max_formulas}
 use Rattle.gl_calculus.specs.Evaluation.Key.{same_key}
+use Rattle.gl_calculus.specs.Evaluation.World.{world}
 use Rattle.gl_calculus.specs.Evaluation.Evaluation.{program}
 use Rattle.gl_calculus.specs.Calculation.Differences.{AreApart}
 use Rattle.gl_calculus.specs.Calculation.Memory.{Table, Notes, IsTableOf, differs_in}
@@ -28,7 +29,7 @@ pub record AreKept (b : Table × List Addr) (w : Oracle) (notes : Notes) : Type 
 pub record IsEarlier (version : Version) (S : Cells) (b : Table × List Addr) : Type 0 where
   pub cells : Cells
   pub same : (a : Addr) → (Member a b.1 → ⊥) → content S a ≡ content cells a
-  pub true_notes : AreTrue same_key (program version cells b.0.oracle) b.0.notes
+  pub true_notes : AreTrue same_key (program (world version cells b.0.oracle)) b.0.notes
   pub apart : AreApart b.0.oracle
 
 abbrev pub AreEarlier : Version → Cells → List Table → List Addr → Type 0
@@ -49,7 +50,7 @@ pub record IsTaken (old new : Progress) : Type 0 where
 -- the table of a round under w is kept
 pub record IsKeptBy (version : Version) (S : Cells) (old : Progress) (w : Oracle) (new : Progress) : Type 0 where
   pub table : Table
-  pub is_table : IsTableOf version S w table
+  pub is_table : IsTableOf (world version S w) table
   pub earlier : new.earlier ≡ old.earlier
   pub made : new.made ≡ made_with old.made table
   pub beyond : new.beyond ≡ beyond_with old.made table

@@ -2,11 +2,12 @@
 use Rattle.std.specs.Prelude.{◌≡◌, Bool, true, map, Some}
 use Rattle.gl_machine.specs.Quiet.{IsQuiet}
 use Rattle.gl_calculus.specs.Grid.Grid.{Addr}
-use Rattle.gl_calculus.specs.Values.Value.{Oracle, Top}
+use Rattle.gl_calculus.specs.Values.Value.{Top}
 use Rattle.gl_calculus.specs.Values.Value as V
-use Rattle.gl_calculus.specs.Formulas.Formula.{Version, Formula, Form, Cells, content, formula_addresses}
+use Rattle.gl_calculus.specs.Formulas.Formula.{Formula, Form, Cells, content, formula_addresses}
 use Rattle.gl_calculus.specs.Evaluation.Oracle.{Cover, cover}
 use Rattle.gl_calculus.specs.Evaluation.Key.{Cell, Outcome, same_key}
+use Rattle.gl_calculus.specs.Evaluation.World.{World}
 use Rattle.gl_calculus.specs.Evaluation.Evaluation.{program}
 use Rattle.gl_calculus.specs.Calculation.Calculation.{Shown, Cycle, Value}
 use Rattle.gl_calculus.specs.Calculation.Memory.{Table}
@@ -15,8 +16,8 @@ use Rattle.gl_core.specs.Results.{outcome_in}
 use Rattle.gl_core.specs.State.{State}
 
 -- the state says all of what the formulas of the sheet demand under the oracle
-abbrev pub IsRound : Version → Cells → Oracle → State → Type 0
-IsRound version S w st = IsQuiet same_key (program version S w) (map (Cell Top) (formula_addresses S)) st
+abbrev pub IsRound : World → State → Type 0
+IsRound W st = IsQuiet same_key (program W) (map (Cell Top) (formula_addresses W.sheet)) st
 
 -- what the table tells of this formula cell is a value, if it tells anything
 abbrev pub TellsValue : Table → Addr → Type 0

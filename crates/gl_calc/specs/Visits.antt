@@ -5,10 +5,10 @@ use Rattle.gl_machine.specs.Machine.{Status, Resolved}
 use Rattle.gl_calculus.specs.Grid.Grid.{Addr}
 use Rattle.gl_calculus.specs.Values.Value as V
 use Rattle.gl_calculus.specs.Evaluation.Oracle.{Sizes}
-use Rattle.gl_calculus.specs.Formulas.Formula.{Version, Cells}
 use Rattle.gl_calculus.specs.Evaluation.Key.{Key, Cell, Budget, Outcome, Abort}
 use Rattle.gl_core.specs.State.{State}
 use Rattle.gl_calculus.specs.Calculation.Calculation.{Arrays, FirstAbort, TopFails, is_abort}
+use Rattle.gl_calculus.specs.Evaluation.World.{World}
 use Rattle.gl_calc.specs.declared.ending.RoundFault.{RoundFault}
 use Rattle.gl_calc.specs.declared.ending.RoundFault.TheVariants as fault
 
@@ -40,9 +40,9 @@ Visits a s old (Err (fault.CopyRounds c)) new = (c ≡ a) × (budget_by s ≡ So
 Visits a s old (Err fault.NoMemory) new = Unit {0}
 
 -- the sizes of the arrays among these formula cells, or the first that ended as spent
-abbrev pub Collects : Version → Cells → V.Oracle → List Addr → Result Sizes RoundFault → Type 0
-Collects version S w places (Ok zs) = Arrays version S w places zs × AllByRecursion (TopFails version S is_abort w) places
-Collects version S w places (Err fault.Work) = ⊥
-Collects version S w places (Err (fault.Depth a)) = FirstAbort version S w places a Budget.Depth
-Collects version S w places (Err (fault.CopyRounds a)) = FirstAbort version S w places a Budget.CopyRounds
-Collects version S w places (Err fault.NoMemory) = Unit {0}
+abbrev pub Collects : World → List Addr → Result Sizes RoundFault → Type 0
+Collects W places (Ok zs) = Arrays W places zs × AllByRecursion (TopFails W is_abort) places
+Collects W places (Err fault.Work) = ⊥
+Collects W places (Err (fault.Depth a)) = FirstAbort W places a Budget.Depth
+Collects W places (Err (fault.CopyRounds a)) = FirstAbort W places a Budget.CopyRounds
+Collects W places (Err fault.NoMemory) = Unit {0}

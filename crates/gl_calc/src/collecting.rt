@@ -1,4 +1,5 @@
 //! The sizes of the arrays of a round.
+ghost use Rattle.gl_calculus.specs.Evaluation.World.{world};
 ghost use Rattle.std.specs.Prelude.{◌++◌, ◌∷◌, [], Some};
 ghost use Rattle.gl_calculus.specs.Computation.Lists.{Member, AreDistinct};
 ghost use Rattle.gl_machine.specs.Machine.{keys};
@@ -27,11 +28,11 @@ use std::alloc::Global;
 pub fn collected(alloc: Global, places: &[Addr], quiet: &Quiet) -> Result<Sizes, RoundFault>
     requires { AreInOrder places.now }
     ensures { (version : PlainVersion) (S : Sheet) (w : V.Oracle)
-        → IsRound version S w (state_of quiet.now)
+        → IsRound (world version S w) (state_of quiet.now)
         → StandFirst places.now (state_of quiet.now)
         → AreDistinct (keys (state_of quiet.now))
-        → ((a : PlainAddr) → Member a places.now → DemandedIn version S w (K.Cell V.Top a))
-        → Collects version S w places.now result }
+        → ((a : PlainAddr) → Member a places.now → DemandedIn (world version S w) (K.Cell V.Top a))
+        → Collects (world version S w) places.now result }
 {
     let mut sizes = Sizes::new(alloc);
     let mut i = 0;

@@ -1,4 +1,5 @@
 //! One round over the whole sheet.
+ghost use Rattle.gl_calculus.specs.Evaluation.World.{world};
 ghost use Rattle.std.specs.Prelude.{◌≡◌, [], IfOk, IfErr, Err, ◌⊎◌};
 ghost use Rattle.gl_machine.specs.InOrder.{AreOrdered};
 ghost use Rattle.gl_calculus.specs.Formulas.Formula.{Version as PlainVersion, Cells as Sheet};
@@ -54,25 +55,25 @@ fn finished(
     requires for_it { (version : PlainVersion)
         × (S : Sheet)
         × (v : Permits)
-        × IsFor version S v quiet }
+        × IsFor (world version S v) quiet }
     ensures given { IfOk result (λ zs.
         (version : PlainVersion) (S : Sheet)
-        → IsEvaluated version S w.now quiet
+        → IsEvaluated (world version S w.now) quiet
         → places.now ≡ formula_addresses S
-        → Gives version S w.now zs) }
+        → Gives (world version S w.now) zs) }
     ensures failed { IfErr result (λ e.
         (version : PlainVersion) (S : Sheet)
-        → IsEvaluated version S w.now quiet
+        → IsEvaluated (world version S w.now) quiet
         → places.now ≡ formula_addresses S
-        → Fails version S w.now e) }
+        → Fails (world version S w.now) e) }
     ensures work { IfErr result (λ e.
         e ≡ RoundFault.Work
         → (version : PlainVersion) (S : Sheet)
-        → IsEvaluated version S w.now quiet
+        → IsEvaluated (world version S w.now) quiet
         → places.now ≡ formula_addresses S
         → ⊥) }
     ensures kept { (version : PlainVersion) (S : Sheet)
-        → IsEvaluated version S w.now quiet
+        → IsEvaluated (world version S w.now) quiet
         → IsKeptBy version S tables.old w.now tables.new
         ⊎ ((tables.new ≡ tables.old) × (result ≡ Err RoundFault.NoMemory)) }
 {
@@ -141,6 +142,6 @@ impl<F: Fn(u8, u64, u64) -> u64, L: Watch> Round for TopRound<'_, F, L> {
     }
 
     ghost one = { λ s w x y h k.
-        one_arrays (version_tree s.version) (sheet s.cells.now) w
+        one_arrays (world (version_tree s.version) (sheet s.cells.now) w)
         (formula_addresses (sheet s.cells.now)) x y h.1 k.1 };
 }

@@ -1,4 +1,5 @@
 //! What an address of the top sheet shows after a round.
+ghost use Rattle.gl_calculus.specs.Evaluation.World.{world};
 ghost use Rattle.std.specs.Prelude.{◌≡◌, Some, None, IsTrue, IfOk, option_map};
 ghost use Rattle.gl_language.specs.Reading.Content.{IsProperContent};
 ghost use Rattle.gl_calculus.specs.Calculation.Calculation.{IsShown, IsUnspent, TopHas};
@@ -30,9 +31,9 @@ use gl_value::{Env, Scalar, Shown};
 pub fn shown_at(cells: &Cells, table: &Table, a: Addr) -> Result<Shown, NoMemory>
     requires { TellsValues (sheet cells.now) table.now }
     ensures shown { (version : Version)
-        → IsTableOf version (sheet cells.now) table.now.oracle table.now
-        → IsUnspent version (sheet cells.now) table.now.oracle
-        → IfOk result (λ x. IsShown version (sheet cells.now) table.now.oracle a (shown_tree x)) }
+        → IsTableOf (world version (sheet cells.now) table.now.oracle) table.now
+        → IsUnspent (world version (sheet cells.now) table.now.oracle)
+        → IfOk result (λ x. IsShown (world version (sheet cells.now) table.now.oracle) a (shown_tree x)) }
     ensures sound { IfOk result (λ x. IsTrue (is_sound_shown (shown_tree x))) }
 {
     match cells.content(a) {
@@ -47,8 +48,8 @@ fn content_shown(held: &Content, table: &Table, a: Addr) -> Result<Shown, NoMemo
     requires told { (f : Formula) → content_tree held.now ≡ Form f → TellsValue table.now a }
     ensures shown { (version : Version) (S : Sheet)
         → content S a ≡ Some (content_tree held.now)
-        → IsTableOf version S table.now.oracle table.now
-        → IfOk result (λ x. IsShown version S table.now.oracle a (shown_tree x)) }
+        → IsTableOf (world version S table.now.oracle) table.now
+        → IfOk result (λ x. IsShown (world version S table.now.oracle) a (shown_tree x)) }
     ensures sound { IfOk result (λ x. IsTrue (is_sound_shown (shown_tree x))) }
 {
     match held {
@@ -73,8 +74,8 @@ fn formula_shown(table: &Table, a: Addr) -> Result<Shown, NoMemory>
     requires { TellsValue table.now a }
     ensures shown { (version : Version) (S : Sheet) (f : Formula)
         → content S a ≡ Some (Form f)
-        → IsTableOf version S table.now.oracle table.now
-        → IfOk result (λ x. IsShown version S table.now.oracle a (shown_tree x)) }
+        → IsTableOf (world version S table.now.oracle) table.now
+        → IfOk result (λ x. IsShown (world version S table.now.oracle) a (shown_tree x)) }
     ensures sound { IfOk result (λ x. IsTrue (is_sound_shown (shown_tree x))) }
 {
     match table.results.outcome(&Key::Cell(Env::Top, a)) {
@@ -108,8 +109,8 @@ fn blank_shown(table: &Table, a: Addr) -> Result<Shown, NoMemory>
     requires { (c : Cover) → cover table.now.oracle a ≡ Some c → HasValue table.now c.root }
     ensures shown { (version : Version) (S : Sheet)
         → content S a ≡ None
-        → IsTableOf version S table.now.oracle table.now
-        → IfOk result (λ x. IsShown version S table.now.oracle a (shown_tree x)) }
+        → IsTableOf (world version S table.now.oracle) table.now
+        → IfOk result (λ x. IsShown (world version S table.now.oracle) a (shown_tree x)) }
     ensures sound { IfOk result (λ x. IsTrue (is_sound_shown (shown_tree x))) }
 {
     match table.oracle.cover(a) {
@@ -123,10 +124,10 @@ fn blank_shown(table: &Table, a: Addr) -> Result<Shown, NoMemory>
 fn element_shown(table: &Table, cover: (Addr, u16, u16)) -> Result<Shown, NoMemory>
     requires { HasValue table.now cover.0 }
     ensures shown { (version : Version) (S : Sheet) (w : V.Oracle)
-        → IsTableOf version S w table.now
+        → IsTableOf (world version S w) table.now
         → IfOk result (λ x.
         (v : V.Value)
-        × TopHas version S w cover.0 (K.Outcome.Value v)
+        × TopHas (world version S w) cover.0 (K.Outcome.Value v)
         × (shown_tree x ≡ C.Shown.Value (spilled (Some v) cover.1 cover.2))) }
     ensures sound { IfOk result (λ x. IsTrue (is_sound_shown (shown_tree x))) }
 {

@@ -1,4 +1,5 @@
 //! The evaluation of all that the formulas demand.
+ghost use Rattle.gl_calculus.specs.Evaluation.World.{world};
 ghost use Rattle.std.specs.Prelude.{◌≡◌, ◌≤◌, ℕ, List, IfOk, IfErr, length};
 ghost use Rattle.gl_machine.specs.Remembered.{AreTrue};
 ghost use Rattle.gl_calculus.specs.Grid.Grid.{Addr as PlainAddr};
@@ -35,18 +36,15 @@ pub fn evaluated<F: Fn(u8, u64, u64) -> u64, L: Watch>(
     requires few { length (formula_addresses (sheet evaluator.now.cells.now)) ≤ max_formulas }
     requires ordered { IsSheet (sheet evaluator.now.cells.now) }
     requires true_notes { AreTrue same_key (program_of evaluator.now) results }
-    ensures evaluated { IfOk result (IsEvaluated (version_tree evaluator.now.version)
-        (sheet evaluator.now.cells.now) evaluator.now.oracle.now) }
+    ensures evaluated { IfOk result (IsEvaluated (world (version_tree evaluator.now.version) (sheet evaluator.now.cells.now) evaluator.now.oracle.now)) }
     ensures steps { IfOk result (λ q.
         (b : Plain × List PlainAddr) (i : ℕ)
         → AreKept b evaluator.now.oracle.now results
-        → Finishes (version_tree evaluator.now.version) (sheet evaluator.now.cells.now) b i
-        evaluator.now.oracle.now steps.old steps.new) }
+        → Finishes (world (version_tree evaluator.now.version) (sheet evaluator.now.cells.now) evaluator.now.oracle.now) b i steps.old steps.new) }
     ensures stops { IfErr result (λ e.
         (b : Plain × List PlainAddr)
         → AreKept b evaluator.now.oracle.now results
-        → Stops (version_tree evaluator.now.version) (sheet evaluator.now.cells.now)
-        evaluator.now.oracle.now b e steps.old steps.new) }
+        → Stops (world (version_tree evaluator.now.version) (sheet evaluator.now.cells.now) evaluator.now.oracle.now) b e steps.old steps.new) }
 {
     match Core::resume(evaluator, places, results) {
         Ok(core) => run(evaluator, engine, core, steps),
@@ -63,20 +61,16 @@ fn run<F: Fn(u8, u64, u64) -> u64, L: Watch>(
     steps: &mut Steps<L>,
 ) -> Result<Quiet, RoundFault>
     requires rule { PicksBelow (F.pre (rule_in engine.now)) (F.post (rule_in engine.now)) }
-    requires started { IsStarted (version_tree evaluator.now.version)
-        (sheet evaluator.now.cells.now) evaluator.now.oracle.now core }
-    ensures evaluated { IfOk result (IsEvaluated (version_tree evaluator.now.version)
-        (sheet evaluator.now.cells.now) evaluator.now.oracle.now) }
+    requires started { IsStarted (world (version_tree evaluator.now.version) (sheet evaluator.now.cells.now) evaluator.now.oracle.now) core }
+    ensures evaluated { IfOk result (IsEvaluated (world (version_tree evaluator.now.version) (sheet evaluator.now.cells.now) evaluator.now.oracle.now)) }
     ensures steps { IfOk result (λ q.
         (b : Plain × List PlainAddr) (i : ℕ)
         → AreKept b evaluator.now.oracle.now (notes_in core)
-        → Finishes (version_tree evaluator.now.version) (sheet evaluator.now.cells.now) b i
-        evaluator.now.oracle.now steps.old steps.new) }
+        → Finishes (world (version_tree evaluator.now.version) (sheet evaluator.now.cells.now) evaluator.now.oracle.now) b i steps.old steps.new) }
     ensures stops { IfErr result (λ e.
         (b : Plain × List PlainAddr)
         → AreKept b evaluator.now.oracle.now (notes_in core)
-        → Stops (version_tree evaluator.now.version) (sheet evaluator.now.cells.now)
-        evaluator.now.oracle.now b e steps.old steps.new) }
+        → Stops (world (version_tree evaluator.now.version) (sheet evaluator.now.cells.now) evaluator.now.oracle.now) b e steps.old steps.new) }
 {
     match core.run_all(
         engine.alloc,

@@ -1,4 +1,5 @@
 //! The check of a certificate.
+ghost use Rattle.gl_calculus.specs.Evaluation.World.{world};
 ghost use Rattle.std.specs.Prelude.{◌≡◌, ◌≤◌, ◌+◌, None, length, map, option_map, IfOk};
 ghost use Rattle.gl_calculus.specs.Calculation.Calculation.{IsShown};
 ghost use Rattle.gl_calculus.specs.Evaluation.Key.{same_key};
@@ -103,9 +104,9 @@ pub fn check<L: Watch>(
     requires keys { AreSoundKeys (map (λ n. n.0) (cert_tree c.now).notes) }
     requires loops { AreSoundKeys (cert_tree c.now).loops }
     ensures verdict { IfOk result (λ v. verdict_tree v
-        ≡ verdict (version_tree version) (sheet cells.now) w.now a (cert_tree c.now)) }
+        ≡ verdict (world (version_tree version) (sheet cells.now) w.now) a (cert_tree c.now)) }
     ensures shows { IfOk result (λ v. verdict_tree v ≡ E.Accepted
-        → IsShown (version_tree version) (sheet cells.now) w.now a (cert_tree c.now).shown) }
+        → IsShown (world (version_tree version) (sheet cells.now) w.now) a (cert_tree c.now).shown) }
     ensures steps { steps.new ≤ steps.old
         + length (cert_tree c.now).notes + length (cert_tree c.now).loops }
     ensures later { steps.old ≤ steps.new }

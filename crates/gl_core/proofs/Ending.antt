@@ -18,10 +18,9 @@ use Rattle.laws_calculus.proofs.Query.Tables.{quiet_counted}
 use Rattle.laws_calculus.proofs.Query.Proved.{no_idle}
 use Rattle.gl_calculus.specs.Grid.Limits.{max_demanded}
 use Rattle.gl_calculus.specs.Grid.Grid.{Range}
-use Rattle.gl_calculus.specs.Formulas.Formula.{Version, Cells}
-use Rattle.gl_calculus.specs.Values.Value.{Oracle}
 use Rattle.gl_calculus.specs.Evaluation.Key as K
 use Rattle.gl_calculus.specs.Evaluation.Key.{same_key}
+use Rattle.gl_calculus.specs.Evaluation.World.{World}
 use Rattle.gl_calculus.specs.Evaluation.Evaluation.{program}
 use Rattle.gl_calculus.specs.Calculation.Memory.{Notes}
 use Rattle.gl_calculus.proofs.Tests.{key_equality}
@@ -37,17 +36,17 @@ use Rattle.gl_core.specs.Answers.{counted, AtMostCounted, AllowsKnown}
 use Rattle.gl_core.proofs.Seeing.{none_of}
 
 -- a run of picks from one core to another, with the count of steps
-pub record IsRun (version : Version) (S : Cells) (w : Oracle) (first now : Held) (n m : ℕ) : Type 0 where
-  pub for_it : IsFor version S w now
+pub record IsRun (W : World) (first now : Held) (n m : ℕ) : Type 0 where
+  pub for_it : IsFor W now
   pub seeds : seeds_of now ≡ seeds_of first
   pub ordered : AreOrdered [] (notes_in first) → AreOrdered [] (notes_in now)
   pub stay : (k : K.Key) → is_noted (notes_in first) k ≡ true → is_noted (notes_in now) k ≡ true
   pub before : (k : K.Key) → is_noted (notes_in now) k ≡ true → (is_noted (notes_in first) k ≡ true) ⊎ ((o : K.Outcome) × (at same_key (state_of now) k ≡ Some (Resolved o)))
-  pub most : m ≤ n + total same_key (program version S w) (is_noted (notes_in first)) (state_of now)
+  pub most : m ≤ n + total same_key (program W) (is_noted (notes_in first)) (state_of now)
   pub least : m < 2 ^ 64 - 1 → n + settled (is_noted (notes_in first)) (state_of now) ≤ m + settled (is_noted (notes_in first)) (state_of first)
 
-pub run_begun : (version : Version) (S : Cells) (w : Oracle) (c : Held) (n : ℕ) → IsFor version S w c → IsRun version S w c c n n
-run_begun version S w c n h = record { for_it = h; seeds = refl; ordered = λ o. o; stay = λ k e. e; before = λ k e. inl e; most = omega arith; least = λ l. omega arith }
+pub run_begun : (W : World) (c : Held) (n : ℕ) → IsFor W c → IsRun W c c n n
+run_begun W c n h = record { for_it = h; seeds = refl; ordered = λ o. o; stay = λ k e. e; before = λ k e. inl e; most = omega arith; least = λ l. omega arith }
 
 -- ---- notes by their keys
 
@@ -167,9 +166,9 @@ nth_there [] i l = absurd (omega arith)
 nth_there (x ∷ xs) zero l = (x, refl)
 nth_there (x ∷ xs) (suc i) l = nth_there xs i (omega arith)
 
-module _ (version : Version) (S : Cells) (w : Oracle) (first c : Held) (n m : ℕ) (h : IsRun version S w first c n m) (i : ℕ) (l : i < length (idle_keys (state_of c))) where
+module _ (W : World) (first c : Held) (n m : ℕ) (h : IsRun W first c n m) (i : ℕ) (l : i < length (idle_keys (state_of c))) where
   P : K.Key → Query K.Key K.Outcome Range K.Outcome
-  P = program version S w
+  P = program W
 
   N : K.Key → Bool
   N = is_noted (notes_in first)
@@ -191,19 +190,19 @@ module _ (version : Version) (S : Cells) (w : Oracle) (first c : Held) (n m : �
   steps_first : counted (is_noted (notes_in c)) (nth (idle_keys (state_of c)) i) m ≡ Spent.counted (is_noted (notes_in first)) (nth (idle_keys (state_of c)) i) m
   steps_first = let (k, ek) = the_key in steps_now k ek ∙ sym (ap (λ v. Spent.counted (is_noted (notes_in first)) v m) ek)
 
-  bounds : (m' : ℕ) → (answer_at same_key max_demanded (program version S w) (state_of c) (nth (idle_keys (state_of c)) i) ≡ Picked.Full → ⊥) → AtMostCounted (is_noted (notes_in c)) (nth (idle_keys (state_of c)) i) m m' →
-      (answer_at same_key max_demanded (program version S w) (state_of c) (nth (idle_keys (state_of c)) i) ≡ Picked.Resolved → m' ≡ counted (is_noted (notes_in c)) (nth (idle_keys (state_of c)) i) m) →
-      (m' ≤ n + total same_key (program version S w) (is_noted (notes_in first)) (pick same_key max_demanded (program version S w) (state_of c) i)) × (m' < 2 ^ 64 - 1 → n + settled (is_noted (notes_in first)) (pick same_key max_demanded (program version S w) (state_of c) i) ≤ m' + settled (is_noted (notes_in first)) (state_of first))
+  bounds : (m' : ℕ) → (answer_at same_key max_demanded (program W) (state_of c) (nth (idle_keys (state_of c)) i) ≡ Picked.Full → ⊥) → AtMostCounted (is_noted (notes_in c)) (nth (idle_keys (state_of c)) i) m m' →
+      (answer_at same_key max_demanded (program W) (state_of c) (nth (idle_keys (state_of c)) i) ≡ Picked.Resolved → m' ≡ counted (is_noted (notes_in c)) (nth (idle_keys (state_of c)) i) m) →
+      (m' ≤ n + total same_key (program W) (is_noted (notes_in first)) (pick same_key max_demanded (program W) (state_of c) i)) × (m' < 2 ^ 64 - 1 → n + settled (is_noted (notes_in first)) (pick same_key max_demanded (program W) (state_of c) i) ≤ m' + settled (is_noted (notes_in first)) (state_of first))
   bounds m' room count exact =
-      bounds_stay K.Key K.Outcome Range same_key max_demanded (program version S w) (seeds_of c) (is_noted (notes_in first)) (state_of c) i n (settled (is_noted (notes_in first)) (state_of first)) m m' key_equality h.for_it.sound room h.most h.least
+      bounds_stay K.Key K.Outcome Range same_key max_demanded (program W) (seeds_of c) (is_noted (notes_in first)) (state_of c) i n (settled (is_noted (notes_in first)) (state_of first)) m m' key_equality h.for_it.sound room h.most h.least
       (subst (λ x. (m' ≡ m) ⊎ (m' ≡ x)) steps_first count) (λ a. exact a ∙ steps_first)
 
-  pub run_goes : (c' : Held) (m' : ℕ) (a : Picked) → state_of c' ≡ pick same_key max_demanded (program version S w) (state_of c) i → a ≡ answer_at same_key max_demanded (program version S w) (state_of c) (nth (idle_keys (state_of c)) i) → (a ≡ Picked.Full → ⊥) →
-      note_keys (notes_in c') ≡ noted_after (notes_in c) (nth (idle_keys (state_of c)) i) a → IsFor version S w c' → seeds_of c' ≡ seeds_of c → (AreOrdered [] (notes_in c) → AreOrdered [] (notes_in c')) → AtMostCounted (is_noted (notes_in c)) (nth (idle_keys (state_of c)) i) m m' → (a ≡ Picked.Resolved → m' ≡ counted (is_noted (notes_in c)) (nth (idle_keys (state_of c)) i) m) → IsRun version S w first c' n m'
+  pub run_goes : (c' : Held) (m' : ℕ) (a : Picked) → state_of c' ≡ pick same_key max_demanded (program W) (state_of c) i → a ≡ answer_at same_key max_demanded (program W) (state_of c) (nth (idle_keys (state_of c)) i) → (a ≡ Picked.Full → ⊥) →
+      note_keys (notes_in c') ≡ noted_after (notes_in c) (nth (idle_keys (state_of c)) i) a → IsFor W c' → seeds_of c' ≡ seeds_of c → (AreOrdered [] (notes_in c) → AreOrdered [] (notes_in c')) → AtMostCounted (is_noted (notes_in c)) (nth (idle_keys (state_of c)) i) m m' → (a ≡ Picked.Resolved → m' ≡ counted (is_noted (notes_in c)) (nth (idle_keys (state_of c)) i) m) → IsRun W first c' n m'
   run_goes c' m' a state answered not_full notes for' seeds' ordered count exact =
       let (k, ek) = the_key in
       let st = state_of c in
-      let p = program version S w in
+      let p = program W in
       let noted = is_noted (notes_in first) in
       let idle = idle_there k ek in
       let e = found (table same_key st) (p k) in
@@ -227,24 +226,24 @@ module _ (version : Version) (S : Cells) (w : Oracle) (first c : Held) (n m : �
       }
 
   -- a pick that isn't Full leaves less to do
-  pub run_ends : (c' : Held) (a : Picked) → state_of c' ≡ pick same_key max_demanded (program version S w) (state_of c) i → a ≡ answer_at same_key max_demanded (program version S w) (state_of c) (nth (idle_keys (state_of c)) i) → (a ≡ Picked.Full → ⊥) → left max_demanded (state_of c') < left max_demanded (state_of c)
+  pub run_ends : (c' : Held) (a : Picked) → state_of c' ≡ pick same_key max_demanded (program W) (state_of c) i → a ≡ answer_at same_key max_demanded (program W) (state_of c) (nth (idle_keys (state_of c)) i) → (a ≡ Picked.Full → ⊥) → left max_demanded (state_of c') < left max_demanded (state_of c)
   run_ends c' a state answered not_full =
       let (k, ek) = the_key in
       let st = state_of c in
-      let p = program version S w in
+      let p = program W in
       let n' : answer same_key max_demanded p st k ≡ Picked.Full → ⊥ = λ f. not_full (answered ∙ ap (answer_at same_key max_demanded p st) ek ∙ f) in
       subst (λ t. left max_demanded t < left max_demanded st) (sym (state ∙ ap (picked same_key max_demanded p st) ek)) (pick_less same_key key_equality max_demanded p (seeds_of c) st k h.for_it.sound h.for_it.within (idle_there k ek) n')
 
-  module _ (full : Picked.Full ≡ answer_at same_key max_demanded (program version S w) (state_of c) (nth (idle_keys (state_of c)) i)) where
-    full_key : (k : K.Key) → nth (idle_keys (state_of c)) i ≡ Some k → answer same_key max_demanded (program version S w) (state_of c) k ≡ Picked.Full
-    full_key k ek = sym (full ∙ ap (answer_at same_key max_demanded (program version S w) (state_of c)) ek)
+  module _ (full : Picked.Full ≡ answer_at same_key max_demanded (program W) (state_of c) (nth (idle_keys (state_of c)) i)) where
+    full_key : (k : K.Key) → nth (idle_keys (state_of c)) i ≡ Some k → answer same_key max_demanded (program W) (state_of c) k ≡ Picked.Full
+    full_key k ek = sym (full ∙ ap (answer_at same_key max_demanded (program W) (state_of c)) ek)
 
     -- a Full pick shows that too many keys are demanded
-    pub run_full : MoreThan max_demanded (Demanded (program version S w) (seeds_of first))
+    pub run_full : MoreThan max_demanded (Demanded (program W) (seeds_of first))
     run_full =
         let (k, ek) = the_key in
-        let (xs, s, d, each) = full_demands same_key key_equality max_demanded (program version S w) (seeds_of c) (state_of c) k h.for_it.sound h.for_it.within (idle_there k ek) (full_key k ek) in
-        (xs, omega arith, d, λ x m. subst (λ t. Demanded (program version S w) t x) h.seeds (each x m))
+        let (xs, s, d, each) = full_demands same_key key_equality max_demanded (program W) (seeds_of c) (state_of c) k h.for_it.sound h.for_it.within (idle_there k ek) (full_key k ek) in
+        (xs, omega arith, d, λ x m. subst (λ t. Demanded (program W) t x) h.seeds (each x m))
 
 -- ---- the end
 
@@ -283,19 +282,19 @@ module _ (noted : K.Key → Bool) where
       by true r = omega arith
       by false r = omega arith
 
-module _ (version : Version) (S : Cells) (w : Oracle) (first c : Held) (n m : ℕ) (h : IsRun version S w first c n m) where
-  sums_allow : (cs : List (Counted K.Key)) → counted_keys cs ≡ unnoted (is_noted (notes_in first)) (state_of c) → AreReads same_key (program version S w) cs → allowed same_key (program version S w) (is_noted (notes_in first)) (table same_key (state_of c)) (state_of c) ≤ sum_reads cs
-  sums_allow cs e r = allowed_within same_key key_equality (program version S w) (is_noted (notes_in first)) (table same_key (state_of c)) (true_table same_key key_equality (program version S w) (seeds_of c) (state_of c) h.for_it.sound) (state_of c) cs e r
+module _ (W : World) (first c : Held) (n m : ℕ) (h : IsRun W first c n m) where
+  sums_allow : (cs : List (Counted K.Key)) → counted_keys cs ≡ unnoted (is_noted (notes_in first)) (state_of c) → AreReads same_key (program W) cs → allowed same_key (program W) (is_noted (notes_in first)) (table same_key (state_of c)) (state_of c) ≤ sum_reads cs
+  sums_allow cs e r = allowed_within same_key key_equality (program W) (is_noted (notes_in first)) (table same_key (state_of c)) (true_table same_key key_equality (program W) (seeds_of c) (state_of c) h.for_it.sound) (state_of c) cs e r
 
-  pub full_allows : (i : ℕ) → i < length (idle_keys (state_of c)) → Picked.Full ≡ answer_at same_key max_demanded (program version S w) (state_of c) (nth (idle_keys (state_of c)) i) → (m' : ℕ) → AtMostCounted (is_noted (notes_in c)) (nth (idle_keys (state_of c)) i) m m' →
-      AllowsDemanded (Demanded (program version S w) (seeds_of first)) (program version S w) (is_noted (notes_in first)) n m'
+  pub full_allows : (i : ℕ) → i < length (idle_keys (state_of c)) → Picked.Full ≡ answer_at same_key max_demanded (program W) (state_of c) (nth (idle_keys (state_of c)) i) → (m' : ℕ) → AtMostCounted (is_noted (notes_in c)) (nth (idle_keys (state_of c)) i) m m' →
+      AllowsDemanded (Demanded (program W) (seeds_of first)) (program W) (is_noted (notes_in first)) n m'
   full_allows i l full m' count =
       let st = state_of c in
-      let p = program version S w in
+      let p = program W in
       let noted = is_noted (notes_in first) in
-      let (k, ek) = the_key version S w first c n m h i l in
-      let idle = idle_there version S w first c n m h i l k ek in
-      let up = at_most_counted (noted k) m m' (subst (λ x. (m' ≡ m) ⊎ (m' ≡ x)) (steps_now version S w first c n m h i l k ek) count) in
+      let (k, ek) = the_key W first c n m h i l in
+      let idle = idle_there W first c n m h i l k ek in
+      let up = at_most_counted (noted k) m m' (subst (λ x. (m' ≡ m) ⊎ (m' ≡ x)) (steps_now W first c n m h i l k ek) count) in
       record {
         keys = unnoted noted st;
         distinct = unnoted_apart noted st h.for_it.sound.apart;
@@ -311,16 +310,16 @@ module _ (version : Version) (S : Cells) (w : Oracle) (first c : Held) (n m : �
     none_idle : (k : K.Key) → at same_key (state_of c) k ≡ Some Idle → ⊥
     none_idle = no_idle same_key key_equality (state_of c) (none_of (idle_keys (state_of c)) quiet_now)
 
-    pub run_quiet : IsQuiet same_key (program version S w) (seeds_of first) (state_of c)
-    run_quiet = subst (λ s. IsQuiet same_key (program version S w) s (state_of c)) h.seeds (quiet same_key key_equality (program version S w) (seeds_of c) (state_of c) h.for_it.sound none_idle)
+    pub run_quiet : IsQuiet same_key (program W) (seeds_of first) (state_of c)
+    run_quiet = subst (λ s. IsQuiet same_key (program W) s (state_of c)) h.seeds (quiet same_key key_equality (program W) (seeds_of c) (state_of c) h.for_it.sound none_idle)
 
-    pub run_few : MoreThan max_demanded (Demanded (program version S w) (seeds_of first)) → ⊥
+    pub run_few : MoreThan max_demanded (Demanded (program W) (seeds_of first)) → ⊥
     run_few (xs, l, d, each) = let a = run_quiet.no_more xs d each in omega (arith, a, l, h.for_it.within)
 
-    pub run_allows : AllowsKnown (program version S w) (is_noted (notes_in first)) (state_of c) n m
+    pub run_allows : AllowsKnown (program W) (is_noted (notes_in first)) (state_of c) n m
     run_allows =
         let noted = is_noted (notes_in first) in
-        let (cs, e, r) = quiet_counted same_key key_equality (program version S w) (seeds_of c) (state_of c) h.for_it.sound none_idle noted in
+        let (cs, e, r) = quiet_counted same_key key_equality (program W) (seeds_of c) (state_of c) h.for_it.sound none_idle noted in
         let a = sums_allow cs e r in
-        let b = credit_allowed same_key key_equality max_demanded (program version S w) (seeds_of c) noted (table same_key (state_of c)) (state_of c) in
+        let b = credit_allowed same_key key_equality max_demanded (program W) (seeds_of c) noted (table same_key (state_of c)) (state_of c) in
         record { counts = cs; keys = e; reads = r; most = omega (arith, a, b, h.most) }

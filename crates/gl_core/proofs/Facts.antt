@@ -61,13 +61,13 @@ member_first (suc n) (y ∷ ys) x (inl e) = inl e
 member_first (suc n) (y ∷ ys) x (inr m) = inr (member_first n ys x m)
 
 pub cores_by_facts : CoresByFacts
-cores_by_facts version S w c = (
+cores_by_facts W c = (
   λ f. (
     record { apart = f.sound.apart; within = f.within; first = f.first; noted = f.noted; marked = f.marked },
-    record { proper = f.proper; true_notes = f.true_notes; right = right same_key key_equality (program version S w) (seeds_of c) (state_of c) f.sound; ahead = f.ahead },
+    record { proper = f.proper; true_notes = f.true_notes; right = right same_key key_equality (program W) (seeds_of c) (state_of c) f.sound; ahead = f.ahead },
   ),
   λ h s. record {
-    sound = sound_by_facts same_key (program version S w) (seeds_of c) (state_of c) h.apart (λ k m. member_known same_key key_equality (state_of c) k (member_first c.seeds (keys (state_of c)) k m)) s.right;
+    sound = sound_by_facts same_key (program W) (seeds_of c) (state_of c) h.apart (λ k m. member_known same_key key_equality (state_of c) k (member_first c.seeds (keys (state_of c)) k m)) s.right;
     within = h.within;
     first = h.first;
     proper = s.proper;

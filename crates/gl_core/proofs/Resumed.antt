@@ -14,6 +14,7 @@ use Rattle.gl_calculus.specs.Formulas.Formula.{Version, Cells}
 use Rattle.gl_calculus.specs.Values.Value.{Oracle}
 use Rattle.gl_calculus.specs.Evaluation.Key as K
 use Rattle.gl_calculus.specs.Evaluation.Key.{same_key}
+use Rattle.gl_calculus.specs.Evaluation.World.{world}
 use Rattle.gl_calculus.specs.Evaluation.Evaluation.{program}
 use Rattle.gl_calculus.specs.Evaluation.Sound.{IsProperKey}
 use Rattle.gl_calculus.specs.Calculation.Memory.{Notes}
@@ -61,21 +62,21 @@ reached_keys : (ks : List K.Key) (rs : List (Row Outcome Range)) (s k : ℕ) →
 reached_keys ks rs s _ Here = Here
 reached_keys ks rs s k (Through n i m e j r) = Through (named ks n) (key_at ks i) (named_member ks rs n m) (ap (key_at ks) e) (key_in ks i n.reads j) (reached_keys ks rs i k r)
 
-module _ (l : Ledger) (seeds : List K.Key) (all : List ℕ) (r : IsResumed l seeds all) (version : Version) (S : Cells) (w : Oracle) (trues : AreTrue same_key (program version S w) (written l)) where
+module _ (l : Ledger) (seeds : List K.Key) (all : List ℕ) (r : IsResumed l seeds all) (version : Version) (S : Cells) (w : Oracle) (trues : AreTrue same_key (program (world version S w)) (written l)) where
   -- each known key is demanded
-  pub number_demanded : (n : ℕ) → Member n all → Demanded (program version S w) seeds (key_at l.book n)
+  pub number_demanded : (n : ℕ) → Member n all → Demanded (program (world version S w)) seeds (key_at l.book n)
   number_demanded n m =
       let (s, i, q) = r.closure.reached n m in
-      reached K.Key K.Outcome Range same_key (program version S w) seeds (written l) (key_at l.book s) (key_at l.book n) trues (Seed (subst (Member (key_at l.book s)) r.seeded (key_in l.book s r.numbers i))) (reached_keys l.book l.rows.items s n q)
+      reached K.Key K.Outcome Range same_key (program (world version S w)) seeds (written l) (key_at l.book s) (key_at l.book n) trues (Seed (subst (Member (key_at l.book s)) r.seeded (key_in l.book s r.numbers i))) (reached_keys l.book l.rows.items s n q)
 
   -- so too many are more than may be demanded
-  pub too_many : AreDistinct l.book → max_demanded < length all → MoreThan max_demanded (Demanded (program version S w) seeds)
+  pub too_many : AreDistinct l.book → max_demanded < length all → MoreThan max_demanded (Demanded (program (world version S w)) seeds)
   too_many apart h =
       let n = length-map (key_at l.book) all in
-      (keys_at l.book all, omega (arith, n, h), keys_apart l.book apart all r.closure.below r.closure.apart, λ k m. (let (j, i, e) = back l.book all k m in subst (Demanded (program version S w) seeds) e (number_demanded j i)))
+      (keys_at l.book all, omega (arith, n, h), keys_apart l.book apart all r.closure.below r.closure.apart, λ k m. (let (j, i, e) = back l.book all k m in subst (Demanded (program (world version S w)) seeds) e (number_demanded j i)))
 
 module _ (l : Ledger) (e : Entries) (c : IsCore l e) (seeds : List K.Key) (r : IsResumed l seeds e.known.items) (b : AreBegun l.rows.items e.known.items e.statuses.items.items)
-    (version : Version) (S : Cells) (w : Oracle) (trues : AreTrue same_key (program version S w) (written l)) (proper : (k : K.Key) → Member k seeds → IsProperKey S k) where
+    (version : Version) (S : Cells) (w : Oracle) (trues : AreTrue same_key (program (world version S w)) (written l)) (proper : (k : K.Key) → Member k seeds → IsProperKey S k) where
   size : length e.statuses.items.items ≡ length (known_keys l e)
   size = known_statuses l e (readable l e c)
 
@@ -141,10 +142,10 @@ module _ (l : Ledger) (e : Entries) (c : IsCore l e) (seeds : List K.Key) (r : I
                 (o, ap (at same_key (table_of l e)) (sym ae) ∙ z),
           )
 
-  pub for_resumed : TellNothing (mark_trees e.marks.items) → IsFor version S w (held l e (length seeds))
+  pub for_resumed : TellNothing (mark_trees e.marks.items) → IsFor (world version S w) (held l e (length seeds))
   for_resumed nothing = record {
-    sound = subst (λ s. IsSound same_key (program version S w) s (table_of l e)) (sym resumed_seeds)
-        (sound K.Key K.Outcome Range same_key (program version S w) seeds (written l) (table_of l e) key_equality trues (subst AreDistinct (sym the_keys) (known_apart l e (readable l e c)))
+    sound = subst (λ s. IsSound same_key (program (world version S w)) s (table_of l e)) (sym resumed_seeds)
+        (sound K.Key K.Outcome Range same_key (program (world version S w)) seeds (written l) (table_of l e) key_equality trues (subst AreDistinct (sym the_keys) (known_apart l e (readable l e c)))
         (λ k m. seed_known k m) (λ k h. demanded_known k h) cases);
     within = (let n = state_length l e c in omega (arith, n, c.table.few));
     first = (let n = state_length l e c in let a : length (known_keys l e) ≡ length (seeds ++ keys_at l.book r.closure.rest) = ap length known_is in let q = known_length l e (readable l e c) in let d = length-append seeds (keys_at l.book r.closure.rest) in omega (arith, n, a, q, d));
@@ -152,7 +153,7 @@ module _ (l : Ledger) (e : Entries) (c : IsCore l e) (seeds : List K.Key) (r : I
     true_notes = trues;
     noted = λ k o d. noted_known k o (cases k (Machine.Resolved o) d);
     marked = marks_length l e c;
-    ahead = λ p k m f g. nothing_ahead S w (program version S w k) (table same_key (table_of l e)) m (nothing p m g);
+    ahead = λ p k m f g. nothing_ahead S w (program (world version S w) k) (table same_key (table_of l e)) m (nothing p m g);
   }
     where
       seed_known : (k : K.Key) → Member k seeds → IsKnown same_key (table_of l e) k
@@ -166,8 +167,8 @@ module _ (l : Ledger) (e : Entries) (c : IsCore l e) (seeds : List K.Key) (r : I
           front (x ∷ xs) ys k (inl e) = inl e
           front (x ∷ xs) ys k (inr m) = inr (front xs ys k m)
 
-      demanded_known : (k : K.Key) → IsKnown same_key (table_of l e) k → Demanded (program version S w) seeds k
-      demanded_known k h = let (n, m, i) = known_number k h in subst (Demanded (program version S w) seeds) i (number_demanded l seeds e.known.items r version S w trues n m)
+      demanded_known : (k : K.Key) → IsKnown same_key (table_of l e) k → Demanded (program (world version S w)) seeds k
+      demanded_known k h = let (n, m, i) = known_number k h in subst (Demanded (program (world version S w)) seeds) i (number_demanded l seeds e.known.items r version S w trues n m)
 
       noted_known : (k : K.Key) (o : K.Outcome) → (◌≡◌ {A = Machine.Status K.Key K.Outcome} (Machine.Resolved o) Machine.Idle) ⊎ ((n : Note K.Key K.Outcome Range) × Member n (written l) × (n.key ≡ k) × (◌≡◌ {A = Machine.Status K.Key K.Outcome} (Machine.Resolved o) (Machine.Resolved n.outcome)) × ((j : K.Key) → Member j n.reads → (o : K.Outcome) × (at same_key (table_of l e) j ≡ Some (Machine.Resolved o)))) → is_noted (written l) k ≡ true
       noted_known k o (inl e) = absurd (cc e)

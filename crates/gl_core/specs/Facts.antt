@@ -5,10 +5,9 @@ use Rattle.gl_machine.specs.Machine as Machine
 use Rattle.gl_machine.specs.Quiet.{IsRight}
 use Rattle.gl_machine.specs.Remembered.{AreTrue}
 use Rattle.gl_calculus.specs.Grid.Limits.{max_demanded}
-use Rattle.gl_calculus.specs.Formulas.Formula.{Version, Cells}
-use Rattle.gl_calculus.specs.Values.Value.{Oracle}
 use Rattle.gl_calculus.specs.Evaluation.Key as K
 use Rattle.gl_calculus.specs.Evaluation.Key.{same_key}
+use Rattle.gl_calculus.specs.Evaluation.World.{World}
 use Rattle.gl_calculus.specs.Evaluation.Evaluation.{program}
 use Rattle.gl_calculus.specs.Evaluation.Sound.{IsProperKey}
 use Rattle.gl_demand.specs.Marks.{PlainMark}
@@ -25,12 +24,12 @@ pub record IsWhole (c : Held) : Type 0 where
   pub marked : length c.marks ≡ length (state_of c)
 
 -- the seeds are proper, the notes are true, what the state says of each key is right, and what each key was reading is ahead of its evaluation
-pub record SaysTrue (version : Version) (S : Cells) (w : Oracle) (c : Held) : Type 0 where
-  pub proper : (k : K.Key) → Member k (seeds_of c) → IsProperKey S k
-  pub true_notes : AreTrue same_key (program version S w) (notes_in c)
-  pub right : IsRight same_key (program version S w) (seeds_of c) (state_of c)
-  pub ahead : (p : ℕ) (k : K.Key) (m : PlainMark) → slice_get (Machine.keys (state_of c)) p ≡ Some k → slice_get c.marks p ≡ Some m → IsMark S w (program version S w k) (Machine.table same_key (state_of c)) m
+pub record SaysTrue (W : World) (c : Held) : Type 0 where
+  pub proper : (k : K.Key) → Member k (seeds_of c) → IsProperKey W.sheet k
+  pub true_notes : AreTrue same_key (program W) (notes_in c)
+  pub right : IsRight same_key (program W) (seeds_of c) (state_of c)
+  pub ahead : (p : ℕ) (k : K.Key) (m : PlainMark) → slice_get (Machine.keys (state_of c)) p ≡ Some k → slice_get c.marks p ≡ Some m → IsMark W.sheet W.oracle (program W k) (Machine.table same_key (state_of c)) m
 
 -- A core is for a sheet, an oracle and a version exactly where it says what is true there.
 abbrev pub CoresByFacts : Type 0
-CoresByFacts = (version : Version) (S : Cells) (w : Oracle) (c : Held) → (IsFor version S w c → IsWhole c × SaysTrue version S w c) × (IsWhole c → SaysTrue version S w c → IsFor version S w c)
+CoresByFacts = (W : World) (c : Held) → (IsFor W c → IsWhole c × SaysTrue W c) × (IsWhole c → SaysTrue W c → IsFor W c)

@@ -7,10 +7,9 @@ use Rattle.gl_machine.specs.Machine as Machine
 use Rattle.gl_machine.specs.Machine.{table}
 use Rattle.gl_calculus.specs.Grid.Limits.{max_demanded}
 use Rattle.gl_calculus.specs.Grid.Grid.{Range}
-use Rattle.gl_calculus.specs.Formulas.Formula.{Version, Cells}
-use Rattle.gl_calculus.specs.Values.Value.{Oracle}
 use Rattle.gl_calculus.specs.Evaluation.Key as K
 use Rattle.gl_calculus.specs.Evaluation.Key.{same_key}
+use Rattle.gl_calculus.specs.Evaluation.World.{World}
 use Rattle.gl_calculus.specs.Evaluation.Evaluation.{program}
 use Rattle.gl_calculus.specs.Evaluation.Sound.{IsProperKey}
 use Rattle.gl_plane.specs.declared.NoMemory.{NoMemory}
@@ -37,8 +36,8 @@ abbrev pub OfKeyAt : ℕ → Ledger → Entries → (K.Key → Type 0) → Type 
 OfKeyAt p l e P = (k : K.Key) → slice_get (known_keys l e) p ≡ Some k → P k
 
 -- the keys of the mark are ahead of the key's evaluation
-abbrev pub IsMarkOf : Version → Cells → Oracle → Ledger → Entries → K.Key → PlainMark → Type 0
-IsMarkOf version S w l e k m = IsMark S w (program version S w k) (outcomes_of l e) m
+abbrev pub IsMarkOf : World → Ledger → Entries → K.Key → PlainMark → Type 0
+IsMarkOf W l e k m = IsMark W.sheet W.oracle (program W k) (outcomes_of l e) m
 
 -- ---- what picks need
 
@@ -49,14 +48,14 @@ pub record IsIdleAt (p : ℕ) (l : Ledger) (e : Entries) : Type 0 where
   pub idle : slice_get e.statuses.items.items p ≡ Some Idle
 
 -- it is proper too, and the outcomes are true
-pub record IsPickable (version : Version) (S : Cells) (w : Oracle) (p : ℕ) (l : Ledger) (e : Entries) : Type 0 where
+pub record IsPickable (W : World) (p : ℕ) (l : Ledger) (e : Entries) : Type 0 where
   pub place : IsIdleAt p l e
-  pub proper : OfKeyAt p l e (IsProperKey S)
-  pub outcomes : IsTrueTable (program version S w) (outcomes_of l e)
+  pub proper : OfKeyAt p l e (IsProperKey W.sheet)
+  pub outcomes : IsTrueTable (program W) (outcomes_of l e)
 
 -- what it was reading is ahead of its evaluation
-abbrev pub IsMarkedAt : Version → Cells → Oracle → ℕ → Ledger → Entries → Type 0
-IsMarkedAt version S w p l e = (k : K.Key) (m : PlainMark) → slice_get (known_keys l e) p ≡ Some k → slice_get (marks_of e) p ≡ Some m → IsMarkOf version S w l e k m
+abbrev pub IsMarkedAt : World → ℕ → Ledger → Entries → Type 0
+IsMarkedAt W p l e = (k : K.Key) (m : PlainMark) → slice_get (known_keys l e) p ≡ Some k → slice_get (marks_of e) p ≡ Some m → IsMarkOf W l e k m
 
 -- it has the note in a row
 abbrev pub IsNotedIn : ℕ → ℕ → Ledger → Entries → Type 0
@@ -93,12 +92,12 @@ abbrev pub StateAndNotesStay : Ledger → Entries → Ledger → Entries → Typ
 StateAndNotesStay l e l' e' = (table_of l' e' ≡ table_of l e) × (written l' ≡ written l)
 
 -- The key at a place was picked: state, answer and notes are by what it finds, and its mark is right. Without memory nothing changes.
-pub record IsPicked (version : Version) (S : Cells) (w : Oracle) (p : ℕ) (l : Ledger) (e : Entries) (r : Result Picked NoMemory) (l' : Ledger) (e' : Entries) : Type 0 where
-  pub state : OnOk r (TurnsBy (found_by (program version S w) l e) p l e l' e')
-  pub answer : IfOk r (λ a. AnswersBy (program version S w) p l e (picked_tree a) l')
+pub record IsPicked (W : World) (p : ℕ) (l : Ledger) (e : Entries) (r : Result Picked NoMemory) (l' : Ledger) (e' : Entries) : Type 0 where
+  pub state : OnOk r (TurnsBy (found_by (program W) l e) p l e l' e')
+  pub answer : IfOk r (λ a. AnswersBy (program W) p l e (picked_tree a) l')
   pub err : OnErr r (StateAndNotesStay l e l' e')
   pub core : IsCore l' e'
-  pub marks : OnOk r (OfKeyAt p l e (λ k. MarksBy (IsMarkOf version S w l e k) p (marks_of e) (marks_of e')))
+  pub marks : OnOk r (OfKeyAt p l e (λ k. MarksBy (IsMarkOf W l e k) p (marks_of e) (marks_of e')))
   pub marks_err : OnErr r (e'.marks.items ≡ e.marks.items)
 
 -- The key at a place needs another, `on`. The notes stay, and without memory the state does.

@@ -1,4 +1,5 @@
 //! The core: known keys, each idle, waiting for another or resolved, and what a pick does.
+ghost use Rattle.gl_calculus.specs.Evaluation.World.{world};
 ghost use Rattle.std.specs.Prelude.{[], true, false, ◌≡◌, ◌≤◌, ◌<◌, ◌+◌, ◌-◌, ◌^◌, ℕ, length, map};
 ghost use Rattle.std.specs.Prelude.{slice_index, OnOk, OnErr, IfOk, IfErr, vec_len};
 ghost use Rattle.std.specs.Coded.{codes};
@@ -138,14 +139,14 @@ impl Core {
             → Member k (map key_tree seeds.items)
             → IsProperKey (sheet cells.now) k }
         requires true_notes { AreTrue same_key
-            (program (version_tree version) (sheet cells.now) w.now) (note_trees (notes_of kept)) }
+            (program (world (version_tree version) (sheet cells.now) w.now)) (note_trees (notes_of kept)) }
         requires sound_notes { HaveSoundParts (note_trees (notes_of kept)) }
         ensures state { IfOk result (λ core.
             state_of core ≡ Machine.start (map key_tree seeds.items)) }
         ensures seeds { IfOk result (λ core. seeds_of core ≡ map key_tree seeds.items) }
         ensures notes { IfOk result (λ core. notes_in core ≡ note_trees (notes_of kept)) }
         ensures for_it { IfOk result (λ core.
-            IsFor (version_tree version) (sheet cells.now) w.now core) }
+            IsFor (world (version_tree version) (sheet cells.now) w.now) core) }
     {
         Core::started(alloc, &seeds, &kept)
     }
@@ -190,8 +191,7 @@ impl Core {
         ensures notes { IfOk result (λ core. notes_in core ≡ results) }
         ensures ordered { IfOk result (λ core. AreOrdered [] (notes_in core)) }
         ensures for_it { IfOk result (λ core.
-            IsFor (version_tree evaluator.now.version) (sheet evaluator.now.cells.now)
-            evaluator.now.oracle.now core) }
+            IsFor (world (version_tree evaluator.now.version) (sheet evaluator.now.cells.now) evaluator.now.oracle.now) core) }
         ensures work { IfErr result (λ e.
             e ≡ CoreFault.Work
             → MoreThan max_demanded
@@ -231,15 +231,15 @@ impl Core {
         steps: &mut Steps<L>,
     ) -> Result<Picked, NoMemory>
         requires there { i < length (idle_keys (state_of self.old)) }
-        requires for_it { IsFor (version_tree version) (sheet cells.now) w.now self.old }
+        requires for_it { IsFor (world (version_tree version) (sheet cells.now) w.now) self.old }
         ensures state { OnOk result (
             state_of self.new
             ≡ Machine.pick same_key max_demanded
-            (program (version_tree version) (sheet cells.now) w.now) (state_of self.old) i) }
+            (program (world (version_tree version) (sheet cells.now) w.now)) (state_of self.old) i) }
         ensures answer { IfOk result (λ picked.
             picked_tree picked
             ≡ answer_at same_key max_demanded
-            (program (version_tree version) (sheet cells.now) w.now) (state_of self.old)
+            (program (world (version_tree version) (sheet cells.now) w.now)) (state_of self.old)
             (nth (idle_keys (state_of self.old)) i)) }
         ensures notes { IfOk result (λ picked.
             note_keys (notes_in self.new)
@@ -248,7 +248,7 @@ impl Core {
         ensures ordered { AreOrdered [] (notes_in self.old) → AreOrdered [] (notes_in self.new) }
         ensures err { OnErr result (self.new ≡ self.old) }
         ensures seeds { seeds_of self.new ≡ seeds_of self.old }
-        ensures stays { IsFor (version_tree version) (sheet cells.now) w.now self.new }
+        ensures stays { IsFor (world (version_tree version) (sheet cells.now) w.now) self.new }
         ensures counted { AtMostCounted (is_noted (notes_in self.old))
             (nth (idle_keys (state_of self.old)) i) steps.old steps.new }
         ensures evaluated { IfOk result (λ picked.
@@ -281,30 +281,30 @@ impl Core {
     ) -> Result<Quiet, CoreFault>
         requires rule { PicksBelow (F.pre (rule_of order.now)) (F.post (rule_of order.now)) }
         requires kind { kind ≤ 2 }
-        requires for_it { IsFor (version_tree version) (sheet cells.now) w.now self }
+        requires for_it { IsFor (world (version_tree version) (sheet cells.now) w.now) self }
         ensures quiet { IfOk result (λ q.
-            IsQuiet same_key (program (version_tree version) (sheet cells.now) w.now)
+            IsQuiet same_key (program (world (version_tree version) (sheet cells.now) w.now))
             (seeds_of self) (state_of q)) }
         ensures seeds { IfOk result (λ q. seeds_of q ≡ seeds_of self) }
-        ensures stays { IfOk result (λ q. IsFor (version_tree version) (sheet cells.now) w.now q) }
+        ensures stays { IfOk result (λ q. IsFor (world (version_tree version) (sheet cells.now) w.now) q) }
         ensures ordered { IfOk result (λ q.
             AreOrdered [] (notes_in self) → AreOrdered [] (notes_in q)) }
         ensures work { IfErr result (λ e.
             e ≡ CoreFault.Work
             → MoreThan max_demanded
-            (Demanded (program (version_tree version) (sheet cells.now) w.now) (seeds_of self))) }
+            (Demanded (program (world (version_tree version) (sheet cells.now) w.now)) (seeds_of self))) }
         ensures no_work { IfOk result (λ q.
             MoreThan max_demanded
-            (Demanded (program (version_tree version) (sheet cells.now) w.now) (seeds_of self))
+            (Demanded (program (world (version_tree version) (sheet cells.now) w.now)) (seeds_of self))
             → ⊥) }
         ensures most { IfOk result (λ q.
-            AllowsKnown (program (version_tree version) (sheet cells.now) w.now)
+            AllowsKnown (program (world (version_tree version) (sheet cells.now) w.now))
             (is_noted (notes_in self)) (state_of q) steps.old steps.new) }
         ensures most_work { IfErr result (λ e.
             e ≡ CoreFault.Work
             → AllowsDemanded
-            (Demanded (program (version_tree version) (sheet cells.now) w.now) (seeds_of self))
-            (program (version_tree version) (sheet cells.now) w.now) (is_noted (notes_in self))
+            (Demanded (program (world (version_tree version) (sheet cells.now) w.now)) (seeds_of self))
+            (program (world (version_tree version) (sheet cells.now) w.now)) (is_noted (notes_in self))
             steps.old steps.new) }
         ensures least { IfOk result (λ q.
             steps.new < 2 ^ 64 - 1

@@ -18,6 +18,7 @@ use Rattle.gl_calculus.specs.Evaluation.Oracle.{Sizes, grant, first_difference}
 use Rattle.gl_calculus.specs.Evaluation.Facts.{facts}
 use Rattle.gl_calculus.specs.Evaluation.Key.{Key, Cell, Settle, same_key, Outcome, Budget}
 use Rattle.gl_calculus.specs.Evaluation.Reference.{at_address}
+use Rattle.gl_calculus.specs.Evaluation.World.{World, world}
 use Rattle.gl_calculus.specs.Evaluation.Evaluation.{program}
 use Rattle.gl_calculus.specs.Calculation.Calculation.{has_content, why, round_budget, Shown, Cycle, SpentKind, spent_at}
 use Rattle.gl_examples.proofs.Worked.Sheets.{sized}
@@ -30,8 +31,8 @@ abbrev pub State : Type 0
 State = List (Entry Key Outcome)
 
 -- the state after so many picks of the first idle key
-abbrev pub state : Version → Cells → Oracle → ℕ → State
-state version S w n = picks same_key max_demanded (program version S w) (start (map (Cell Top) (formula_addresses S))) (replicate n 0)
+abbrev pub state : World → ℕ → State
+state W n = picks same_key max_demanded (program W) (start (map (Cell Top) (formula_addresses W.sheet))) (replicate n 0)
 
 abbrev pub known : State → Key → Option Outcome
 known st = table same_key st
@@ -51,11 +52,11 @@ abbrev pub shown_by : Option (Result Value Budget) → Shown
 shown_by (Some (Ok (V.Value.One x))) = Shown.Value x
 shown_by x = Cycle
 
-abbrev pub shown_at : Version → Cells → Oracle → State → Addr → Shown
-shown_at version S w st a = shown_by (run (known st) (given (facts S w) (at_address Top a)))
+abbrev pub shown_at : World → State → Addr → Shown
+shown_at W st a = shown_by (run (known st) (given (facts W.sheet W.oracle) (at_address Top a)))
 
-abbrev pub shown_rows : Version → Cells → Oracle → State → Range → List (List Shown)
-shown_rows version S w st r = map (λ i. map (λ j. shown_at version S w st (addr j i)) (range_with_len r.first.col (extents r).cols)) (range_with_len r.first.row (extents r).rows)
+abbrev pub shown_rows : World → State → Range → List (List Shown)
+shown_rows W st r = map (λ i. map (λ j. shown_at W st (addr j i)) (range_with_len r.first.col (extents r).cols)) (range_with_len r.first.row (extents r).rows)
 
 abbrev pub spent_of : Option (Budget × Addr) → Option Bytes
 spent_of None = None
@@ -70,7 +71,7 @@ quiet st = length (idle_keys st) == 0
 
 module _ (version : Version) (S : Cells) (n : ℕ) (r : Range) where
   abbrev pub settled : Oracle → State → ℕ → Bytes
-  settled w st i = line (codes "settled " ++ decimal (suc i)) ++ oracle_text w ++ table_text (extents r).cols (shown_rows version S w st r) ++ flat_map (λ x. line (why_text (why S w x.root))) w
+  settled w st i = line (codes "settled " ++ decimal (suc i)) ++ oracle_text w ++ table_text (extents r).cols (shown_rows (world version S w) st r) ++ flat_map (λ x. line (why_text (why S w x.root))) w
 
   abbrev pub ended_by : (Oracle → Bytes) → Oracle → State → ℕ → Oracle → Bool → Bool → Bytes
   ended_by go w st i next true last = settled w st i
@@ -94,17 +95,17 @@ module _ (version : Version) (S : Cells) (n : ℕ) (r : Range) where
   -- with at most so many rounds: for each the number of its keys, and then the replies to `calc`, `oracle` and `view`
   abbrev pub rounds_from : (fuel : ℕ) → ℕ → Oracle → Bytes
   rounds_from zero i w = codes "no rounds left"
-  rounds_from (suc f) i w = with_state (rounds_from f (suc i)) w i (state version S w n)
+  rounds_from (suc f) i w = with_state (rounds_from f (suc i)) w i (state (world version S w) n)
 
   abbrev pub answer : Bytes
   answer = rounds_from (round_budget S) 0 []
 
 -- under any oracle: the number of keys, and what a range shows
-abbrev pub seen_under : Version → Cells → Oracle → ℕ → Range → Bytes
-seen_under version S w n r = with_st (state version S w n)
+abbrev pub seen_under : World → ℕ → Range → Bytes
+seen_under W n r = with_st (state W n)
   where
     with_st : State → Bytes
-    with_st st = line (codes "keys " ++ decimal (length st)) ++ table_text (extents r).cols (shown_rows version S w st r)
+    with_st st = line (codes "keys " ++ decimal (length st)) ++ table_text (extents r).cols (shown_rows W st r)
 
 -- ---- what keys read and looked at
 
@@ -113,15 +114,15 @@ key_text (Cell Top a) = address_text a
 key_text (Cell (In s o) a) = address_text a ++ codes " in " ++ range_text (region s) ++ codes " rank " ++ decimal (rank s) ++ codes " weight " ++ decimal (frame_weight (In s o))
 key_text (Settle s) = codes "settle " ++ range_text (region s) ++ codes " rank " ++ decimal (rank s) ++ codes " weight " ++ decimal (weight s)
 
-abbrev pub walk_text : Version → Cells → Oracle → State → Key → Bytes
-walk_text version S w st k =
+abbrev pub walk_text : World → State → Key → Bytes
+walk_text W st k =
     line (key_text k ++ codes ":")
-    ++ flat_map (λ j. line (codes "  reads " ++ key_text j)) (distinct same_key (asked (known st) (program version S w k)))
-    ++ flat_map (λ r. line (codes "  looks " ++ range_text r)) (looked (known st) (program version S w k))
+    ++ flat_map (λ j. line (codes "  reads " ++ key_text j)) (distinct same_key (asked (known st) (program W k)))
+    ++ flat_map (λ r. line (codes "  looks " ++ range_text r)) (looked (known st) (program W k))
 
 -- under an oracle: for each known key what it reads and looks at
-abbrev pub walks : Version → Cells → Oracle → ℕ → Bytes
-walks version S w n = with_st (state version S w n)
+abbrev pub walks : World → ℕ → Bytes
+walks W n = with_st (state W n)
   where
     with_st : State → Bytes
-    with_st st = flat_map (walk_text version S w st) (keys st)
+    with_st st = flat_map (walk_text W st) (keys st)

@@ -2,9 +2,8 @@
 use Rattle.std.proofs.Common.{◌≡◌, ℕ, ◌<◌, List, [], ◌∷◌, ◌++◌, length, cond, Bool, true, false, Some, refl, sym, ap, subst, ◌∙◌, arith}
 use Rattle.gl_calculus.specs.Computation.Query.{Need, found}
 use Rattle.gl_calculus.specs.Grid.Grid.{Range}
-use Rattle.gl_calculus.specs.Formulas.Formula.{Version, Cells}
-use Rattle.gl_calculus.specs.Values.Value.{Oracle}
 use Rattle.gl_calculus.specs.Evaluation.Key.{Key, Outcome, same_key}
+use Rattle.gl_calculus.specs.Evaluation.World.{World}
 use Rattle.gl_calculus.specs.Evaluation.Evaluation.{program}
 use Rattle.gl_calculus.specs.Explanation.Walk.{Claim, noted}
 use Rattle.laws_calculus.proofs.Explanation.Going.{snoc_same}
@@ -84,37 +83,37 @@ noted_still (n ∷ done) more k o e = by (same_key k n.0) e (λ d. noted_still d
     by true e f = e
     by false e f = f e
 
-module _ (version : Version) (S : Cells) (w : Oracle) where
+module _ (W : World) where
   -- a mark stays one over more notes
-  mark_stays : (done more : List (Claim Key Outcome)) (k : Key) (m : PlainMark) → IsMark version S w done k m → IsMark version S w (done ++ more) k m
-  mark_stays done more k m a = ahead_stays Key Outcome Range Outcome is_value (program version S w k) (noted same_key done) (noted same_key (done ++ more)) (keys_from S w m.0 m.1) (noted_still done more) a
+  mark_stays : (done more : List (Claim Key Outcome)) (k : Key) (m : PlainMark) → IsMark W done k m → IsMark W (done ++ more) k m
+  mark_stays done more k m a = ahead_stays Key Outcome Range Outcome is_value (program W k) (noted same_key done) (noted same_key (done ++ more)) (keys_from W.sheet W.oracle m.0 m.1) (noted_still done more) a
 
-  pub nothing_marks : (done : List (Claim Key Outcome)) (k : Key) → IsMark version S w done k (Nothing, 0)
+  pub nothing_marks : (done : List (Claim Key Outcome)) (k : Key) → IsMark W done k (Nothing, 0)
   nothing_marks done k g h i d = absurd (cc d)
 
   -- the first that is lacked is needed
-  pub mark_needs : (done : List (Claim Key Outcome)) (k i : Key) (m : PlainMark) → IsMark version S w done k m → first_lacked is_value (noted same_key done) (keys_from S w m.0 m.1) ≡ Some i → found (noted same_key done) (program version S w k) ≡ Need i
+  pub mark_needs : (done : List (Claim Key Outcome)) (k i : Key) (m : PlainMark) → IsMark W done k m → first_lacked is_value (noted same_key done) (keys_from W.sheet W.oracle m.0 m.1) ≡ Some i → found (noted same_key done) (program W k) ≡ Need i
   mark_needs done k i m a e = a (noted same_key done) (λ j o d. d) i e
 
   -- the place moves on
-  pub mark_onward : (done : List (Claim Key Outcome)) (k : Key) (m : PlainMark) (n : ℕ) → LackSame is_value (noted same_key done) (keys_from S w m.0 m.1) (keys_from S w m.0 n) → IsMark version S w done k m → IsMark version S w done k (m.0, n)
-  mark_onward done k m n l a = (ahead_onward Key Outcome Range Outcome is_value (program version S w k) (noted same_key done) (keys_from S w m.0 m.1) (keys_from S w m.0 n)).1 l a
+  pub mark_onward : (done : List (Claim Key Outcome)) (k : Key) (m : PlainMark) (n : ℕ) → LackSame is_value (noted same_key done) (keys_from W.sheet W.oracle m.0 m.1) (keys_from W.sheet W.oracle m.0 n) → IsMark W done k m → IsMark W done k (m.0, n)
+  mark_onward done k m n l a = (ahead_onward Key Outcome Range Outcome is_value (program W k) (noted same_key done) (keys_from W.sheet W.oracle m.0 m.1) (keys_from W.sheet W.oracle m.0 n)).1 l a
 
   -- the top is taken off, and noted
-  pub off_marks : (o : Outcome) (done more : List (Claim Key Outcome)) (up us vs : List Key) (k : Key) (t : Turned) (ns : List PlainMark) → IsTakenOff o done up t more vs → up ≡ us ++ k ∷ [] → AreMarks version S w done us ns → AreMarks version S w more vs ns
+  pub off_marks : (o : Outcome) (done more : List (Claim Key Outcome)) (up us vs : List Key) (k : Key) (t : Turned) (ns : List PlainMark) → IsTakenOff o done up t more vs → up ≡ us ++ k ∷ [] → AreMarks W done us ns → AreMarks W more vs ns
   off_marks o done more up us vs k t ns x e h =
       let (p, q) = snoc_same us vs k x.top (sym e ∙ x.off) in
-      let f = each_marked (IsMark version S w done) (IsMark version S w (done ++ (x.top, o) ∷ [])) (mark_stays done ((x.top, o) ∷ [])) us ns h in
-      subst (λ d. AreMarks version S w d vs ns) (sym x.noted) (subst (λ u. AreMarks version S w (done ++ (x.top, o) ∷ []) u ns) p f)
+      let f = each_marked (IsMark W done) (IsMark W (done ++ (x.top, o) ∷ [])) (mark_stays done ((x.top, o) ∷ [])) us ns h in
+      subst (λ d. AreMarks W d vs ns) (sym x.noted) (subst (λ u. AreMarks W (done ++ (x.top, o) ∷ []) u ns) p f)
 
   -- a key is put on
-  pub on_marks : (done : List (Claim Key Outcome)) (up us vs : List Key) (k j : Key) (m : PlainMark) (ms ns : List PlainMark) (t : Turned) → IsPutOn j m done up ms t vs ns → up ≡ us ++ k ∷ [] → AreMarks version S w done us ms → IsMark version S w done k m → t ≡ On → AreMarks version S w done vs ns
+  pub on_marks : (done : List (Claim Key Outcome)) (up us vs : List Key) (k j : Key) (m : PlainMark) (ms ns : List PlainMark) (t : Turned) → IsPutOn j m done up ms t vs ns → up ≡ us ++ k ∷ [] → AreMarks W done us ms → IsMark W done k m → t ≡ On → AreMarks W done vs ns
   on_marks done up us vs k j m ms ns t p e h a d = by t vs ns p d
     where
-      by : (t : Turned) (vs : List Key) (ns : List PlainMark) → IsPutOn j m done up ms t vs ns → t ≡ On → AreMarks version S w done vs ns
+      by : (t : Turned) (vs : List Key) (ns : List PlainMark) → IsPutOn j m done up ms t vs ns → t ≡ On → AreMarks W done vs ns
       by _ _ _ (there i) d = absurd (cc d)
       by _ _ _ (full i c) d = absurd (cc d)
       by _ _ _ (on i c) d =
-          more_marked (IsMark version S w done) up j (ms ++ m ∷ []) (Nothing, 0)
-          (subst (λ u. AreMarks version S w done u (ms ++ m ∷ [])) (sym e) (more_marked (IsMark version S w done) us k ms m h a))
+          more_marked (IsMark W done) up j (ms ++ m ∷ []) (Nothing, 0)
+          (subst (λ u. AreMarks W done u (ms ++ m ∷ [])) (sym e) (more_marked (IsMark W done) us k ms m h a))
           (nothing_marks done j)

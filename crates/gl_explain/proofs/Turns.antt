@@ -4,10 +4,9 @@ use Rattle.std.proofs.lemmas.List.{length-append, length-reverse}
 use Rattle.gl_calculus.specs.Computation.Lists.{has_member}
 use Rattle.gl_calculus.specs.Computation.Query.{Ready, Need, found}
 use Rattle.gl_calculus.specs.Grid.Limits.{max_demanded}
-use Rattle.gl_calculus.specs.Values.Value.{Oracle}
-use Rattle.gl_calculus.specs.Formulas.Formula.{Version, Cells}
 use Rattle.gl_calculus.specs.Evaluation.Key.{Key, Outcome, same_key}
 use Rattle.gl_calculus.specs.Evaluation.SameOutcome.{same_outcome}
+use Rattle.gl_calculus.specs.Evaluation.World.{World}
 use Rattle.gl_calculus.specs.Evaluation.Evaluation.{program}
 use Rattle.gl_calculus.specs.Evaluation.Sound.{is_sound_key, IsProperKey}
 use Rattle.gl_demand.specs.Sound.{AreSoundKeys}
@@ -28,65 +27,65 @@ use Rattle.gl_explain.specs.Putting.{IsTakenOff, IsPutOn, there, full, on}
 use Rattle.gl_explain.specs.declared.turning.Turned.{Turned}
 use Rattle.gl_explain.specs.declared.turning.Turned.TheVariants.{On}
 
-module _ (version : Version) (S : Cells) (w : Oracle) (root : Key) where
+module _ (W : World) (root : Key) where
   abbrev Walking : ℕ → ℕ → List (Claim Key Outcome) → List Key → Type 0
-  Walking n m done up = IsWalking version S w root n m done up
+  Walking n m done up = IsWalking W root n m done up
 
-  pub begin_walk : (n : ℕ) → is_proper S root ≡ true → Walking n n [] (root ∷ [])
-  begin_walk n f = record { fine = f; so_far = Go.begins same_key same_outcome (is_proper S) max_demanded (program version S w) key_equality outcome_equality (λ k. asks_test S (asks_proper S w version k)) root f n (omega arith) }
+  pub begin_walk : (n : ℕ) → is_proper W.sheet root ≡ true → Walking n n [] (root ∷ [])
+  begin_walk n f = record { fine = f; so_far = Go.begins same_key same_outcome (is_proper W.sheet) max_demanded (program W) key_equality outcome_equality (λ k. asks_test W.sheet (asks_proper W.sheet W.oracle W.version k)) root f n (omega arith) }
 
   pub top_free : (n m : ℕ) (done : List (Claim Key Outcome)) (us : List Key) (k : Key) → Walking n m done (us ++ k ∷ []) → noted same_key done k ≡ None
-  top_free n m done us k h = Go.top_unnoted same_key same_outcome (is_proper S) max_demanded (program version S w) key_equality outcome_equality (λ k. asks_test S (asks_proper S w version k)) root h.fine n m done us k h.so_far
+  top_free n m done us k h = Go.top_unnoted same_key same_outcome (is_proper W.sheet) max_demanded (program W) key_equality outcome_equality (λ k. asks_test W.sheet (asks_proper W.sheet W.oracle W.version k)) root h.fine n m done us k h.so_far
 
-  pub top_proper : (n m : ℕ) (done : List (Claim Key Outcome)) (us : List Key) (k : Key) → Walking n m done (us ++ k ∷ []) → IsProperKey S k
-  top_proper n m done us k h = test_proper S k (Go.top_allowed same_key same_outcome (is_proper S) max_demanded (program version S w) key_equality outcome_equality (λ k. asks_test S (asks_proper S w version k)) root h.fine n m done us k h.so_far)
+  pub top_proper : (n m : ℕ) (done : List (Claim Key Outcome)) (us : List Key) (k : Key) → Walking n m done (us ++ k ∷ []) → IsProperKey W.sheet k
+  top_proper n m done us k h = test_proper W.sheet k (Go.top_allowed same_key same_outcome (is_proper W.sheet) max_demanded (program W) key_equality outcome_equality (λ k. asks_test W.sheet (asks_proper W.sheet W.oracle W.version k)) root h.fine n m done us k h.so_far)
 
   -- what a walk that ended found
-  ends_sound : (h : is_proper S root ≡ true) (done : List (Claim Key Outcome)) (up : List Key) → IsWalk same_key max_demanded (program version S w) (root ∷ []) (Explained done up) →
-      Wa.Sound same_key same_outcome (is_proper S) max_demanded (program version S w) key_equality outcome_equality (λ k. asks_test S (asks_proper S w version k)) root h done up
-  ends_sound h done up (i, e) = Wa.walk_finds same_key same_outcome (is_proper S) max_demanded (program version S w) key_equality outcome_equality (λ k. asks_test S (asks_proper S w version k)) root h i (Explained done up) e
+  ends_sound : (h : is_proper W.sheet root ≡ true) (done : List (Claim Key Outcome)) (up : List Key) → IsWalk same_key max_demanded (program W) (root ∷ []) (Explained done up) →
+      Wa.Sound same_key same_outcome (is_proper W.sheet) max_demanded (program W) key_equality outcome_equality (λ k. asks_test W.sheet (asks_proper W.sheet W.oracle W.version k)) root h done up
+  ends_sound h done up (i, e) = Wa.walk_finds same_key same_outcome (is_proper W.sheet) max_demanded (program W) key_equality outcome_equality (λ k. asks_test W.sheet (asks_proper W.sheet W.oracle W.version k)) root h i (Explained done up) e
 
-  pub end_empty : (n m : ℕ) (done : List (Claim Key Outcome)) → Walking n m done [] → HasEnded version S w root n m done []
+  pub end_empty : (n m : ℕ) (done : List (Claim Key Outcome)) → Walking n m done [] → HasEnded W root n m done []
   end_empty n m done h =
-      let e = Go.emptied same_key same_outcome (is_proper S) max_demanded (program version S w) key_equality outcome_equality (λ k. asks_test S (asks_proper S w version k)) root h.fine n m done h.so_far in
-      record { walked = e; allows = Sp.emptied_spent same_key same_outcome (is_proper S) max_demanded (program version S w) key_equality outcome_equality (λ k. asks_test S (asks_proper S w version k)) root h.fine n m done h.so_far (ends_sound h.fine done [] e) }
+      let e = Go.emptied same_key same_outcome (is_proper W.sheet) max_demanded (program W) key_equality outcome_equality (λ k. asks_test W.sheet (asks_proper W.sheet W.oracle W.version k)) root h.fine n m done h.so_far in
+      record { walked = e; allows = Sp.emptied_spent same_key same_outcome (is_proper W.sheet) max_demanded (program W) key_equality outcome_equality (λ k. asks_test W.sheet (asks_proper W.sheet W.oracle W.version k)) root h.fine n m done h.so_far (ends_sound h.fine done [] e) }
 
   -- a turn where the top has an outcome
   pub off_turned : (n m l : ℕ) (done more : List (Claim Key Outcome)) (up us : List Key) (o : Outcome) (t : Turned) → Walking n m done up → IsTakenOff o done up t more us →
-      ((k : Key) (vs : List Key) → up ≡ vs ++ k ∷ [] → found (noted same_key done) (program version S w k) ≡ Ready o) → l ≤ m + 1 → IsTurned version S w root n l more us t
+      ((k : Key) (vs : List Key) → up ≡ vs ++ k ∷ [] → found (noted same_key done) (program W k) ≡ Ready o) → l ≤ m + 1 → IsTurned W root n l more us t
   off_turned n m l done more up us o t h x f b =
-      subst (IsTurned version S w root n l more us) (sym x.goes_on)
+      subst (IsTurned W root n l more us) (sym x.goes_on)
       (subst (λ d. Walking n l d us) (sym x.noted)
       (let g = subst (Walking n m done) x.off h in
-      record { fine = g.fine; so_far = Go.taken_off same_key same_outcome (is_proper S) max_demanded (program version S w) key_equality outcome_equality (λ k. asks_test S (asks_proper S w version k)) root g.fine n m l done us x.top o g.so_far (f x.top us x.off) b }))
+      record { fine = g.fine; so_far = Go.taken_off same_key same_outcome (is_proper W.sheet) max_demanded (program W) key_equality outcome_equality (λ k. asks_test W.sheet (asks_proper W.sheet W.oracle W.version k)) root g.fine n m l done us x.top o g.so_far (f x.top us x.off) b }))
 
   -- a turn where it lacks a key
   pub on_turned : (n m l : ℕ) (done : List (Claim Key Outcome)) (up us vs : List Key) (k j : Key) (a : PlainMark) (ms ns : List PlainMark) (t : Turned) → Walking n m done up → up ≡ us ++ k ∷ [] → IsPutOn j a done up ms t vs ns →
-      found (noted same_key done) (program version S w k) ≡ Need j → l ≤ m + 1 → IsTurned version S w root n l done vs t
+      found (noted same_key done) (program W k) ≡ Need j → l ≤ m + 1 → IsTurned W root n l done vs t
   on_turned n m l done up us vs k j a ms ns t h e p f b = by t vs ns p
     where
       g : Walking n m done (us ++ k ∷ [])
       g = subst (Walking n m done) e h
 
-      by : (t : Turned) (vs : List Key) (ns : List PlainMark) → IsPutOn j a done up ms t vs ns → IsTurned version S w root n l done vs t
+      by : (t : Turned) (vs : List Key) (ns : List PlainMark) → IsPutOn j a done up ms t vs ns → IsTurned W root n l done vs t
       by _ _ _ (there i) =
           let i' = subst (λ z. has_member same_key j z ≡ true) e i in
-          let c = Go.circled same_key same_outcome (is_proper S) max_demanded (program version S w) key_equality outcome_equality (λ k. asks_test S (asks_proper S w version k)) root g.fine n m done us k j g.so_far f i' in
-          subst (HasEnded version S w root n l done) (sym e)
-          (record { walked = c; allows = Sp.circled_spent same_key same_outcome (is_proper S) max_demanded (program version S w) key_equality outcome_equality (λ k. asks_test S (asks_proper S w version k)) root g.fine n m l done us k g.so_far (ends_sound g.fine done (us ++ k ∷ []) c) b })
+          let c = Go.circled same_key same_outcome (is_proper W.sheet) max_demanded (program W) key_equality outcome_equality (λ k. asks_test W.sheet (asks_proper W.sheet W.oracle W.version k)) root g.fine n m done us k j g.so_far f i' in
+          subst (HasEnded W root n l done) (sym e)
+          (record { walked = c; allows = Sp.circled_spent same_key same_outcome (is_proper W.sheet) max_demanded (program W) key_equality outcome_equality (λ k. asks_test W.sheet (asks_proper W.sheet W.oracle W.version k)) root g.fine n m l done us k g.so_far (ends_sound g.fine done (us ++ k ∷ []) c) b })
       by _ _ _ (full i c) =
           let i' = subst (λ z. has_member same_key j z ≡ false) e i in
           let c' = subst (λ z. length done + length z ≡ max_demanded) e c in
-          let (ks, d, q, each, most) = Sp.exhausted_spent same_key same_outcome (is_proper S) max_demanded (program version S w) key_equality outcome_equality (λ k. asks_test S (asks_proper S w version k)) root g.fine n m l done us k g.so_far c' b in
+          let (ks, d, q, each, most) = Sp.exhausted_spent same_key same_outcome (is_proper W.sheet) max_demanded (program W) key_equality outcome_equality (λ k. asks_test W.sheet (asks_proper W.sheet W.oracle W.version k)) root g.fine n m l done us k g.so_far c' b in
           record {
-            walked = Go.exhausted same_key same_outcome (is_proper S) max_demanded (program version S w) key_equality outcome_equality (λ k. asks_test S (asks_proper S w version k)) root g.fine n m done us k j g.so_far f i' c';
+            walked = Go.exhausted same_key same_outcome (is_proper W.sheet) max_demanded (program W) key_equality outcome_equality (λ k. asks_test W.sheet (asks_proper W.sheet W.oracle W.version k)) root g.fine n m done us k j g.so_far f i' c';
             allows = record { keys = ks; distinct = d; few = q; each = λ x y. (each x y, refl); most = most };
           }
       by _ _ _ (on i c) =
           let i' = subst (λ z. has_member same_key j z ≡ false) e i in
           let c' : length done + length (us ++ k ∷ []) ≡ max_demanded → ⊥ = λ z. c (ap (λ y. length done + length y) e ∙ z) in
           subst (λ z. Walking n l done (z ++ j ∷ [])) (sym e)
-          (record { fine = g.fine; so_far = Go.put_on same_key same_outcome (is_proper S) max_demanded (program version S w) key_equality outcome_equality (λ k. asks_test S (asks_proper S w version k)) root g.fine n m l done us k j g.so_far f i' c' b })
+          (record { fine = g.fine; so_far = Go.put_on same_key same_outcome (is_proper W.sheet) max_demanded (program W) key_equality outcome_equality (λ k. asks_test W.sheet (asks_proper W.sheet W.oracle W.version k)) root g.fine n m l done us k j g.so_far f i' c' b })
 
   walking_room : (n m : ℕ) (done : List (Claim Key Outcome)) (up : List Key) → Walking n m done up → length done + length up ≤ max_demanded
   walking_room n m done up h = omega (arith, h.so_far.room, ap length h.so_far.order, ap length h.so_far.stacked, length-reverse h.so_far.notes, length-reverse h.so_far.stack)

@@ -3,10 +3,9 @@
 use Rattle.std.specs.Prelude.{◌≡◌, ℕ, ◌+◌, ◌*◌, ◌-◌, List, [], ◌∷◌, length, true, false}
 use Rattle.gl_calculus.specs.Computation.Demanded.{Demanded}
 use Rattle.gl_calculus.specs.Grid.Limits.{max_demanded}
-use Rattle.gl_calculus.specs.Values.Value.{Oracle}
-use Rattle.gl_calculus.specs.Formulas.Formula.{Version, Cells}
 use Rattle.gl_calculus.specs.Evaluation.Key.{Key, Outcome, same_key}
 use Rattle.gl_calculus.specs.Evaluation.SameOutcome.{same_outcome}
+use Rattle.gl_calculus.specs.Evaluation.World.{World}
 use Rattle.gl_calculus.specs.Evaluation.Evaluation.{program}
 use Rattle.laws_calculus.proofs.Calculus.OutcomeTests.{outcome_equality}
 use Rattle.laws_calculus.proofs.Calculus.Proper.{asks_proper}
@@ -20,21 +19,21 @@ use Rattle.gl_calculus.specs.Steps.Demanded.{AllowsDemanded}
 use Rattle.gl_explain.specs.declared.turning.Turned.{Turned}
 use Rattle.gl_explain.specs.declared.turning.Turned.TheVariants.{On, Ended, Full}
 
-module _ (version : Version) (S : Cells) (w : Oracle) (root : Key) where
+module _ (W : World) (root : Key) where
   -- the walk from the root with n steps at its start has come so far, with m steps
   pub record IsWalking (n m : ℕ) (done : List (Claim Key Outcome)) (up : List Key) : Type 0 where
-    pub fine : is_proper S root ≡ true
-    pub so_far : Go.IsWalking same_key same_outcome (is_proper S) max_demanded (program version S w) key_equality outcome_equality (λ k. asks_test S (asks_proper S w version k)) root fine n m done up
+    pub fine : is_proper W.sheet root ≡ true
+    pub so_far : Go.IsWalking same_key same_outcome (is_proper W.sheet) max_demanded (program W) key_equality outcome_equality (λ k. asks_test W.sheet (asks_proper W.sheet W.oracle W.version k)) root fine n m done up
 
   -- it has ended with these notes and loops
   pub record HasEnded (n m : ℕ) (done : List (Claim Key Outcome)) (up : List Key) : Type 0 where
-    pub walked : IsWalk same_key max_demanded (program version S w) (root ∷ []) (Explained done up)
-    pub allows : AllowsNotes same_key (program version S w) done up n m
+    pub walked : IsWalk same_key max_demanded (program W) (root ∷ []) (Explained done up)
+    pub allows : AllowsNotes same_key (program W) done up n m
 
   -- or at the limit
   pub record IsFull (n m : ℕ) : Type 0 where
-    pub walked : IsWalk same_key max_demanded (program version S w) (root ∷ []) Exhausted
-    pub allows : AllowsDemanded (Demanded (program version S w) (root ∷ [])) (program version S w) (λ k. false) n m
+    pub walked : IsWalk same_key max_demanded (program W) (root ∷ []) Exhausted
+    pub allows : AllowsDemanded (Demanded (program W) (root ∷ [])) (program W) (λ k. false) n m
 
   -- where it stands after a turn
   abbrev pub IsTurned : ℕ → ℕ → List (Claim Key Outcome) → List Key → Turned → Type 0

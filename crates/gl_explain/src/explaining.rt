@@ -1,4 +1,5 @@
 //! The explanation of an address.
+ghost use Rattle.gl_calculus.specs.Evaluation.World.{world};
 ghost use Rattle.std.specs.Prelude.{◌≡◌, ◌≤◌, ℕ, Some, None, map, IfOk};
 ghost use Rattle.gl_calculus.specs.Calculation.Calculation.{IsAnswer};
 ghost use Rattle.gl_calculus.specs.Calculation.Calculation as C;
@@ -38,13 +39,13 @@ fn ended(
     requires ended { (version : F.Version)
         × (n : ℕ)
         × (m : ℕ)
-        × HasEnded version (sheet evaluator.now.cells.now) evaluator.now.oracle.now
+        × HasEnded (world version (sheet evaluator.now.cells.now) evaluator.now.oracle.now)
         (key_tree root.now) n m (claims notes) (map key_tree loops.keys) }
     ensures { IfOk result (λ x.
         (version : F.Version) (n m : ℕ)
-        → HasEnded version (sheet evaluator.now.cells.now) evaluator.now.oracle.now
+        → HasEnded (world version (sheet evaluator.now.cells.now) evaluator.now.oracle.now)
         (key_tree root.now) n m (claims notes) (map key_tree loops.keys)
-        → IsExplained version (sheet evaluator.now.cells.now) evaluator.now.oracle.now a n m
+        → IsExplained (world version (sheet evaluator.now.cells.now) evaluator.now.oracle.now) a n m
         (explained_tree x)) }
 {
     match spent(&notes, root) {
@@ -66,8 +67,7 @@ fn decided<L: Watch>(
     requires { key_at (sheet evaluator.now.cells.now) evaluator.now.oracle.now a ≡ Some
         (key_tree root.now) }
     ensures explained { IfOk result (λ x.
-        IsExplained (version_tree evaluator.now.version) (sheet evaluator.now.cells.now)
-        evaluator.now.oracle.now a steps.old steps.new (explained_tree x)) }
+        IsExplained (world (version_tree evaluator.now.version) (sheet evaluator.now.cells.now) evaluator.now.oracle.now) a steps.old steps.new (explained_tree x)) }
     ensures later { steps.old ≤ steps.new }
 {
     match walk(evaluator, root, steps) {
@@ -82,7 +82,7 @@ fn undecided(evaluator: &Evaluator, a: Addr) -> Result<Explained, NoMemory>
     requires { key_at (sheet evaluator.now.cells.now) evaluator.now.oracle.now a ≡ None }
     ensures { IfOk result (λ x.
         (version : F.Version) (n : ℕ)
-        → IsExplained version (sheet evaluator.now.cells.now) evaluator.now.oracle.now a n n
+        → IsExplained (world version (sheet evaluator.now.cells.now) evaluator.now.oracle.now) a n n
         (explained_tree x)) }
 {
     match made(
@@ -103,8 +103,7 @@ fn explained<L: Watch>(
     steps: &mut Steps<L>,
 ) -> Result<Explained, NoMemory>
     ensures explained { IfOk result (λ x.
-        IsExplained (version_tree evaluator.now.version) (sheet evaluator.now.cells.now)
-        evaluator.now.oracle.now a steps.old steps.new (explained_tree x)) }
+        IsExplained (world (version_tree evaluator.now.version) (sheet evaluator.now.cells.now) evaluator.now.oracle.now) a steps.old steps.new (explained_tree x)) }
     ensures later { steps.old ≤ steps.new }
 {
     match key_at(evaluator.cells, evaluator.oracle, a) {
@@ -129,9 +128,9 @@ pub fn certificate<L: Watch>(
     steps: &mut Steps<L>,
 ) -> Result<Explained, NoMemory>
     ensures explained { IfOk result (λ x.
-        Explains (version_tree version) (sheet cells.now) w.now a (explained_tree x)) }
+        Explains (world (version_tree version) (sheet cells.now) w.now) a (explained_tree x)) }
     ensures accepted { IfOk result (λ x. (c : E.Certificate) → explained_tree x ≡ E.Cert c
-        → verdict (version_tree version) (sheet cells.now) w.now a c ≡ E.Accepted) }
+        → verdict (world (version_tree version) (sheet cells.now) w.now) a c ≡ E.Accepted) }
     ensures certified { IfOk result (λ x.
         (i : ℕ)
         → IsAnswer (version_tree version) (sheet cells.now) (C.Settled w.now i)
@@ -139,7 +138,7 @@ pub fn certificate<L: Watch>(
     ensures sound { IfOk result (λ x. (c : E.Certificate) → explained_tree x ≡ E.Cert c
         → AreSoundKeys (map (λ n. n.0) c.notes) × AreSoundKeys c.loops) }
     ensures steps { IfOk result (λ x.
-        AllowsWalk (version_tree version) (sheet cells.now) w.now a (explained_tree x) steps.old
+        AllowsWalk (world (version_tree version) (sheet cells.now) w.now) a (explained_tree x) steps.old
         steps.new) }
     ensures later { steps.old ≤ steps.new }
 {

@@ -1,4 +1,5 @@
 //! What the top of a stack comes to over the notes, by what it was reading or by an evaluation.
+ghost use Rattle.gl_calculus.specs.Evaluation.World.{world};
 ghost use Rattle.std.specs.Prelude.{◌≡◌, ◌≤◌, ◌+◌, IsTrue, IfOk};
 ghost use Rattle.gl_calculus.specs.Computation.Query.{Need, found};
 ghost use Rattle.gl_calculus.specs.Evaluation.Key.{same_key};
@@ -63,12 +64,10 @@ pub fn read_on<L: Watch>(
 ) -> Result<Reached, NoMemory>
     requires sound { IsTrue (is_sound_key (key_tree key.now)) }
     requires proper { IsProperKey (sheet evaluator.now.cells.now) (key_tree key.now) }
-    requires mark { IsMark (version_tree evaluator.now.version) (sheet evaluator.now.cells.now)
-        evaluator.now.oracle.now (claims notes.now) (key_tree key.now) (mark_tree mark) }
+    requires mark { IsMark (world (version_tree evaluator.now.version) (sheet evaluator.now.cells.now) evaluator.now.oracle.now) (claims notes.now) (key_tree key.now) (mark_tree mark) }
     ensures found { IfOk result (λ x. reached_tree x ≡ found (noted same_key (claims notes.now))
         (program_of evaluator.now (key_tree key.now))) }
-    ensures mark { IfOk result (IsMarked (IsMark (version_tree evaluator.now.version)
-        (sheet evaluator.now.cells.now) evaluator.now.oracle.now (claims notes.now)
+    ensures mark { IfOk result (IsMarked (IsMark (world (version_tree evaluator.now.version) (sheet evaluator.now.cells.now) evaluator.now.oracle.now) (claims notes.now)
         (key_tree key.now))) }
     ensures sound { IfOk result (λ x. IsSoundFound (key_tree key.now) (reached_tree x)) }
     ensures steps { steps.new ≤ steps.old + 1 }

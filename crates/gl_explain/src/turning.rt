@@ -1,4 +1,5 @@
 //! One turn of a walk.
+ghost use Rattle.gl_calculus.specs.Evaluation.World.{world};
 ghost use Rattle.std.specs.Prelude.{◌≡◌, ◌≤◌, ◌<◌, ◌++◌, ◌∷◌, ℕ, [], None, map, length, IsTrue};
 ghost use Rattle.std.specs.Prelude.{IfOk, IfSome, IfNone};
 ghost use Rattle.gl_calculus.specs.Computation.Query.{Ready};
@@ -106,26 +107,21 @@ pub fn turn<L: Watch>(
 ) -> Result<Turned, NoMemory>
     requires walking { (root : K.Key)
         × (n : ℕ)
-        × IsWalking (version_tree evaluator.now.version) (sheet evaluator.now.cells.now)
-        evaluator.now.oracle.now root n steps.old (claims notes.old) (map key_tree stack.old.keys) }
+        × IsWalking (world (version_tree evaluator.now.version) (sheet evaluator.now.cells.now) evaluator.now.oracle.now) root n steps.old (claims notes.old) (map key_tree stack.old.keys) }
     requires sound { AreSoundKeys (map key_tree stack.old.keys) }
-    requires marks { AreMarks (version_tree evaluator.now.version) (sheet evaluator.now.cells.now)
-        evaluator.now.oracle.now (claims notes.old)
+    requires marks { AreMarks (world (version_tree evaluator.now.version) (sheet evaluator.now.cells.now) evaluator.now.oracle.now) (claims notes.old)
         (map key_tree stack.old.keys) (mark_trees marks.old.items) }
     ensures turned { IfOk result (λ t.
         (root : K.Key) (n : ℕ)
-        → IsWalking (version_tree evaluator.now.version) (sheet evaluator.now.cells.now)
-        evaluator.now.oracle.now root n steps.old (claims notes.old) (map key_tree stack.old.keys)
-        → IsTurned (version_tree evaluator.now.version) (sheet evaluator.now.cells.now)
-        evaluator.now.oracle.now
+        → IsWalking (world (version_tree evaluator.now.version) (sheet evaluator.now.cells.now) evaluator.now.oracle.now) root n steps.old (claims notes.old) (map key_tree stack.old.keys)
+        → IsTurned (world (version_tree evaluator.now.version) (sheet evaluator.now.cells.now) evaluator.now.oracle.now)
         root n steps.new (claims notes.new) (map key_tree stack.new.keys) t) }
     ensures falls { IfOk result (λ t. t ≡ On → left (claims notes.new) (map key_tree stack.new.keys)
         < left (claims notes.old) (map key_tree stack.old.keys)) }
     ensures sound { IfOk result (λ _. AreSoundKeys (map key_tree stack.new.keys)) }
     ensures marks { IfOk result (λ t.
         t ≡ On
-        → AreMarks (version_tree evaluator.now.version) (sheet evaluator.now.cells.now)
-        evaluator.now.oracle.now
+        → AreMarks (world (version_tree evaluator.now.version) (sheet evaluator.now.cells.now) evaluator.now.oracle.now)
         (claims notes.new) (map key_tree stack.new.keys) (mark_trees marks.new.items)) }
     ensures later { steps.old ≤ steps.new }
 {

@@ -5,6 +5,7 @@ use Rattle.gl_calculus.specs.Values.Value.{Oracle}
 use Rattle.gl_calculus.specs.Formulas.Formula.{Version, Cells}
 use Rattle.gl_calculus.specs.Calculation.Calculation.{IsAnswer, Settled, IsShown, Cycle}
 use Rattle.gl_calculus.specs.Forecast as Fo
+use Rattle.gl_calculus.specs.Evaluation.World.{world}
 use Rattle.gl_flow.specs.declared.forecast.Forecast.{Forecast}
 use Rattle.gl_flow.specs.declared.forecast.Forecast.TheVariants.{Yes, Circle, Unknown}
 
@@ -18,7 +19,7 @@ forecast_tree (Unknown a) = Fo.Forecast.Unknown a
 abbrev pub SettlesWithin : Cells → ℕ → Type 0
 SettlesWithin S h =
     (version : Version) → (w : Oracle) × (i : ℕ) × IsAnswer version S (Settled w i) × (i ≤ suc h) ×
-    ((a : Addr) → IsShown version S w a Cycle → ⊥)
+    ((a : Addr) → IsShown (world version S w) a Cycle → ⊥)
 
 -- what a forecast promises, where it is yes
 abbrev pub Promises : Cells → Fo.Forecast → Type 0

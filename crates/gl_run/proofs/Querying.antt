@@ -7,6 +7,7 @@ use Rattle.gl_calculus.specs.Values.Value.{Oracle}
 use Rattle.gl_calculus.specs.Formulas.Formula.{Version, Cells}
 use Rattle.gl_calculus.specs.Calculation.Calculation as A
 use Rattle.gl_calculus.specs.Calculation.Calculation.{IsAnswer, why}
+use Rattle.gl_calculus.specs.Evaluation.World.{world}
 use Rattle.gl_language.specs.Texts.Text.{Bytes, shown_text}
 use Rattle.gl_protocol.specs.Scripts.Commands as C
 use Rattle.gl_protocol.specs.Scripts.Commands.{SettledReply, why_text, spent_line}
@@ -81,7 +82,7 @@ module _ (version : Version) (c : View) (a : Addr) (w : Oracle) (S : Cells) (sam
       let both : Some w ≡ Some v = o ∙ ap (option_map (λ h. h.1)) e in
       cc both
 
-  pub explain_replies : (n m rounds : ℕ) (reply : Bytes) → Holds version c rounds → IsExplanation version S w a n m reply → (i : ℕ) → RepliesBy c i (C.Request.Explain a) reply
+  pub explain_replies : (n m rounds : ℕ) (reply : Bytes) → Holds version c rounds → IsExplanation (world version S w) a n m reply → (i : ℕ) → RepliesBy c i (C.Request.Explain a) reply
   explain_replies n m rounds reply h x i u v e =
       let R : Version → Cells → Oracle → Bytes → Type 0 = λ t U z y. SettledReply csv_records t U z i (C.Request.Explain a) y in
       let said : R version S w reply = subst (R version S w) (sym x.1) (C.SettledReply.explain x.0.explains) in

@@ -10,6 +10,7 @@ use Rattle.gl_plane.specs.Parts.{is_ordered}
 use Rattle.gl_calculus.specs.Values.Value.{Oracle}
 use Rattle.gl_calculus.specs.Formulas.Formula.{Version}
 use Rattle.gl_calculus.specs.Calculation.Calculation.{Shown, IsShown}
+use Rattle.gl_calculus.specs.Evaluation.World.{world}
 use Rattle.gl_language.specs.Texts.Text.{Bytes}
 use Rattle.gl_protocol.specs.Scripts.Commands as C
 use Rattle.gl_protocol.specs.Scripts.Commands.{AreShown, SettledReply}
@@ -78,7 +79,7 @@ module _ (c : View) (r : Range) where
       record { counted = omega (arith, ap (λ n. n * (extents r).cols) none); shown = λ version w e rest h. h }
 
   one_row : (version : Version) (w : Oracle) (n i : ℕ) (xs rest : List Shown) → r.last.row ≡ i + n → length xs ≡ (extents r).cols
-      → ((j : ℕ) (d : Shown) → j < length xs → IsShown version (sheet_of c) w (addr (r.first.col + j) i) (get_or xs j d))
+      → ((j : ℕ) (d : Shown) → j < length xs → IsShown (world version (sheet_of c) w) (addr (r.first.col + j) i) (get_or xs j d))
       → Rows version w n rest → Rows version w (suc n) (xs ++ rest)
   one_row version w n i xs rest at long h more =
       let cols = (extents r).cols in
@@ -87,7 +88,7 @@ module _ (c : View) (r : Range) where
       let back : drop cols (xs ++ rest) ≡ rest = subst (λ (k : ℕ). drop k (xs ++ rest) ≡ rest) long (drop-append_seam xs rest) in
       subst (λ (ys : List Shown). AreShown csv_records version (sheet_of c) w r (suc n) (ys ∷ in_rows n cols (drop cols (xs ++ rest)))) (sym front)
       (subst (λ (ys : List Shown). AreShown csv_records version (sheet_of c) w r (suc n) (xs ∷ in_rows n cols ys)) (sym back)
-      (C.AreShown.row long (λ j d p. subst (λ (k : ℕ). IsShown version (sheet_of c) w (addr (r.first.col + j) k) (get_or xs j d)) (sym here) (h j d p)) more))
+      (C.AreShown.row long (λ j d p. subst (λ (k : ℕ). IsShown (world version (sheet_of c) w) (addr (r.first.col + j) k) (get_or xs j d)) (sym here) (h j d p)) more))
 
   pub goes_on : (row : ℕ) (items items' : List Shown) → r.first.row ≤ row → row ≤ r.last.row → Begun row items → IsRowShown c r row items items' → Begun (row + 1) items'
   goes_on row items items' top bottom h k = record {

@@ -17,6 +17,7 @@ use Rattle.gl_calculus.specs.Forecast.{Forecast, IsForecast}
 use Rattle.gl_protocol.specs.Replies.Explanations.{note_line, loop_line, explanation_text, forecast_line}
 use Rattle.gl_protocol.specs.Replies.Tables.{line, set_text, edit_text}
 use Rattle.gl_calculus.specs.Edits.Replicas.{Edit, is_stamp}
+use Rattle.gl_calculus.specs.Evaluation.World.{World, world}
 use Rattle.gl_cells.specs.Content.{content_tree}
 use Rattle.gl_cells.specs.declared.fault.PutFault.{PutFault}
 use Rattle.gl_cells.specs.declared.fault.PutFault.TheVariants as put
@@ -128,13 +129,13 @@ abbrev pub FollowsBy : Version → View → ℕ → C.Request → ℕ → ℕ �
 FollowsBy version c rounds x n m = (w : Oracle) → c.held ≡ Some (version, w) → Follows version (sheet_of c) x (A.Settled w rounds) n m
 
 -- the reply explains what the address shows, with the steps from n to m
-abbrev pub IsExplanation : Version → Cells → Oracle → Addr → ℕ → ℕ → Bytes → Type 0
-IsExplanation version S w a n m reply =
-    (x : Explaining version S w a n m) × (reply ≡ explanation_text (verdict version S w a x.certificate) x.certificate)
+abbrev pub IsExplanation : World → Addr → ℕ → ℕ → Bytes → Type 0
+IsExplanation W a n m reply =
+    (x : Explaining W a n m) × (reply ≡ explanation_text (verdict W a x.certificate) x.certificate)
 
 -- the address shows this by the oracle that is held
 abbrev pub IsShownIn : View → Addr → A.Shown → Type 0
-IsShownIn c a x = (version : Version) (w : Oracle) → c.held ≡ Some (version, w) → IsShown version (sheet_of c) w a x
+IsShownIn c a x = (version : Version) (w : Oracle) → c.held ≡ Some (version, w) → IsShown (world version (sheet_of c) w) a x
 
 -- the addresses of the range show these, in row-major order
 abbrev pub AreShownIn : View → Range → List A.Shown → Type 0

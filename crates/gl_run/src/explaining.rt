@@ -1,4 +1,5 @@
 //! Why an address shows what it shows.
+ghost use Rattle.gl_calculus.specs.Evaluation.World.{world};
 ghost use Rattle.std.specs.Prelude.{◌≡◌, ◌≤◌, ◌+◌, ℕ, Some, length, map, IfOk};
 ghost use Rattle.gl_calculus.specs.Calculation.Calculation.{IsAnswer};
 ghost use Rattle.gl_calculus.specs.Values.Value.{Oracle};
@@ -37,7 +38,7 @@ pub(crate) fn explain<L: Watch>(
     ensures steps { IfOk result (λ reply.
         (w : Oracle)
         → calc.now.held ≡ Some (version_tree version, w)
-        → Explaining (version_tree version) (sheet_of calc.now) w a steps.old steps.new) }
+        → Explaining (world (version_tree version) (sheet_of calc.now) w) a steps.old steps.new) }
 {
     let Some(w) = calc.oracle() else {
         unreachable!()
@@ -62,8 +63,7 @@ fn explain_by<L: Watch>(
         × IsAnswer (version_tree evaluator.now.version) (sheet evaluator.now.cells.now)
         (A.Settled evaluator.now.oracle.now rounds) }
     ensures { IfOk result (λ reply.
-        IsExplanation (version_tree evaluator.now.version) (sheet evaluator.now.cells.now)
-        evaluator.now.oracle.now a steps.old steps.new reply.items) }
+        IsExplanation (world (version_tree evaluator.now.version) (sheet evaluator.now.cells.now) evaluator.now.oracle.now) a steps.old steps.new reply.items) }
 {
     match certificate(
         evaluator.alloc,
@@ -92,8 +92,7 @@ fn explain_checked<L: Watch>(
     ensures reply { IfOk result (λ reply.
         reply.items
         ≡ explanation_text
-        (verdict (version_tree evaluator.now.version) (sheet evaluator.now.cells.now)
-        evaluator.now.oracle.now a (cert_tree cert.now)) (cert_tree cert.now)) }
+        (verdict (world (version_tree evaluator.now.version) (sheet evaluator.now.cells.now) evaluator.now.oracle.now) a (cert_tree cert.now)) (cert_tree cert.now)) }
     ensures later { steps.old ≤ steps.new }
     ensures steps { steps.new ≤ steps.old
         + length (cert_tree cert.now).notes + length (cert_tree cert.now).loops }

@@ -8,12 +8,13 @@ use Rattle.gl_machine.specs.Machine as Machine
 use Rattle.gl_machine.specs.Costs.{answer_at, total, HaveRoom, unnoted, settled}
 use Rattle.gl_calculus.specs.Steps.Counted.{Counted, counted_keys, sum_reads, AreReads}
 use Rattle.gl_calculus.specs.Grid.Grid.{Addr, Range}
-use Rattle.gl_calculus.specs.Formulas.Formula.{Cells, Version, Formula, Formulas}
+use Rattle.gl_calculus.specs.Formulas.Formula.{Cells, Formula, Formulas}
 use Rattle.gl_calculus.specs.Values.Value.{Oracle, Value, Frame}
 use Rattle.gl_calculus.specs.Evaluation.Oracle.{Sizes}
 use Rattle.gl_calculus.specs.Evaluation.Facts.{Fact, fact, facts}
 use Rattle.gl_calculus.specs.Evaluation.Key.{Key, Cell, Outcome}
 use Rattle.gl_calculus.specs.Evaluation.Reference.{at_range}
+use Rattle.gl_calculus.specs.Evaluation.World.{World}
 use Rattle.gl_calculus.specs.Evaluation.Evaluation.{arrays, Bindings, eval, all_values, arguments, evaluation}
 use Rattle.gl_machine.specs.Ahead.Ahead.{Extends, first_lacked, AreThrough, IsAhead, LackSame}
 use Rattle.gl_machine.specs.Ahead.Spent.{Spent, counted, AtMostCounted}
@@ -90,17 +91,17 @@ BoundsStay K O A =
 -- What a formula reads first is ahead together: its evaluation needs the first key of it without outcome.
 abbrev pub FormulaDemands : Type 0
 FormulaDemands =
-    (version : Version) (S : Cells) (w : Oracle) (e : Frame) (bs : Bindings) (f : Formula) (g : Key → Option Outcome) (i : Key) →
-    first_lacked is_value g (reads_keys (fact S w) e (first_reads f [])) ≡ Some i → found g (given (facts S w) (eval version e bs f)) ≡ Need i
+    (W : World) (e : Frame) (bs : Bindings) (f : Formula) (g : Key → Option Outcome) (i : Key) →
+    first_lacked is_value g (reads_keys (fact W.sheet W.oracle) e (first_reads f [])) ≡ Some i → found g (given (facts W.sheet W.oracle) (eval W.version e bs f)) ≡ Need i
 
 -- So do the arguments of a call that evaluates all of them.
 abbrev pub ArgumentsDemand : Type 0
 ArgumentsDemand =
-    (version : Version) (S : Cells) (w : Oracle) (e : Frame) (bs : Bindings) (fs : Formulas) (g : Key → Option Outcome) (i : Key) →
-    first_lacked is_value g (reads_keys (fact S w) e (argument_reads fs [])) ≡ Some i → found g (given (facts S w) (all_values (arguments version e bs fs))) ≡ Need i
+    (W : World) (e : Frame) (bs : Bindings) (fs : Formulas) (g : Key → Option Outcome) (i : Key) →
+    first_lacked is_value g (reads_keys (fact W.sheet W.oracle) e (argument_reads fs [])) ≡ Some i → found g (given (facts W.sheet W.oracle) (all_values (arguments W.version e bs fs))) ≡ Need i
 
 -- So does the key of a cell, whose formula has these reads.
 abbrev pub CellDemands : Type 0
 CellDemands =
-    (version : Version) (S : Cells) (w : Oracle) (e : Frame) (a : Addr) (g : Key → Option Outcome) (i : Key) →
-    first_lacked is_value g (keys_from S w (Own e a) 0) ≡ Some i → found g (given (facts S w) (evaluation version (Cell e a))) ≡ Need i
+    (W : World) (e : Frame) (a : Addr) (g : Key → Option Outcome) (i : Key) →
+    first_lacked is_value g (keys_from W.sheet W.oracle (Own e a) 0) ≡ Some i → found g (given (facts W.sheet W.oracle) (evaluation W.version (Cell e a))) ≡ Need i

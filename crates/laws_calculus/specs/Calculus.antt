@@ -12,6 +12,7 @@ use Rattle.gl_calculus.specs.Formulas.Formula.{Version, Cells, IsSheet, content}
 use Rattle.gl_calculus.specs.Evaluation.Oracle.{IsInOrder, Sizes, AreSizes, sizes_of, ArePermits, grant}
 use Rattle.gl_calculus.specs.Evaluation.Facts.{facts}
 use Rattle.gl_calculus.specs.Evaluation.Key.{Key, Outcome, same_key}
+use Rattle.gl_calculus.specs.Evaluation.World.{World, world}
 use Rattle.gl_calculus.specs.Evaluation.Evaluation.{program}
 use Rattle.gl_calculus.specs.Calculation.Calculation.{Answer, Settled, IsAnswer, Shown, IsShown, IsConsistent, IsFinished}
 use Rattle.gl_calculus.specs.Calculation.Memory.{Notes, Table, differs_in, IsKeptKey, IsTableOf, AreTables, base}
@@ -21,18 +22,18 @@ use Rattle.gl_calculus.specs.Evaluation.Sound.{IsProperKey, is_outcome_of}
 
 -- A key has at most one outcome.
 abbrev pub OneOutcome : Type 0
-OneOutcome = (version : Version) (S : Cells) (w : Oracle) (k : Key) (x y : Outcome) → Has (program version S w) k x → Has (program version S w) k y → x ≡ y
+OneOutcome = (W : World) (k : Key) (x y : Outcome) → Has (program W) k x → Has (program W) k y → x ≡ y
 
 -- An outcome is of the kind of its key.
 abbrev pub OutcomesFit : Type 0
-OutcomesFit = (version : Version) (S : Cells) (w : Oracle) (k : Key) (o : Outcome) → Has (program version S w) k o → IsTrue (is_outcome_of k o)
+OutcomesFit = (W : World) (k : Key) (o : Outcome) → Has (program W) k o → IsTrue (is_outcome_of k o)
 
 -- Each key that an evaluation may ask for is proper, whatever is answered; and so is each demanded one, if the seeds are.
 abbrev pub AsksProper : Type 0
-AsksProper = (version : Version) (S : Cells) (w : Oracle) (k : Key) → EachAsked (IsProperKey S) (program version S w k)
+AsksProper = (W : World) (k : Key) → EachAsked (IsProperKey W.sheet) (program W k)
 
 abbrev pub DemandsProper : Type 0
-DemandsProper = (version : Version) (S : Cells) (w : Oracle) (seeds : List Key) (k : Key) → ((j : Key) → Member j seeds → IsProperKey S j) → Demanded (program version S w) seeds k → IsProperKey S k
+DemandsProper = (W : World) (seeds : List Key) (k : Key) → ((j : Key) → Member j seeds → IsProperKey W.sheet j) → Demanded (program W) seeds k → IsProperKey W.sheet k
 
 -- The tests of equality answer true exactly at equal trees.
 abbrev pub TestsAreExact : Type 0
@@ -42,22 +43,22 @@ TestsAreExact = IsEquality same_scalar × IsEquality same_value × IsEquality sa
 abbrev pub OnlyFactsMatter : Type 0
 OnlyFactsMatter =
     (version : Version) (S S' : Cells) (w w' : Oracle) (known : Key → Option Outcome) (k : Key) →
-    ((r : Range) → Member r (looked known (program version S w k)) → facts S' w' r ≡ facts S w r) →
-    (found known (program version S' w' k) ≡ found known (program version S w k)) × (asked known (program version S' w' k) ≡ asked known (program version S w k)) × (looked known (program version S' w' k) ≡ looked known (program version S w k))
+    ((r : Range) → Member r (looked known (program (world version S w) k)) → facts S' w' r ≡ facts S w r) →
+    (found known (program (world version S' w') k) ≡ found known (program (world version S w) k)) × (asked known (program (world version S' w') k) ≡ asked known (program (world version S w) k)) × (looked known (program (world version S' w') k) ≡ looked known (program (world version S w) k))
 
 -- Notes that are true for a sheet and an oracle are true for others, if each key that they read has a note and the facts of the ranges that they looked at are the same.
 abbrev pub NotesCoincide : Type 0
 NotesCoincide =
-    (version : Version) (S S' : Cells) (w w' : Oracle) (notes : Notes) → AreTrue same_key (program version S w) notes → AreClosed notes →
+    (version : Version) (S S' : Cells) (w w' : Oracle) (notes : Notes) → AreTrue same_key (program (world version S w)) notes → AreClosed notes →
     ((n : Note Key Outcome Range) → Member n notes → (r : Range) → Member r n.looked → facts S' w' r ≡ facts S w r) →
-    AreTrue same_key (program version S' w') notes
+    AreTrue same_key (program (world version S' w')) notes
 
 -- So those stay true that rest on nothing that differs.
 abbrev pub KeptStayTrue : Type 0
 KeptStayTrue =
     (version : Version) (S S' : Cells) (w w' : Oracle) (touched : List Addr) (notes kept : Notes) → ((a : Addr) → (Member a touched → ⊥) → content S' a ≡ content S a) →
-    AreTrue same_key (program version S w) notes → AreClosed notes → AreTheKept (differs_in touched w w') notes kept →
-    AreTrue same_key (program version S' w') kept
+    AreTrue same_key (program (world version S w)) notes → AreClosed notes → AreTheKept (differs_in touched w w') notes kept →
+    AreTrue same_key (program (world version S' w')) kept
 
 -- Permits are granted to the sizes that are given, as permits must be; and no other oracle with these sizes has such permits.
 abbrev pub GrantGivesPermits : Type 0
@@ -72,15 +73,15 @@ OneAnswer = (version : Version) (S : Cells) (r s : Answer) → IsAnswer version 
 
 -- Under an oracle an address shows at most one thing.
 abbrev pub OneShown : Type 0
-OneShown = (version : Version) (S : Cells) (w : Oracle) (a : Addr) (x y : Shown) → IsShown version S w a x → IsShown version S w a y → x ≡ y
+OneShown = (W : World) (a : Addr) (x y : Shown) → IsShown W a x → IsShown W a y → x ≡ y
 
 -- An oracle to which the calculation settles is consistent.
 abbrev pub SettlesConsistently : Type 0
-SettlesConsistently = (version : Version) (S : Cells) (w : Oracle) (rounds : ℕ) → IsSheet S → IsAnswer version S (Settled w rounds) → IsConsistent version S w
+SettlesConsistently = (W : World) (rounds : ℕ) → IsSheet W.sheet → IsAnswer W.version W.sheet (Settled W.oracle rounds) → IsConsistent W
 
 -- Under it every address shows something.
 abbrev pub SettlesShow : Type 0
-SettlesShow = (version : Version) (S : Cells) (w : Oracle) (rounds : ℕ) → IsSheet S → IsAnswer version S (Settled w rounds) → (a : Addr) → (x : Shown) × IsShown version S w a x
+SettlesShow = (W : World) (rounds : ℕ) → IsSheet W.sheet → IsAnswer W.version W.sheet (Settled W.oracle rounds) → (a : Addr) → (x : Shown) × IsShown W a x
 
 -- ---- what is kept
 
@@ -90,10 +91,10 @@ PermitsApart = (bound : Range) (held : Addr → Bool) (w : Oracle) → ArePermit
 
 -- A table of a round keeps all its keys for that round.
 abbrev pub AllKept : Type 0
-AllKept = (version : Version) (S : Cells) (w : Oracle) (t : Table) → IsTableOf version S w t → (k : Key) → Member k (note_keys t.notes) → IsKeptKey t [] w k
+AllKept = (W : World) (t : Table) → IsTableOf W t → (k : Key) → Member k (note_keys t.notes) → IsKeptKey t [] W.oracle k
 
 -- Where the tables are those of the sheet and nothing was touched, no step is asked for.
 abbrev pub NothingAsked : Type 0
 NothingAsked =
     (version : Version) (S : Cells) (tables : List Table) (before : Table) (i : ℕ) (w : Oracle) (n : ℕ) → AreTables version S tables → IsFinished version S i w →
-    Finishes version S (base tables [] before i) i w n n
+    Finishes (world version S w) (base tables [] before i) i n n

@@ -7,6 +7,7 @@ use Rattle.gl_calculus.specs.Formulas.Formula.{Version, Cells, IsSheet, formula_
 use Rattle.gl_calculus.specs.Calculation.Calculation.{IsAnswer, Settled, IsShown, Cycle}
 use Rattle.gl_calculus.specs.Formulas.Fit.{AreFit}
 use Rattle.gl_calculus.specs.Forecast.{Yes, Forecast, IsForecast}
+use Rattle.gl_calculus.specs.Evaluation.World.{world}
 
 -- A sheet has a forecast.
 abbrev pub SomeForecast : Type 0
@@ -23,4 +24,4 @@ YesSettles =
     (version : Version) (S : Cells) (h : ℕ) → IsSheet S → AreFit S →
     length (formula_addresses S) ≤ max_formulas → IsForecast S (Yes h) →
     (w : Oracle) × (i : ℕ) × IsAnswer version S (Settled w i) × (i ≤ suc h) ×
-    ((a : Addr) → IsShown version S w a Cycle → ⊥)
+    ((a : Addr) → IsShown (world version S w) a Cycle → ⊥)

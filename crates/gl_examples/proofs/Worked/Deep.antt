@@ -1,6 +1,7 @@
 -- Nested copies, by computation.
 use Rattle.std.proofs.Common.{◌≡◌, ℕ, [], ◌∷◌, Some, refl}
 use Rattle.gl_calculus.specs.Values.Functions.{apply}
+use Rattle.gl_calculus.specs.Evaluation.World.{world}
 use Rattle.gl_calculus.specs.Evaluation.Evaluation.{program, evaluation, cell_value}
 use Rattle.gl_calculus.specs.Grid.Grid.{addr}
 use Rattle.gl_calculus.specs.Formulas.Formula.{Version, Cells, Form}
@@ -14,10 +15,10 @@ descent k =
     ∷ (addr 2 1, Form (call F.Fun.If (equals (cell 1 1) (int 0) ∷ int 0 ∷ plus (cell 1 1) (call F.Fun.View (call F.Fun.Update (call F.Fun.Sheet (area 1 1 2 1 ∷ []) ∷ cell 1 1 ∷ minus (cell 1 1) (int 1) ∷ []) ∷ cell 2 1 ∷ [])) ∷ [])))
     ∷ (addr 4 1, Form (call F.Fun.View (call F.Fun.Update (call F.Fun.Sheet (area 1 1 2 1 ∷ []) ∷ cell 1 1 ∷ int k ∷ []) ∷ cell 2 1 ∷ []))) ∷ []
 
-descent_3 : shows Version.One (descent 3) [] 20 4 1 ≡ Some (one 6)
+descent_3 : shows (world Version.One (descent 3) []) 20 4 1 ≡ Some (one 6)
 unfolding program evaluation cell_value apply
 descent_3 = refl
 
-descent_8 : shows Version.One (descent 8) [] 40 4 1 ≡ Some (one 36)
+descent_8 : shows (world Version.One (descent 8) []) 40 4 1 ≡ Some (one 36)
 unfolding program evaluation cell_value apply
 descent_8 = refl

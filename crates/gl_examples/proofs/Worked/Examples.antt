@@ -1,6 +1,7 @@
 -- Worked sheets, by computation.
 use Rattle.std.proofs.Common.{true, ◌≡◌, [], ◌∷◌, map, Some, refl}
 use Rattle.gl_calculus.specs.Values.Functions.{apply}
+use Rattle.gl_calculus.specs.Evaluation.World.{world}
 use Rattle.gl_calculus.specs.Evaluation.Evaluation.{program, evaluation, cell_value}
 use Rattle.gl_calculus.specs.Grid.Grid.{addr, range}
 use Rattle.gl_calculus.specs.Values.ErrKind.{ErrKind}
@@ -15,11 +16,11 @@ use Rattle.gl_examples.proofs.Worked.Sheets.{int, cell, hash, area, plus, times,
 abbrev plain_sum : Cells
 plain_sum = (addr 1 1, number 2) ∷ (addr 2 1, number 40) ∷ (addr 3 1, Form (plus (cell 1 1) (cell 2 1))) ∷ []
 
-plain_sum_shows : shows Version.One plain_sum [] 1 3 1 ≡ Some (one 42)
+plain_sum_shows : shows (world Version.One plain_sum []) 1 3 1 ≡ Some (one 42)
 unfolding program evaluation cell_value apply
 plain_sum_shows = refl
 
-overflow_shows : shows Version.One (alone (plus (int 9223372036854775807) (int 1))) [] 1 1 1 ≡ Some (err ErrKind.Num)
+overflow_shows : shows (world Version.One (alone (plus (int 9223372036854775807) (int 1))) []) 1 1 1 ≡ Some (err ErrKind.Num)
 unfolding program evaluation cell_value apply
 overflow_shows = refl
 
@@ -45,7 +46,7 @@ spilled_product_round2 : next Version.One spilled_product 3 spilled_product_seco
 unfolding program evaluation cell_value apply
 spilled_product_round2 = refl
 
-spilled_product_view : view Version.One spilled_product spilled_product_second 3 (range (addr 1 1) (addr 2 3)) ≡ map (λ n. Some (one n)) (1 ∷ 2 ∷ 2 ∷ 4 ∷ 3 ∷ 6 ∷ [])
+spilled_product_view : view (world Version.One spilled_product spilled_product_second) 3 (range (addr 1 1) (addr 2 3)) ≡ map (λ n. Some (one n)) (1 ∷ 2 ∷ 2 ∷ 4 ∷ 3 ∷ 6 ∷ [])
 unfolding program evaluation cell_value apply
 spilled_product_view = refl
 
@@ -68,7 +69,7 @@ crossing_why = refl
 abbrev chosen_branch : Cells
 chosen_branch = (addr 1 1, Form (call F.Fun.If (F.Formula.Bool true ∷ int 1 ∷ cell 2 1 ∷ []))) ∷ (addr 2 1, Form (cell 1 1)) ∷ []
 
-chosen_branch_view : view Version.One chosen_branch [] 3 (range (addr 1 1) (addr 2 1)) ≡ Some (one 1) ∷ Some (one 1) ∷ []
+chosen_branch_view : view (world Version.One chosen_branch []) 3 (range (addr 1 1) (addr 2 1)) ≡ Some (one 1) ∷ Some (one 1) ∷ []
 unfolding program evaluation cell_value apply
 chosen_branch_view = refl
 
@@ -81,6 +82,6 @@ area_copy_round0 : next Version.One area_copy 4 [] ≡ permitted 5 1 1 3 ∷ []
 unfolding program evaluation cell_value apply
 area_copy_round0 = refl
 
-area_copy_view : view Version.One area_copy (permitted 5 1 1 3 ∷ []) 4 (range (addr 3 1) (addr 7 1)) ≡ Some (one 25) ∷ Some Blank ∷ Some (one 6) ∷ Some (one 4) ∷ Some (one 52) ∷ []
+area_copy_view : view (world Version.One area_copy (permitted 5 1 1 3 ∷ [])) 4 (range (addr 3 1) (addr 7 1)) ≡ Some (one 25) ∷ Some Blank ∷ Some (one 6) ∷ Some (one 4) ∷ Some (one 52) ∷ []
 unfolding program evaluation cell_value apply
 area_copy_view = refl

@@ -1,6 +1,7 @@
 -- A larger sheet, by computation.
 use Rattle.std.proofs.Common.{◌≡◌, ℕ, zero, suc, ◌+◌, [], ◌∷◌, Some, refl}
 use Rattle.gl_calculus.specs.Values.Functions.{apply}
+use Rattle.gl_calculus.specs.Evaluation.World.{world}
 use Rattle.gl_calculus.specs.Evaluation.Evaluation.{program, evaluation, cell_value}
 use Rattle.gl_calculus.specs.Grid.Grid.{addr}
 use Rattle.gl_calculus.specs.Formulas.Formula.{Version, Cells, Form}
@@ -19,6 +20,6 @@ products n = (addr 1 1, number 1) ∷ (addr 2 1, number 3) ∷ (addr 4 1, Form (
     pred_of zero = zero
     pred_of (suc m) = m
 
-products_150 : shows Version.One (products 150) (permitted 4 1 150 1 ∷ []) 3 6 1 ≡ Some (one 33975)
+products_150 : shows (world Version.One (products 150) (permitted 4 1 150 1 ∷ [])) 3 6 1 ≡ Some (one 33975)
 unfolding program evaluation cell_value apply
 products_150 = refl

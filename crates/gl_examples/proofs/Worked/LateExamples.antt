@@ -2,6 +2,7 @@
 use Rattle.std.proofs.Common.{◌≡◌, ℕ, zero, suc, List, [], ◌∷◌, map, Option, Some, refl}
 use Rattle.std.specs.Prelude.{codes}
 use Rattle.gl_calculus.specs.Values.Functions.{apply}
+use Rattle.gl_calculus.specs.Evaluation.World.{world}
 use Rattle.gl_calculus.specs.Evaluation.Evaluation.{program, evaluation, cell_value}
 use Rattle.gl_calculus.specs.Grid.Grid.{addr, range}
 use Rattle.gl_calculus.specs.Values.ErrKind.{ErrKind}
@@ -27,7 +28,7 @@ blocked_spill_round1 : next Version.One blocked_spill 3 (refused 1 1 3 1 ∷ [])
 unfolding program evaluation cell_value apply
 blocked_spill_round1 = refl
 
-blocked_spill_view : view Version.One blocked_spill (refused 1 1 3 1 ∷ []) 3 (range (addr 1 1) (addr 2 3))
+blocked_spill_view : view (world Version.One blocked_spill (refused 1 1 3 1 ∷ [])) 3 (range (addr 1 1) (addr 2 3))
     ≡ Some (err ErrKind.Spill) ∷ Some (err ErrKind.Spill) ∷ Some (one 5) ∷ Some Blank ∷ Some Blank ∷ Some Blank ∷ []
 unfolding program evaluation cell_value apply
 blocked_spill_view = refl
@@ -48,7 +49,7 @@ doubling k = (addr 1 1, number 1)
     half : Formula → Formula
     half f = call F.Fun.View (call F.Fun.Update (call F.Fun.Sheet (area 1 1 2 1 ∷ []) ∷ cell 1 1 ∷ f ∷ []) ∷ cell 2 1 ∷ [])
 
-doubling_4 : shows Version.One (doubling 4) [] 12 2 1 ≡ Some (one 4)
+doubling_4 : shows (world Version.One (doubling 4) []) 12 2 1 ≡ Some (one 4)
 unfolding program evaluation cell_value apply
 doubling_4 = refl
 
@@ -84,7 +85,7 @@ table_functions_oracle : next Version.One table_functions 1 [] ≡ permitted 4 1
 unfolding program evaluation cell_value apply
 table_functions_oracle = refl
 
-table_functions_view : view Version.One table_functions (permitted 4 1 2 2 ∷ permitted 7 1 2 1 ∷ []) 2 (range (addr 4 1) (addr 9 2))
+table_functions_view : view (world Version.One table_functions (permitted 4 1 2 2 ∷ permitted 7 1 2 1 ∷ [])) 2 (range (addr 4 1) (addr 9 2))
     ≡ Some (one 1) ∷ Some (Text (codes "x")) ∷ Some Blank ∷ Some (one 1) ∷ Some Blank ∷ Some (Text (codes "y"))
     ∷ Some (one 1) ∷ Some (Text (codes "z")) ∷ Some Blank ∷ Some (one 2) ∷ Some Blank ∷ Some Blank ∷ []
 unfolding program evaluation cell_value apply
@@ -98,18 +99,18 @@ pairs c (suc n) = cell c 1 ∷ sequence 100 100 ∷ pairs (suc c) n
 abbrev heavy_copy : ℕ → Cells
 heavy_copy k = (addr 1 3, Form (call F.Fun.G (area 1 1 k 1 ∷ pairs 1 k))) ∷ []
 
-heavy_copy_heavy : shows Version.One (heavy_copy 7) [] 3 1 3 ≡ Some (err ErrKind.Size)
+heavy_copy_heavy : shows (world Version.One (heavy_copy 7) []) 3 1 3 ≡ Some (err ErrKind.Size)
 unfolding program evaluation cell_value apply
 heavy_copy_heavy = refl
 
-heavy_copy_fits : view Version.One (heavy_copy 6) (permitted 1 3 1 6 ∷ []) 3 (range (addr 1 3) (addr 2 3)) ≡ Some (err ErrKind.Spill) ∷ Some (err ErrKind.Spill) ∷ []
+heavy_copy_fits : view (world Version.One (heavy_copy 6) (permitted 1 3 1 6 ∷ [])) 3 (range (addr 1 3) (addr 2 3)) ≡ Some (err ErrKind.Spill) ∷ Some (err ErrKind.Spill) ∷ []
 unfolding program evaluation cell_value apply
 heavy_copy_fits = refl
 
 -- ---- functions on arrays
 
 abbrev rows_of : Formula → ℕ → ℕ → List (Option Scalar)
-rows_of f m n = view Version.One (alone f) (permitted 1 1 m n ∷ []) 1 (range (addr 1 1) (addr n m))
+rows_of f m n = view (world Version.One (alone f) (permitted 1 1 m n ∷ [])) 1 (range (addr 1 1) (addr n m))
 
 transposed : rows_of (call F.Fun.Transpose (sequence 2 3 ∷ [])) 3 2 ≡ map (λ n. Some (one n)) (1 ∷ 4 ∷ 2 ∷ 5 ∷ 3 ∷ 6 ∷ [])
 unfolding program evaluation cell_value apply

@@ -1,6 +1,7 @@
 -- What evaluations demand and look at.
 use Rattle.std.proofs.Common.{◌≡◌, ℕ, List, [], ◌∷◌, map, None, refl}
 use Rattle.gl_calculus.specs.Values.Functions.{apply}
+use Rattle.gl_calculus.specs.Evaluation.World.{world}
 use Rattle.gl_calculus.specs.Evaluation.Evaluation.{program, evaluation, cell_value}
 use Rattle.gl_calculus.specs.Grid.Grid.{addr, Range, range, single, size}
 use Rattle.gl_calculus.specs.Values.ErrKind.{ErrKind}
@@ -18,7 +19,7 @@ top_cell c r = Cell Top (addr c r)
 
 -- what a key of a sheet gives, reads and looks at
 abbrev Evaluates : Cells → Oracle → Key → Outcome → List Key → List Range → Type 0
-Evaluates S w = IsNote same_key (program Version.One S w)
+Evaluates S w = IsNote same_key (program (world Version.One S w))
 
 abbrev array : ℕ → ℕ → List ℕ → Outcome
 array m n xs = Outcome.Value (Value.Array (size m n) (scalars (map one xs)))
@@ -43,15 +44,15 @@ unfolding program evaluation cell_value apply
 sums_c1 = (_, Looks (Looks (Asks (1, refl) (Looks (Asks (1, refl) (Asks (1, refl) (Looks (Looks (Asks (1, refl) Returns)))))))), refl)
 
 -- a step of B1 that knows nothing needs A1
-spilled_product_step : found (λ k. None) (program Version.One spilled_product spilled_product_first (top_cell 2 1)) ≡ Need (top_cell 1 1)
+spilled_product_step : found (λ k. None) (program (world Version.One spilled_product spilled_product_first) (top_cell 2 1)) ≡ Need (top_cell 1 1)
 unfolding program evaluation cell_value apply
 spilled_product_step = refl
 
-spilled_product_asked : asked (λ k. None) (program Version.One spilled_product spilled_product_first (top_cell 2 1)) ≡ top_cell 1 1 ∷ []
+spilled_product_asked : asked (λ k. None) (program (world Version.One spilled_product spilled_product_first) (top_cell 2 1)) ≡ top_cell 1 1 ∷ []
 unfolding program evaluation cell_value apply
 spilled_product_asked = refl
 
-spilled_product_looked : looked (λ k. None) (program Version.One spilled_product spilled_product_first (top_cell 2 1)) ≡ single (addr 2 1) ∷ single (addr 1 1) ∷ []
+spilled_product_looked : looked (λ k. None) (program (world Version.One spilled_product spilled_product_first) (top_cell 2 1)) ≡ single (addr 2 1) ∷ single (addr 1 1) ∷ []
 unfolding program evaluation cell_value apply
 spilled_product_looked = refl
 

@@ -5,6 +5,7 @@ use Rattle.std.specs.Str.{chars}
 use Rattle.std.specs.Fmt.{digits}
 use lib.Utf8.{encode}
 use Rattle.gl_calculus.specs.Values.Functions.{apply}
+use Rattle.gl_calculus.specs.Evaluation.World.{world}
 use Rattle.gl_calculus.specs.Evaluation.Evaluation.{program, evaluation, cell_value}
 use Rattle.gl_calculus.specs.Grid.Grid.{addr, range}
 use Rattle.gl_calculus.specs.Values.Value as V
@@ -40,7 +41,7 @@ edge_spill_round0 : next Version.One edge_spill 2 [] ≡ refused 1 9998 3 1 ∷ 
 unfolding program evaluation cell_value apply
 edge_spill_round0 = refl
 
-edge_spill_shows : shows Version.One edge_spill (refused 1 9998 3 1 ∷ []) 2 1 9998 ≡ Some (err ErrKind.Spill)
+edge_spill_shows : shows (world Version.One edge_spill (refused 1 9998 3 1 ∷ [])) 2 1 9998 ≡ Some (err ErrKind.Spill)
 unfolding program evaluation cell_value apply
 edge_spill_shows = refl
 
@@ -52,7 +53,7 @@ edge_spill_why = refl
 abbrev edge_reader : Cells
 edge_reader = (addr 2 1, Form (plus (cell 1 9999) (int 5))) ∷ (addr 1 9998, Form (sequence 2 1)) ∷ []
 
-edge_reader_before : shows Version.One edge_reader [] 2 2 1 ≡ Some (one 5)
+edge_reader_before : shows (world Version.One edge_reader []) 2 2 1 ≡ Some (one 5)
 unfolding program evaluation cell_value apply
 edge_reader_before = refl
 
@@ -60,7 +61,7 @@ edge_reader_round0 : next Version.One edge_reader 2 [] ≡ permitted 1 9998 2 1 
 unfolding program evaluation cell_value apply
 edge_reader_round0 = refl
 
-edge_reader_after : shows Version.One edge_reader (permitted 1 9998 2 1 ∷ []) 3 2 1 ≡ Some (one 7)
+edge_reader_after : shows (world Version.One edge_reader (permitted 1 9998 2 1 ∷ [])) 3 2 1 ≡ Some (one 7)
 unfolding program evaluation cell_value apply
 edge_reader_after = refl
 
@@ -79,12 +80,12 @@ spill_in_copy_round1 : next Version.One (spill_in_copy 3) 5 spill_in_copy_oracle
 unfolding program evaluation cell_value apply
 spill_in_copy_round1 = refl
 
-spill_in_copy_view : view Version.One (spill_in_copy 3) spill_in_copy_oracle 5 (range (addr 4 1) (addr 5 3))
+spill_in_copy_view : view (world Version.One (spill_in_copy 3) spill_in_copy_oracle) 5 (range (addr 4 1) (addr 5 3))
     ≡ Some (one 3) ∷ Some (one 1) ∷ Some Blank ∷ Some (one 2) ∷ Some Blank ∷ Some (one 3) ∷ []
 unfolding program evaluation cell_value apply
 spill_in_copy_view = refl
 
-spill_in_copy_view4 : view Version.One (spill_in_copy 4) spill_in_copy_oracle 5 (range (addr 4 1) (addr 5 3))
+spill_in_copy_view4 : view (world Version.One (spill_in_copy 4) spill_in_copy_oracle) 5 (range (addr 4 1) (addr 5 3))
     ≡ Some (one 4) ∷ Some (err ErrKind.Spill) ∷ Some Blank ∷ Some Blank ∷ Some Blank ∷ Some Blank ∷ []
 unfolding program evaluation cell_value apply
 spill_in_copy_view4 = refl
@@ -94,7 +95,7 @@ abbrev oscillation : Cells
 oscillation = (addr 2 1, Form (call F.Fun.If (equals (cell 4 1) (int 0) ∷ int 1 ∷ call F.Fun.If (call F.Fun.IsError (call F.Fun.Rows (hash 1 2 ∷ []) ∷ []) ∷ int 1 ∷ sequence 3 1 ∷ []) ∷ [])))
     ∷ (addr 4 1, number 0) ∷ (addr 6 1, Form (call F.Fun.G (area 1 1 4 3 ∷ cell 4 1 ∷ int 1 ∷ []))) ∷ (addr 1 2, Form (sequence 1 3)) ∷ []
 
-oscillation_spent : outcome Version.One oscillation [] 5 6 1 ≡ Some (Abort Budget.CopyRounds)
+oscillation_spent : outcome (world Version.One oscillation []) 5 6 1 ≡ Some (Abort Budget.CopyRounds)
 unfolding program evaluation cell_value apply
 oscillation_spent = refl
 
@@ -104,7 +105,7 @@ nested_copies = (addr 1 1, number 1) ∷ (addr 2 1, Form (times (cell 1 1) (int 
     ∷ (addr 3 1, Form (call F.Fun.View (call F.Fun.Sheet (cell 2 1 ∷ []) ∷ cell 2 1 ∷ [])))
     ∷ (addr 4 1, Form (call F.Fun.View (call F.Fun.Update (call F.Fun.Sheet (area 1 1 3 1 ∷ []) ∷ cell 1 1 ∷ int 7 ∷ []) ∷ cell 3 1 ∷ []))) ∷ []
 
-nested_copies_view : view Version.One nested_copies [] 9 (range (addr 1 1) (addr 4 1)) ≡ map (λ n. Some (one n)) (1 ∷ 10 ∷ 10 ∷ 70 ∷ [])
+nested_copies_view : view (world Version.One nested_copies []) 9 (range (addr 1 1) (addr 4 1)) ≡ map (λ n. Some (one n)) (1 ∷ 10 ∷ 10 ∷ 70 ∷ [])
 unfolding program evaluation cell_value apply
 nested_copies_view = refl
 
@@ -116,16 +117,16 @@ lifted_sum_round0 : next Version.One lifted_sum 1 [] ≡ permitted 1 1 2 3 ∷ [
 unfolding program evaluation cell_value apply
 lifted_sum_round0 = refl
 
-lifted_sum_view : view Version.One lifted_sum (permitted 1 1 2 3 ∷ []) 1 (range (addr 1 1) (addr 3 2)) ≡ map (λ n. Some (one n)) (2 ∷ 3 ∷ 4 ∷ 3 ∷ 4 ∷ 5 ∷ [])
+lifted_sum_view : view (world Version.One lifted_sum (permitted 1 1 2 3 ∷ [])) 1 (range (addr 1 1) (addr 3 2)) ≡ map (λ n. Some (one n)) (2 ∷ 3 ∷ 4 ∷ 3 ∷ 4 ∷ 5 ∷ [])
 unfolding program evaluation cell_value apply
 lifted_sum_view = refl
 
-lifted_sum_longer : view Version.One (alone (plus (sequence 2 1) (sequence 3 1))) (permitted 1 1 3 1 ∷ []) 1 (range (addr 1 1) (addr 1 3)) ≡ Some (one 2) ∷ Some (one 4) ∷ Some (err ErrKind.Na) ∷ []
+lifted_sum_longer : view (world Version.One (alone (plus (sequence 2 1) (sequence 3 1))) (permitted 1 1 3 1 ∷ [])) 1 (range (addr 1 1) (addr 1 3)) ≡ Some (one 2) ∷ Some (one 4) ∷ Some (err ErrKind.Na) ∷ []
 unfolding program evaluation cell_value apply
 lifted_sum_longer = refl
 
 abbrev pub says : Formula → Option Scalar
-says f = shows Version.One (alone f) [] 3 1 1
+says f = shows (world Version.One (alone f) []) 3 1 1
 
 abbrev join : Formula → Formula → F.Operands → Formula
 join f g rest = F.Formula.Chain F.Level.Cat f (F.operand_and F.Op.Join g rest)
@@ -159,16 +160,16 @@ unfolding program evaluation cell_value apply
 scalar_sheet = refl
 
 -- =1/(SEQUENCE(3,1)-3)+SEQUENCE(2,1): beyond the second operand the element is #N/A, whatever the first has there
-beyond_second : view Version.One (alone (plus (over (int 1) (minus (sequence 3 1) (int 3))) (sequence 2 1))) (permitted 1 1 3 1 ∷ []) 1 (range (addr 1 3) (addr 1 3)) ≡ Some (err ErrKind.Na) ∷ []
+beyond_second : view (world Version.One (alone (plus (over (int 1) (minus (sequence 3 1) (int 3))) (sequence 2 1))) (permitted 1 1 3 1 ∷ [])) 1 (range (addr 1 3) (addr 1 3)) ≡ Some (err ErrKind.Na) ∷ []
 unfolding program evaluation cell_value apply
 beyond_second = refl
 
 -- =IFERROR(SEQUENCE(2,1),SEQUENCE(3,1)) and =IFERROR(SEQUENCE(3,1),SEQUENCE(2,1)) in version Two
-beyond_first : view Version.Two (alone (call F.Fun.IfError (sequence 2 1 ∷ sequence 3 1 ∷ []))) (permitted 1 1 3 1 ∷ []) 1 (range (addr 1 3) (addr 1 3)) ≡ Some (err ErrKind.Na) ∷ []
+beyond_first : view (world Version.Two (alone (call F.Fun.IfError (sequence 2 1 ∷ sequence 3 1 ∷ []))) (permitted 1 1 3 1 ∷ [])) 1 (range (addr 1 3) (addr 1 3)) ≡ Some (err ErrKind.Na) ∷ []
 unfolding program evaluation cell_value apply
 beyond_first = refl
 
-beyond_other : view Version.Two (alone (call F.Fun.IfError (sequence 3 1 ∷ sequence 2 1 ∷ []))) (permitted 1 1 3 1 ∷ []) 1 (range (addr 1 3) (addr 1 3)) ≡ Some (err ErrKind.Na) ∷ []
+beyond_other : view (world Version.Two (alone (call F.Fun.IfError (sequence 3 1 ∷ sequence 2 1 ∷ []))) (permitted 1 1 3 1 ∷ [])) 1 (range (addr 1 3) (addr 1 3)) ≡ Some (err ErrKind.Na) ∷ []
 unfolding program evaluation cell_value apply
 beyond_other = refl
 
@@ -176,11 +177,11 @@ beyond_other = refl
 abbrev error_array : Cells
 error_array = alone (call F.Fun.IfError (over (int 10) (minus (sequence 1 3) (int 2)) ∷ int 0 ∷ []))
 
-error_array_one : view Version.One error_array (permitted 1 1 1 3 ∷ []) 1 (range (addr 1 1) (addr 3 1)) ≡ Some (Scalar.Int (negsuc 9)) ∷ Some (err ErrKind.Div0) ∷ Some (one 10) ∷ []
+error_array_one : view (world Version.One error_array (permitted 1 1 1 3 ∷ [])) 1 (range (addr 1 1) (addr 3 1)) ≡ Some (Scalar.Int (negsuc 9)) ∷ Some (err ErrKind.Div0) ∷ Some (one 10) ∷ []
 unfolding program evaluation cell_value apply
 error_array_one = refl
 
-error_array_two : view Version.Two error_array (permitted 1 1 1 3 ∷ []) 1 (range (addr 1 1) (addr 3 1)) ≡ Some (Scalar.Int (negsuc 9)) ∷ Some (one 0) ∷ Some (one 10) ∷ []
+error_array_two : view (world Version.Two error_array (permitted 1 1 1 3 ∷ [])) 1 (range (addr 1 1) (addr 3 1)) ≡ Some (Scalar.Int (negsuc 9)) ∷ Some (one 0) ∷ Some (one 10) ∷ []
 unfolding program evaluation cell_value apply
 error_array_two = refl
 
@@ -188,11 +189,11 @@ error_array_two = refl
 abbrev condition_array : Cells
 condition_array = alone (call F.Fun.If (equals (sequence 1 2) (int 1) ∷ int 1 ∷ int 2 ∷ []))
 
-condition_array_one : shows Version.One condition_array [] 1 1 1 ≡ Some (err ErrKind.Value)
+condition_array_one : shows (world Version.One condition_array []) 1 1 1 ≡ Some (err ErrKind.Value)
 unfolding program evaluation cell_value apply
 condition_array_one = refl
 
-condition_array_two : view Version.Two condition_array (permitted 1 1 1 2 ∷ []) 1 (range (addr 1 1) (addr 2 1)) ≡ Some (one 1) ∷ Some (one 2) ∷ []
+condition_array_two : view (world Version.Two condition_array (permitted 1 1 1 2 ∷ [])) 1 (range (addr 1 1) (addr 2 1)) ≡ Some (one 1) ∷ Some (one 2) ∷ []
 unfolding program evaluation cell_value apply
 condition_array_two = refl
 

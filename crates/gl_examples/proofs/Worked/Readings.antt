@@ -10,6 +10,7 @@ use Rattle.gl_calculus.specs.Formulas.Formula as F
 use Rattle.gl_calculus.specs.Evaluation.Oracle.{Edge}
 use Rattle.gl_calculus.specs.Values.Functions.{apply}
 use Rattle.gl_calculus.specs.Evaluation.Key.{Cell, Outcome}
+use Rattle.gl_calculus.specs.Evaluation.World.{world}
 use Rattle.gl_calculus.specs.Evaluation.Evaluation.{program, evaluation, cell_value}
 use Rattle.gl_calculus.specs.Calculation.Calculation.{why, Blocked}
 use Rattle.gl_examples.proofs.Worked.Sheets.{int, cell, hash, area, over, call, alone, one, err, permitted, refused, outcome, shows, next}
@@ -26,21 +27,21 @@ abbrev beside : Formula → Cells
 beside f = (addr 1 1, Form (sequence 3 1)) ∷ (addr 3 1, Form f) ∷ []
 
 -- a spill of the top doesn't reach into the region of a copy, which has an oracle of its own
-no_outer_spill : shows Version.One (beside (view_of (sheet_of (area 1 2 2 2)) (cell 1 2))) (permitted 1 1 3 1 ∷ []) 5 3 1 ≡ Some Blank
+no_outer_spill : shows (world Version.One (beside (view_of (sheet_of (area 1 2 2 2)) (cell 1 2))) (permitted 1 1 3 1 ∷ [])) 5 3 1 ≡ Some Blank
 unfolding program evaluation cell_value apply
 no_outer_spill = refl
 
 -- outside the region the copy reads what its parent frame shows
-outer_spill : shows Version.One (beside (view_of (sheet_of (area 2 1 2 2)) (cell 1 2))) (permitted 1 1 3 1 ∷ []) 5 3 1 ≡ Some (one 2)
+outer_spill : shows (world Version.One (beside (view_of (sheet_of (area 2 1 2 2)) (cell 1 2))) (permitted 1 1 3 1 ∷ [])) 5 3 1 ≡ Some (one 2)
 unfolding program evaluation cell_value apply
 outer_spill = refl
 
 -- G of an address gives a scalar, and of a range an array
-g_address : outcome Version.One (alone (call F.Fun.G (cell 2 1 ∷ cell 2 1 ∷ int 4 ∷ []))) [] 3 1 1 ≡ Some (Outcome.Value (One (one 4)))
+g_address : outcome (world Version.One (alone (call F.Fun.G (cell 2 1 ∷ cell 2 1 ∷ int 4 ∷ []))) []) 3 1 1 ≡ Some (Outcome.Value (One (one 4)))
 unfolding program evaluation cell_value apply
 g_address = refl
 
-g_range : outcome Version.One (alone (call F.Fun.G (area 2 1 2 1 ∷ cell 2 1 ∷ int 4 ∷ []))) [] 3 1 1 ≡ Some (Outcome.Value (Array (size 1 1) (scalars (one 4 ∷ []))))
+g_range : outcome (world Version.One (alone (call F.Fun.G (area 2 1 2 1 ∷ cell 2 1 ∷ int 4 ∷ []))) []) 3 1 1 ≡ Some (Outcome.Value (Array (size 1 1) (scalars (one 4 ∷ []))))
 unfolding program evaluation cell_value apply
 g_range = refl
 
@@ -58,13 +59,13 @@ update_outside = refl
 abbrev update_of_error : Cells
 update_of_error = alone (call F.Fun.Update (over (int 1) (int 0) ∷ cell 2 1 ∷ cell 1 1 ∷ []))
 
-update_loops : Loops (program Version.One update_of_error []) (Cell Top (addr 1 1))
+update_loops : Loops (program (world Version.One update_of_error [])) (Cell Top (addr 1 1))
 unfolding program evaluation cell_value apply
 update_loops zero = refl
 update_loops (suc n) = rw (update_loops n) refl
 
 -- a refused root is #SPILL!, and nothing is demanded for it: A1 =A1# under an oracle that refuses A1
-refused_hash : shows Version.One (alone (hash 1 1)) (refused 1 1 2 1 ∷ []) 1 1 1 ≡ Some (err ErrKind.Spill)
+refused_hash : shows (world Version.One (alone (hash 1 1)) (refused 1 1 2 1 ∷ [])) 1 1 1 ≡ Some (err ErrKind.Spill)
 unfolding program evaluation cell_value apply
 refused_hash = refl
 
@@ -82,11 +83,11 @@ unfolding program evaluation cell_value apply
 no_rows = refl
 
 -- TAKE of a scalar gives an array, TRANSPOSE a scalar
-take_scalar : outcome Version.One (alone (call F.Fun.Take (int 5 ∷ int 1 ∷ int 1 ∷ []))) [] 1 1 1 ≡ Some (Outcome.Value (Array (size 1 1) (scalars (one 5 ∷ []))))
+take_scalar : outcome (world Version.One (alone (call F.Fun.Take (int 5 ∷ int 1 ∷ int 1 ∷ []))) []) 1 1 1 ≡ Some (Outcome.Value (Array (size 1 1) (scalars (one 5 ∷ []))))
 unfolding program evaluation cell_value apply
 take_scalar = refl
 
-transpose_scalar : outcome Version.One (alone (call F.Fun.Transpose (int 5 ∷ []))) [] 1 1 1 ≡ Some (Outcome.Value (One (one 5)))
+transpose_scalar : outcome (world Version.One (alone (call F.Fun.Transpose (int 5 ∷ []))) []) 1 1 1 ≡ Some (Outcome.Value (One (one 5)))
 unfolding program evaluation cell_value apply
 transpose_scalar = refl
 

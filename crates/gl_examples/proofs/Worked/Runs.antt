@@ -1,6 +1,7 @@
 -- Runs of the machine, by computation.
 use Rattle.std.proofs.Common.{◌≡◌, ℕ, zero, suc, List, [], ◌∷◌, pos, Option, Some, refl}
 use Rattle.gl_calculus.specs.Values.Functions.{apply}
+use Rattle.gl_calculus.specs.Evaluation.World.{world}
 use Rattle.gl_calculus.specs.Evaluation.Evaluation.{program, evaluation, cell_value}
 use Rattle.gl_calculus.specs.Grid.Grid.{addr}
 use Rattle.gl_calculus.specs.Values.Value as V
@@ -16,7 +17,7 @@ abbrev cell : ℕ → ℕ → Key
 cell c r = Cell Top (addr c r)
 
 abbrev machine : Cells → Oracle → List Key → List ℕ → List (Entry Key Outcome)
-machine S w seeds = picks same_key max_demanded (program Version.One S w) (start seeds)
+machine S w seeds = picks same_key max_demanded (program (world Version.One S w)) (start seeds)
 
 abbrev entry : Key → Status Key Outcome → Entry Key Outcome
 entry k s = record { key = k; status = s }

@@ -13,6 +13,7 @@ use Rattle.gl_calculus.specs.Computation.Evaluation.{given}
 use Rattle.gl_calculus.specs.Evaluation.Facts.{facts}
 use Rattle.gl_calculus.specs.Evaluation.Key.{Cell, Outcome, Budget}
 use Rattle.gl_calculus.specs.Evaluation.Reference.{at_address}
+use Rattle.gl_calculus.specs.Evaluation.World.{World, world}
 use Rattle.gl_calculus.specs.Evaluation.Evaluation.{program}
 use Rattle.gl_calculus.specs.Calculation.Calculation.{has_content}
 
@@ -71,19 +72,19 @@ refused c r m n = record { root = addr c r; size = size m n; permit = Refused }
 
 -- ---- the calculation, with n levels of demand
 
-abbrev pub outcome : Version → Cells → Oracle → ℕ → ℕ → ℕ → Option Outcome
-outcome version S w n c r = val (program version S w) n (Cell Top (addr c r))
+abbrev pub outcome : World → ℕ → ℕ → ℕ → Option Outcome
+outcome W n c r = val (program W) n (Cell Top (addr c r))
 
 abbrev pub scalar_of : Option (Result Value Budget) → Option Scalar
 scalar_of (Some (Ok (V.Value.One x))) = Some x
 scalar_of x = None
 
-abbrev pub shows : Version → Cells → Oracle → ℕ → ℕ → ℕ → Option Scalar
-shows version S w n c r = scalar_of (run (val (program version S w) n) (given (facts S w) (at_address Top (addr c r))))
+abbrev pub shows : World → ℕ → ℕ → ℕ → Option Scalar
+shows W n c r = scalar_of (run (val (program W) n) (given (facts W.sheet W.oracle) (at_address Top (addr c r))))
 
 -- the scalars of a range
-abbrev pub view : Version → Cells → Oracle → ℕ → Range → List (Option Scalar)
-view version S w n r = map (λ a. scalar_of (run (val (program version S w) n) (given (facts S w) (at_address Top a)))) (addresses r)
+abbrev pub view : World → ℕ → Range → List (Option Scalar)
+view W n r = map (λ a. scalar_of (run (val (program W) n) (given (facts W.sheet W.oracle) (at_address Top a)))) (addresses r)
 
 abbrev pub sized : Addr → Option Outcome → Option (Addr × Size)
 sized a (Some (Outcome.Value (V.Value.Array z xs))) = Some (a, z)
@@ -91,4 +92,4 @@ sized a x = None
 
 -- the oracle after w
 abbrev pub next : Version → Cells → ℕ → Oracle → Oracle
-next version S n w = grant grid (has_content S) (filter_map (λ a. sized a (val (program version S w) n (Cell Top a))) (formula_addresses S))
+next version S n w = grant grid (has_content S) (filter_map (λ a. sized a (val (program (world version S w)) n (Cell Top a))) (formula_addresses S))

@@ -1,6 +1,7 @@
 -- The whole answer of a worked sheet: A1 =SEQUENCE(3,1), B1 =A1#*2 settles after three rounds.
 use Rattle.std.proofs.Common.{◌≡◌, ◌⊎◌, inl, inr, [], ◌∷◌, refl, sym, subst, arith}
 use Rattle.gl_calculus.specs.Values.Functions.{apply}
+use Rattle.gl_calculus.specs.Evaluation.World.{world}
 use Rattle.gl_calculus.specs.Evaluation.Evaluation.{program, evaluation, cell_value}
 use Rattle.gl_calculus.specs.Grid.Grid.{addr}
 use Rattle.gl_calculus.specs.Values.Value.{Oracle, Top}
@@ -24,7 +25,7 @@ abbrev OneOfBoth : Key → Type 0
 OneOfBoth k = (k ≡ a1) ⊎ (k ≡ b1)
 
 abbrev asks_one_of_both : Oracle → Key → Type 0
-asks_one_of_both w j = EachAsked OneOfBoth (program Version.One spilled_product w j)
+asks_one_of_both w j = EachAsked OneOfBoth (program (world Version.One spilled_product w) j)
 
 -- A1 asks nothing; B1 asks nothing without an entry for A1, and with a permitted one A1 alone
 b1_in_round0 : asks_one_of_both [] b1
@@ -51,21 +52,21 @@ module _ (w : Oracle) (b1_asks : asks_one_of_both w b1) where
   seeds_are k (inr (inl e)) = inr e
   seeds_are k (inr (inr e)) = absurd e
 
-  demanded : {k : Key} → DemandedIn Version.One spilled_product w k → OneOfBoth k
-  demanded d = demanded_has (program Version.One spilled_product w) OneOfBoth _ seeds_are asks d
+  demanded : {k : Key} → DemandedIn (world Version.One spilled_product w) k → OneOfBoth k
+  demanded d = demanded_has (program (world Version.One spilled_product w)) OneOfBoth _ seeds_are asks d
 
-  within_work : SpendsWork Version.One spilled_product w → ⊥
+  within_work : SpendsWork (world Version.One spilled_product w) → ⊥
   within_work m = omega (arith, m.1, two_at_most a1 b1 m.0 m.2 (λ x c. demanded (m.3 x c)))
 
-unspent0 : IsUnspent Version.One spilled_product []
+unspent0 : IsUnspent (world Version.One spilled_product [])
 unfolding program evaluation cell_value apply
 unspent0 = record { work = within_work [] b1_in_round0; no_abort = (inr (_, (1, refl), refl), (inr (_, (1, refl), refl), tt)) }
 
-unspent1 : IsUnspent Version.One spilled_product spilled_product_first
+unspent1 : IsUnspent (world Version.One spilled_product spilled_product_first)
 unfolding program evaluation cell_value apply
 unspent1 = record { work = within_work spilled_product_first b1_in_round1; no_abort = (inr (_, (1, refl), refl), (inr (_, (2, refl), refl), tt)) }
 
-unspent2 : IsUnspent Version.One spilled_product spilled_product_second
+unspent2 : IsUnspent (world Version.One spilled_product spilled_product_second)
 unfolding program evaluation cell_value apply
 unspent2 = record { work = within_work spilled_product_second b1_in_round2; no_abort = (inr (_, (1, refl), refl), (inr (_, (2, refl), refl), tt)) }
 

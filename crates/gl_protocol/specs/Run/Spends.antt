@@ -1,7 +1,6 @@
 -- The steps that a script takes, item by item, with what is remembered from one calculation to the next.
 use Rattle.std.specs.Prelude.{◌≡◌, ◌≤◌, ◌+◌, ℕ, List, [], ◌∷◌, ◌++◌, length, map, Some, true, false, IsTrue, IsFalse, if◌then◌else◌, codes}
 use Rattle.gl_calculus.specs.Grid.Grid.{Addr}
-use Rattle.gl_calculus.specs.Values.Value.{Oracle}
 use Rattle.gl_calculus.specs.Formulas.Formula.{Version, One, Two, Cells}
 use Rattle.gl_calculus.specs.Calculation.Calculation.{Answer, Settled, Spent}
 use Rattle.gl_calculus.specs.Calculation.Memory.{AreTables, tables_for}
@@ -14,6 +13,7 @@ use Rattle.gl_protocol.specs.Scripts.Output.{is_line, is_refusal}
 use Rattle.gl_calculus.specs.Steps.Rounds.{Costs}
 use Rattle.gl_protocol.specs.Run.Records.{csv_records, records_of}
 use Rattle.gl_calculus.specs.Steps.Walk.{AllowsWalk}
+use Rattle.gl_calculus.specs.Evaluation.World.{World, world}
 use Rattle.gl_protocol.specs.Run.Known.{Known, new_known, memory_in}
 use Rattle.gl_protocol.specs.Run.Touched.{touched_by}
 
@@ -32,17 +32,17 @@ pub record Calculates (version : Version) (K K' : Known) (n m : ℕ) : Type 0 wh
   pub touched : K'.touched ≡ []
 
 -- An explanation by an oracle takes the steps from n to m: those of the walk that finds a certificate, and then at most one for each note and each loop that is checked.
-pub record Explaining (version : Version) (S : Cells) (w : Oracle) (a : Addr) (n m : ℕ) : Type 0 where
+pub record Explaining (W : World) (a : Addr) (n m : ℕ) : Type 0 where
   pub certificate : Certificate
-  pub explains : Explains version S w a (Cert certificate)
+  pub explains : Explains W a (Cert certificate)
   pub found : ℕ
-  pub walk : AllowsWalk version S w a (Cert certificate) n found
+  pub walk : AllowsWalk W a (Cert certificate) n found
   pub check : m ≤ found + length certificate.notes + length certificate.loops
   pub later : n ≤ m
 
 -- What a request takes behind its calculation, by the answer: `explain` an explanation where that settled, and all else nothing.
 abbrev pub Follows : Version → Cells → Request → Answer → ℕ → ℕ → Type 0
-Follows version S (Explain a) (Settled w rounds) n m = Explaining version S w a n m
+Follows version S (Explain a) (Settled w rounds) n m = Explaining (world version S w) a n m
 Follows version S (Explain a) (Spent k) n m = m ≡ n
 Follows version S x answer n m = m ≡ n
 

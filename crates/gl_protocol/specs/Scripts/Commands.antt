@@ -25,6 +25,7 @@ use Rattle.gl_language.specs.Reading.Token as T
 use Rattle.gl_language.specs.Reading.Grammar as G
 use Rattle.gl_calculus.specs.Calculation.Calculation as A
 use Rattle.gl_calculus.specs.Evaluation.Oracle as O
+use Rattle.gl_calculus.specs.Evaluation.World.{world}
 
 -- ---- contents
 
@@ -314,18 +315,18 @@ module _ (records : Bytes → List (List Bytes)) (version : Version) (S : Cells)
   pub data AreShown (w : Oracle) (r : Range) : ℕ → List (List Shown) → Type 0 where
     none : AreShown w r 0 []
     row : {i : ℕ} {xs : List Shown} {rest : List (List Shown)} → length xs ≡ (extents r).cols →
-        ((j : ℕ) (d : Shown) → j < length xs → IsShown version S w (addr (r.first.col + j) (r.last.row - i)) (get_or xs j d)) →
+        ((j : ℕ) (d : Shown) → j < length xs → IsShown (world version S w) (addr (r.first.col + j) (r.last.row - i)) (get_or xs j d)) →
         AreShown w r i rest → AreShown w r (suc i) (xs ∷ rest)
 
   -- the replies to what asks for the calculation, where it settled
   pub data SettledReply (w : Oracle) (rounds : ℕ) : Request → Bytes → Type 0 where
-    show : {a : Addr} {x : Shown} → IsShown version S w a x → SettledReply w rounds (Show a) (line (shown_text x))
+    show : {a : Addr} {x : Shown} → IsShown (world version S w) a x → SettledReply w rounds (Show a) (line (shown_text x))
     view : {r : Range} {rows : List (List Shown)} → AreShown w r (extents r).rows rows → SettledReply w rounds (View r) (table_text (extents r).cols rows)
     calc : SettledReply w rounds Calculate (line (codes "settled " ++ decimal rounds))
     oracle : SettledReply w rounds ShowOracle (oracle_text w)
     why_so : {a : Addr} → SettledReply w rounds (Why a) (line (why_text (A.why S w a)))
-    explain : {a : Addr} {c : Certificate} → Explains version S w a (Cert c) →
-        SettledReply w rounds (Explain a) (explanation_text (verdict version S w a c) c)
+    explain : {a : Addr} {c : Certificate} → Explains (world version S w) a (Cert c) →
+        SettledReply w rounds (Explain a) (explanation_text (verdict (world version S w) a c) c)
 
   abbrev pub asks_calculation : Request → Bool
   asks_calculation (Show a) = true

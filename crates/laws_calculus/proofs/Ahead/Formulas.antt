@@ -193,18 +193,18 @@ module _ (S : Cells) (w : Oracle) (g : Key → Option Outcome) where
   alone p i d = at_end (found g (given (facts S w) p)) i (sym (found-bind (facts S w) g (on_result give) p) ∙ d)
 
 pub formula_demands : FormulaDemands
-formula_demands version S w e bs f g i d = alone S w g (eval version e bs f) i (lacks_formula S w g version e bs f [] give (λ v. lacks_none S w g (give v)) i d)
+formula_demands W e bs f g i d = alone W.sheet W.oracle g (eval W.version e bs f) i (lacks_formula W.sheet W.oracle g W.version e bs f [] give (λ v. lacks_none W.sheet W.oracle g (give v)) i d)
 
 pub arguments_demand : ArgumentsDemand
-arguments_demand version S w e bs fs g i d = alone S w g (all_values (arguments version e bs fs)) i (lacks_arguments S w g version e bs fs [] give (λ v. lacks_none S w g (give v)) i d)
+arguments_demand W e bs fs g i d = alone W.sheet W.oracle g (all_values (arguments W.version e bs fs)) i (lacks_arguments W.sheet W.oracle g W.version e bs fs [] give (λ v. lacks_none W.sheet W.oracle g (give v)) i d)
 
 pub cell_demands : CellDemands
 unfolding evaluation cell_value
-cell_demands version S w e a g i d =
-    ap (λ x. found g (given (facts S w) (bind (cell_value version e (own_content x.content e a)) (λ r. Done (as_value r))))) (fact_at_single S w a)
-    ∙ by (own_content (content S a) e a) d
+cell_demands W e a g i d =
+    ap (λ x. found g (given (facts W.sheet W.oracle) (bind (cell_value W.version e (own_content x.content e a)) (λ r. Done (as_value r))))) (fact_at_single W.sheet W.oracle a)
+    ∙ by (own_content (content W.sheet a) e a) d
   where
-    by : (h : Option Held) → first_lacked is_value g (reads_keys (fact S w) e (held_reads h)) ≡ Some i → found g (given (facts S w) (bind (cell_value version e h) (λ r. Done (as_value r)))) ≡ Need i
-    by (Some (Computed f)) d = found-bind (facts S w) g (λ r. Done (as_value r)) (eval version e [] f) ∙ ap (λ t. then_found t (λ r. found g (given (facts S w) (Done (as_value r))))) (formula_demands version S w e [] f g i d)
+    by : (h : Option Held) → first_lacked is_value g (reads_keys (fact W.sheet W.oracle) e (held_reads h)) ≡ Some i → found g (given (facts W.sheet W.oracle) (bind (cell_value W.version e h) (λ r. Done (as_value r)))) ≡ Need i
+    by (Some (Computed f)) d = found-bind (facts W.sheet W.oracle) g (λ r. Done (as_value r)) (eval W.version e [] f) ∙ ap (λ t. then_found t (λ r. found g (given (facts W.sheet W.oracle) (Done (as_value r))))) (formula_demands W e [] f g i d)
     by (Some (Given v)) d = absurd (cc d)
     by None d = absurd (cc d)

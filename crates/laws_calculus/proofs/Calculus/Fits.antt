@@ -31,11 +31,11 @@ oracle_fits s (Err b) = refl
 
 pub outcomes_fit : OutcomesFit
 unfolding program evaluation
-outcomes_fit version S w (Cell e a) o (zero, h) = absurd (cc h)
-outcomes_fit version S w (Settle s) o (zero, h) = absurd (cc h)
-outcomes_fit version S w (Cell e a) o (suc n, h) =
-    let (r, g) = last_step (val (program version S w) n) (facts S w) (cell_value version e (own_content (fact_at (facts S w (single a)) a).content e a)) as_value o h in
+outcomes_fit W (Cell e a) o (zero, h) = absurd (cc h)
+outcomes_fit W (Settle s) o (zero, h) = absurd (cc h)
+outcomes_fit W (Cell e a) o (suc n, h) =
+    let (r, g) = last_step (val (program W) n) (facts W.sheet W.oracle) (cell_value W.version e (own_content (fact_at (facts W.sheet W.oracle (single a)) a).content e a)) as_value o h in
     subst (λ u. IsTrue (is_outcome_of (Cell e a) u)) (sym g) (value_fits e a r)
-outcomes_fit version S w (Settle s) o (suc n, h) =
-    let (r, g) = last_step (val (program version S w) n) (facts S w) (rounds s (facts S w (region s)) (copy_budget s (facts S w (region s))) []) as_settled o h in
+outcomes_fit W (Settle s) o (suc n, h) =
+    let (r, g) = last_step (val (program W) n) (facts W.sheet W.oracle) (rounds s (facts W.sheet W.oracle (region s)) (copy_budget s (facts W.sheet W.oracle (region s))) []) as_settled o h in
     subst (λ u. IsTrue (is_outcome_of (Settle s) u)) (sym g) (oracle_fits s r)

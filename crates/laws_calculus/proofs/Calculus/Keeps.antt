@@ -11,10 +11,10 @@ use Rattle.laws_calculus.proofs.Query.Ordered.{key_of}
 use Rattle.laws_calculus.proofs.Query.Reached.{fresh_back}
 use Rattle.gl_calculus.specs.Grid.Grid.{Addr, same_addr, Range, addresses}
 use Rattle.gl_calculus.specs.Values.Value.{Oracle, Permit}
-use Rattle.gl_calculus.specs.Formulas.Formula.{Version, Cells}
 use Rattle.gl_calculus.specs.Evaluation.Oracle.{status, Cover, cover}
 use Rattle.gl_calculus.specs.Values.Same.{is_permitted}
 use Rattle.gl_calculus.specs.Evaluation.Key.{Key, same_key, Outcome}
+use Rattle.gl_calculus.specs.Evaluation.World.{World, world}
 use Rattle.gl_calculus.specs.Evaluation.Evaluation.{program}
 use Rattle.gl_calculus.specs.Calculation.Memory.{Table, base, base_by, before_round, same_status, same_cover, differs_at, differs_in, IsKeptKey, IsTableOf}
 use Rattle.gl_calculus.specs.Computation.Notes.{note_keys}
@@ -46,26 +46,26 @@ member_note [] k m = absurd m
 member_note (n ∷ ns) k (inl e) = (n, inl refl, sym e)
 member_note (n ∷ ns) k (inr m) = let (l, i, e) = member_note ns k m in (l, inr i, e)
 
-module _ (version : Version) (S : Cells) (w : Oracle) (t : Table) (h : IsTableOf version S w t) where
+module _ (W : World) (t : Table) (h : IsTableOf W t) where
   -- what a noted key read is noted
   read_noted : (n : Note Key Outcome Range) → Member n t.notes → (j : Key) → Member j n.reads → Member j (note_keys t.notes)
   read_noted n m j r =
       let (ks, p, d) = h.true_notes n m in
       let i : Member j ks = fresh_back same_key ks [] j (subst (Member j) d r) in
-      let (o, g) = asked_has (program version S w) (Loops (program version S w)) p j i in
-      h.complete j o (Read (h.demanded n.key (key_of t.notes n m)) (asked_on_path (program version S w) (Loops (program version S w)) p j i)) g
+      let (o, g) = asked_has (program W) (Loops (program W)) p j i in
+      h.complete j o (Read (h.demanded n.key (key_of t.notes n m)) (asked_on_path (program W) (Loops (program W)) p j i)) g
 
   reached : (k j : Key) → Member k (note_keys t.notes) → IsReached t.notes k j → Member j (note_keys t.notes)
   reached k _ m Here = m
   reached k j m (Through n i w e r s) = reached i j (read_noted n w i r) s
 
-  pub kept : (k : Key) → Member k (note_keys t.notes) → IsKeptKey t [] w k
+  pub kept : (k : Key) → Member k (note_keys t.notes) → IsKeptKey t [] W.oracle k
   kept k m j r =
       let (n, i, e) = member_note t.notes j (reached k j m r) in
-      (n, i, e, λ a l. subst (λ v. differs_in [] v w a ≡ false) (sym h.oracle) (same_in w a))
+      (n, i, e, λ a l. subst (λ v. differs_in [] v W.oracle a ≡ false) (sym h.oracle) (same_in W.oracle a))
 
 pub all_kept : AllKept
-all_kept version S w t h k m = kept version S w t h k m
+all_kept W t h k m = kept W t h k m
 
 pub nothing_asked : NothingAsked
 nothing_asked version S tables before i w n a f = record {
@@ -77,12 +77,12 @@ nothing_asked version S tables before i w n a f = record {
   least = λ l ks d each small. by ks each (a.all i w f l);
 }
   where
-    by : (ks : List Key) → ((k : Key) → Member k ks → IsAnew version S (base tables [] before i) w k × ((o : Outcome) × Has (program version S w) k o)) → (t : Table) × (slice_get tables i ≡ Some t) → n + length ks ≤ n
+    by : (ks : List Key) → ((k : Key) → Member k ks → IsAnew (world version S w) (base tables [] before i) k × ((o : Outcome) × Has (program (world version S w)) k o)) → (t : Table) × (slice_get tables i ≡ Some t) → n + length ks ≤ n
     by [] each p = omega arith
     by (k ∷ ks) each (t, e) =
         let ((d, out), (o, g)) = each k (inl refl) in
         let (v, fin, tab) = a.each i t e in
         let q : v ≡ w = one_round version S i v w fin.0 f.0 in
-        let tab' : IsTableOf version S w t = subst (λ u. IsTableOf version S u t) q tab in
-        let here : IsKeptKey t [] w k = kept version S w t tab' k (tab'.complete k o d g) in
+        let tab' : IsTableOf (world version S w) t = subst (λ u. IsTableOf (world version S u) t) q tab in
+        let here : IsKeptKey t [] w k = kept (world version S w) t tab' k (tab'.complete k o d g) in
         absurd (out (subst (λ x. IsKeptKey (base_by x [] (before_round i before)).0 (base_by x [] (before_round i before)).1 w k) (sym e) here))

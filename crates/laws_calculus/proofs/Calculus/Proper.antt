@@ -15,6 +15,7 @@ use Rattle.gl_calculus.specs.Evaluation.Facts.{Fact, fact, facts, find_fact, fac
 use Rattle.gl_calculus.specs.Evaluation.Key.{Key, Cell, Settle, Outcome, Settled, Abort, Budget, Eval, give, on_result, ◌>>=◌, own_value, as_value, as_settled}
 use Rattle.gl_calculus.specs.Evaluation.Reference as R
 use Rattle.gl_calculus.specs.Evaluation.Reference.{Held, Given, Computed, own_content, home, own, value_of, Reading, covered, deref, deref_all, seen_or_looked, at_address, at_range, spill_of}
+use Rattle.gl_calculus.specs.Evaluation.World.{world}
 use Rattle.gl_calculus.specs.Evaluation.Evaluation as E
 use Rattle.gl_calculus.specs.Evaluation.Evaluation.{Argument, program, evaluation, cell_value}
 use Rattle.gl_calculus.specs.Values.Functions.{apply}
@@ -261,7 +262,7 @@ module _ (S : Cells) (w : Oracle) where
   good_rounds s xs (suc n) o t = good_then _ _ (good_arrays (In s o) xs t) (λ zs. good_settled _ o (E.next_in s xs zs) _ (λ p. good_rounds s xs n p t))
 
   -- every key that is asked for is proper
-  pub asks_proper : (version : Version) (k : Key) → EachAsked (IsProperKey S) (program version S w k)
+  pub asks_proper : (version : Version) (k : Key) → EachAsked (IsProperKey S) (program (world version S w) k)
   unfolding program evaluation
   asks_proper version (Cell e a) =
       keeps_asked (IsProperKey S) (λ k o. Unit {0}) (λ r. Unit {0}) _ (λ k o. tt)

@@ -12,6 +12,7 @@ use Rattle.gl_calculus.specs.Formulas.Formula.{Cells, content}
 use Rattle.gl_calculus.specs.Evaluation.Oracle.{status, cover}
 use Rattle.gl_calculus.specs.Evaluation.Facts.{fact, facts}
 use Rattle.gl_calculus.specs.Evaluation.Key.{same_key}
+use Rattle.gl_calculus.specs.Evaluation.World.{world}
 use Rattle.gl_calculus.specs.Evaluation.Evaluation.{program, evaluation}
 use Rattle.gl_calculus.specs.Calculation.Memory.{same_status, same_cover, differs_at, differs_in}
 use Rattle.gl_calculus.specs.Evaluation.Sound.{IsProperKey}
@@ -23,13 +24,13 @@ use Rattle.laws_calculus.proofs.Calculus.Settles.{settled_consistent}
 use Rattle.gl_calculus.proofs.Grants.{grant_permits, only_grant, neither, not_false, clash}
 
 pub one_outcome : OneOutcome
-one_outcome version S w k x y = Has-one (program version S w) k x y
+one_outcome W k x y = Has-one (program W) k x y
 
 pub asks_proper : AsksProper
-asks_proper version S w = P.asks_proper S w version
+asks_proper W = P.asks_proper W.sheet W.oracle W.version
 
 pub demands_proper : DemandsProper
-demands_proper version S w seeds k s d = demanded_has (program version S w) (IsProperKey S) seeds s (λ j p. asks_proper version S w j) d
+demands_proper W seeds k s d = demanded_has (program W) (IsProperKey W.sheet) seeds s (λ j p. asks_proper W j) d
 
 pub tests_are_exact : TestsAreExact
 tests_are_exact = (scalar_equality, value_equality, sheet_equality, frame_equality, oracle_equality, key_equality)
@@ -42,7 +43,7 @@ pub notes_coincide : NotesCoincide
 unfolding program
 notes_coincide version S S' w w' notes t c h =
     let kept = λ (r : Range). facts S' w' r ≡ facts S w r in
-    coincide same_key key_equality kept (program version S w) (program version S' w') (agree_given (evaluation version) (facts S w) (facts S' w') kept (λ r e. e)) notes t c h
+    coincide same_key key_equality kept (program (world version S w)) (program (world version S' w')) (agree_given (evaluation version) (facts S w) (facts S' w') kept (λ r e. e)) notes t c h
 
 -- ---- what differs nowhere has the same facts
 
@@ -75,7 +76,7 @@ module _ (S S' : Cells) (w w' : Oracle) (touched : List Addr) (same : (a : Addr)
 pub kept_stay_true : KeptStayTrue
 unfolding program
 kept_stay_true version S S' w w' touched notes kept same t c k =
-    kept_coincide same_key key_equality (differs_in touched w w') (program version S w) (program version S' w')
+    kept_coincide same_key key_equality (differs_in touched w w') (program (world version S w)) (program (world version S' w'))
     (agree_given (evaluation version) (facts S w) (facts S' w') (λ r. differs_in touched w w' r ≡ false) (λ r e. same_facts S S' w w' touched same (addresses r) e)) notes kept t c k
 
 pub grant_gives_permits : GrantGivesPermits

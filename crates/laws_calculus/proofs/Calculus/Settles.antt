@@ -11,6 +11,7 @@ use Rattle.gl_calculus.specs.Evaluation.Oracle.{Sizes, AreSizes, sizes_of, ArePe
 use Rattle.gl_calculus.specs.Evaluation.Facts.{facts}
 use Rattle.gl_calculus.specs.Evaluation.Key.{Cell, Outcome, Settled, Abort, own_value}
 use Rattle.gl_calculus.specs.Evaluation.Reference.{value_of, held_top}
+use Rattle.gl_calculus.specs.Evaluation.World.{World, world}
 use Rattle.gl_calculus.specs.Evaluation.Evaluation.{program}
 use Rattle.gl_calculus.specs.Calculation.Calculation as C
 use Rattle.gl_calculus.specs.Calculation.Calculation.{has_content, is_array, Arrays, none, array, other, TopHas, TopFails, IsNext, Ends, settled, IsAnswer, Owns, IsConsistent}
@@ -94,62 +95,62 @@ pub roots_of : (w : Oracle) → map (λ x. x.root) w ≡ map (λ x. x.0) (sizes_
 roots_of [] = refl
 roots_of (x ∷ xs) = ap (λ u. x.root ∷ u) (roots_of xs)
 
-module _ (version : Version) (S : Cells) (w : Oracle) where
+module _ (W : World) where
   -- ---- the arrays of a round
 
-  pub array_root : (rest : List Addr) (zs : Sizes) → Arrays version S w rest zs → (a : Addr) → Member a (map (λ x. x.0) zs) → Member a rest
+  pub array_root : (rest : List Addr) (zs : Sizes) → Arrays W rest zs → (a : Addr) → Member a (map (λ x. x.0) zs) → Member a rest
   array_root _ _ none a m = m
   array_root _ _ (array xs h r) a (inl e) = inl e
   array_root _ _ (array xs h r) a (inr m) = inr (array_root _ _ r a m)
   array_root _ _ (other f r) a m = inr (array_root _ _ r a m)
 
-  pub array_order : (rest : List Addr) (zs : Sizes) → Arrays version S w rest zs → AreInOrder rest → AreSizes zs
+  pub array_order : (rest : List Addr) (zs : Sizes) → Arrays W rest zs → AreInOrder rest → AreSizes zs
   array_order _ _ none o = tt
   array_order _ _ (array {a = a} {rest = rest} {zs = zs} xs h r) o = order_cons a (map (λ x. x.0) zs) (λ b m. after_head a rest o b (array_root rest zs r b m)) (array_order rest zs r (order_tail a rest o))
   array_order _ _ (other {a = a} {rest = rest} {zs = zs} f r) o = array_order rest zs r (order_tail a rest o)
 
   abbrev pub ArrayAt : Addr → Size → Type 0
-  ArrayAt a z = (xs : Scalars) × TopHas version S w a (Outcome.Value (Array z xs))
+  ArrayAt a z = (xs : Scalars) × TopHas W a (Outcome.Value (Array z xs))
 
-  pub array_has : (rest : List Addr) (zs : Sizes) → Arrays version S w rest zs → (a : Addr) (z : Size) → Member (a, z) zs → Member a rest × ArrayAt a z
+  pub array_has : (rest : List Addr) (zs : Sizes) → Arrays W rest zs → (a : Addr) (z : Size) → Member (a, z) zs → Member a rest × ArrayAt a z
   array_has _ _ none a z m = absurd m
-  array_has _ _ (array xs h r) a z (inl e) = (inl (ap (λ u. u.0) e), (xs, subst (λ u. TopHas version S w u.0 (Outcome.Value (Array u.1 xs))) (sym e) h))
+  array_has _ _ (array xs h r) a z (inl e) = (inl (ap (λ u. u.0) e), (xs, subst (λ u. TopHas W u.0 (Outcome.Value (Array u.1 xs))) (sym e) h))
   array_has _ _ (array xs h r) a z (inr m) = let (n, t) = array_has _ _ r a z m in (inr n, t)
   array_has _ _ (other f r) a z m = let (n, t) = array_has _ _ r a z m in (inr n, t)
 
-  no_other : (a : Addr) (z : Size) (xs : Scalars) → TopHas version S w a (Outcome.Value (Array z xs)) → TopFails version S is_array w a → ⊥
-  no_other a z xs h (inl l) = Has-Loops (program version S w) (Cell Top a) _ h l
+  no_other : (a : Addr) (z : Size) (xs : Scalars) → TopHas W a (Outcome.Value (Array z xs)) → TopFails W is_array a → ⊥
+  no_other a z xs h (inl l) = Has-Loops (program W) (Cell Top a) _ h l
   no_other a z xs h (inr (o, g, f)) =
-      let e : o ≡ Outcome.Value (Array z xs) = Has-one (program version S w) (Cell Top a) _ _ g h in
+      let e : o ≡ Outcome.Value (Array z xs) = Has-one (program W) (Cell Top a) _ _ g h in
       let t : is_array o ≡ true = rw e refl in
       clash t f
 
-  pub has_array : (rest : List Addr) (zs : Sizes) → Arrays version S w rest zs → (a : Addr) (z : Size) (xs : Scalars) → Member a rest → TopHas version S w a (Outcome.Value (Array z xs)) → Member (a, z) zs
+  pub has_array : (rest : List Addr) (zs : Sizes) → Arrays W rest zs → (a : Addr) (z : Size) (xs : Scalars) → Member a rest → TopHas W a (Outcome.Value (Array z xs)) → Member (a, z) zs
   has_array _ _ none a z xs m h = m
   has_array _ _ (array {a = b} {z = y} ys g r) a z xs (inl e) h =
-      let g' : TopHas version S w a (Outcome.Value (Array y ys)) = subst (λ u. TopHas version S w u (Outcome.Value (Array y ys))) (sym e) g in
-      let q : Outcome.Value (Array z xs) ≡ Outcome.Value (Array y ys) = Has-one (program version S w) (Cell Top a) _ _ h g' in
+      let g' : TopHas W a (Outcome.Value (Array y ys)) = subst (λ u. TopHas W u (Outcome.Value (Array y ys))) (sym e) g in
+      let q : Outcome.Value (Array z xs) ≡ Outcome.Value (Array y ys) = Has-one (program W) (Cell Top a) _ _ h g' in
       let s : z ≡ y = cc q in
       let p : (a, z) ≡ (b, y) = cc (e, s) in
       inl p
   has_array _ _ (array ys g r) a z xs (inr m) h = inr (has_array _ _ r a z xs m h)
-  has_array _ _ (other {a = b} f r) a z xs (inl e) h = absurd (no_other a z xs h (subst (λ u. TopFails version S is_array w u) (sym e) f))
+  has_array _ _ (other {a = b} f r) a z xs (inl e) h = absurd (no_other a z xs h (subst (λ u. TopFails W is_array u) (sym e) f))
   has_array _ _ (other f r) a z xs (inr m) h = has_array _ _ r a z xs m h
 
   -- ---- own values
 
-  owns_of : (a : Addr) (f : Formula) (v : Value) → content S a ≡ Some (Form f) → TopHas version S w a (Outcome.Value v) → Owns version S w a v
+  owns_of : (a : Addr) (f : Formula) (v : Value) → content W.sheet a ≡ Some (Form f) → TopHas W a (Outcome.Value v) → Owns W a v
   owns_of a f v p (n, e) = (n, rw (p, e) refl)
 
-  owns_array : (a : Addr) (z : Size) (xs : Scalars) → Owns version S w a (Array z xs) → (f : Formula) × (content S a ≡ Some (Form f)) × TopHas version S w a (Outcome.Value (Array z xs))
+  owns_array : (a : Addr) (z : Size) (xs : Scalars) → Owns W a (Array z xs) → (f : Formula) × (content W.sheet a ≡ Some (Form f)) × TopHas W a (Outcome.Value (Array z xs))
   owns_array a z xs (n, e) =
-      (elim (content S a) as (λ c. content S a ≡ c → run (val (program version S w) n) (given (facts S w) (value_of Top a (held_top c))) ≡ Some (Ok (Some (Array z xs))) → (f : Formula) × (content S a ≡ Some (Form f)) × TopHas version S w a (Outcome.Value (Array z xs))) [
+      (elim (content W.sheet a) as (λ c. content W.sheet a ≡ c → run (val (program W) n) (given (facts W.sheet W.oracle) (value_of Top a (held_top c))) ≡ Some (Ok (Some (Array z xs))) → (f : Formula) × (content W.sheet a ≡ Some (Form f)) × TopHas W a (Outcome.Value (Array z xs))) [
         | None ↦ λ p h. absurd (cc h)
         | Some (Const x) ↦ λ p h. absurd (cc h)
-        | Some (Form f) ↦ λ p h. (f, p, (n, answers (val (program version S w) n (Cell Top a)) h))
+        | Some (Form f) ↦ λ p h. (f, p, (n, answers (val (program W) n (Cell Top a)) h))
       ]) refl e
     where
-      answers : (o : Option Outcome) → next None o (λ x. run (val (program version S w) n) (given (facts S w) (own_value x))) ≡ Some (Ok (Some (Array z xs))) → o ≡ Some (Outcome.Value (Array z xs))
+      answers : (o : Option Outcome) → next None o (λ x. run (val (program W) n) (given (facts W.sheet W.oracle) (own_value x))) ≡ Some (Ok (Some (Array z xs))) → o ≡ Some (Outcome.Value (Array z xs))
       answers None h = absurd (cc h)
       answers (Some (Outcome.Value v)) h = let q : v ≡ Array z xs = cc h in ap (λ u. Some (Outcome.Value u)) q
       answers (Some (Settled o)) h = absurd (cc h)
@@ -157,29 +158,29 @@ module _ (version : Version) (S : Cells) (w : Oracle) where
 
   -- ---- a fixed oracle
 
-  pub fixed_consistent : IsSheet S → IsNext version S w w → IsConsistent version S w
+  pub fixed_consistent : IsSheet W.sheet → IsNext W W.oracle → IsConsistent W
   fixed_consistent o (zs, ar, e) = record {
-    in_order = subst AreInOrder (sym (roots_of w ∙ ap (map (λ x. x.0)) sizes)) (array_order _ _ ar (formula_order S o));
+    in_order = subst AreInOrder (sym (roots_of W.oracle ∙ ap (map (λ x. x.0)) sizes)) (array_order _ _ ar (formula_order W.sheet o));
     entries = λ a z. (λ m. there a z m, λ m. back a z m);
-    permits = subst (λ u. ArePermits grid (has_content S) u) (sym e) (grant_permits grid (has_content S) zs (array_order _ _ ar (formula_order S o))).1;
+    permits = subst (λ u. ArePermits grid (has_content W.sheet) u) (sym e) (grant_permits grid (has_content W.sheet) zs (array_order _ _ ar (formula_order W.sheet o))).1;
   }
     where
-      sizes : sizes_of w ≡ zs
-      sizes = ap sizes_of e ∙ (grant_permits grid (has_content S) zs (array_order _ _ ar (formula_order S o))).0
+      sizes : sizes_of W.oracle ≡ zs
+      sizes = ap sizes_of e ∙ (grant_permits grid (has_content W.sheet) zs (array_order _ _ ar (formula_order W.sheet o))).0
 
-      there : (a : Addr) (z : Size) → (p : Permit) × Member (entry a z p) w → (xs : Scalars) × Owns version S w a (Array z xs)
+      there : (a : Addr) (z : Size) → (p : Permit) × Member (entry a z p) W.oracle → (xs : Scalars) × Owns W a (Array z xs)
       there a z (p, m) =
-          let (n, t) = array_has _ _ ar a z (subst (λ u. Member (a, z) u) sizes (size_of_entry w a z p m)) in
-          let (f, c) = formula_content S o a n in
+          let (n, t) = array_has _ _ ar a z (subst (λ u. Member (a, z) u) sizes (size_of_entry W.oracle a z p m)) in
+          let (f, c) = formula_content W.sheet o a n in
           (t.0, owns_of a f (Array z t.0) c t.1)
 
-      back : (a : Addr) (z : Size) → (xs : Scalars) × Owns version S w a (Array z xs) → (p : Permit) × Member (entry a z p) w
+      back : (a : Addr) (z : Size) → (xs : Scalars) × Owns W a (Array z xs) → (p : Permit) × Member (entry a z p) W.oracle
       back a z (xs, h) =
           let (f, c, t) = owns_array a z xs h in
-          entry_of_size w a z (subst (λ u. Member (a, z) u) (sym sizes) (has_array _ _ ar a z xs (formula_listed S a f c) t))
+          entry_of_size W.oracle a z (subst (λ u. Member (a, z) u) (sym sizes) (has_array _ _ ar a z xs (formula_listed W.sheet a f c) t))
 
-settled_next : (version : Version) (S : Cells) (i : ℕ) (v w : Oracle) (n : ℕ) → Ends version S i v (C.Answer.Settled w n) → IsNext version S w w
+settled_next : (version : Version) (S : Cells) (i : ℕ) (v w : Oracle) (n : ℕ) → Ends version S i v (C.Answer.Settled w n) → IsNext (world version S w) w
 settled_next version S i v w n (settled u next) = next
 
-pub settled_consistent : (version : Version) (S : Cells) (w : Oracle) (n : ℕ) → IsSheet S → IsAnswer version S (C.Answer.Settled w n) → IsConsistent version S w
-settled_consistent version S w n o r = fixed_consistent version S w o (settled_next version S r.round r.oracle w n r.ends)
+pub settled_consistent : (W : World) (n : ℕ) → IsSheet W.sheet → IsAnswer W.version W.sheet (C.Answer.Settled W.oracle n) → IsConsistent W
+settled_consistent W n o r = fixed_consistent W o (settled_next W.version W.sheet r.round r.oracle W.oracle n r.ends)

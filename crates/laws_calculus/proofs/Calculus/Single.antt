@@ -12,6 +12,7 @@ use Rattle.gl_calculus.specs.Evaluation.Oracle.{Sizes, grant, first_difference, 
 use Rattle.gl_calculus.specs.Evaluation.Key.{Cell, Budget, Outcome, Abort, give, ◌>>=◌}
 use Rattle.gl_calculus.specs.Evaluation.Facts.{Fact, fact, facts, fact_at}
 use Rattle.gl_calculus.specs.Evaluation.Reference.{Reading, own, spilled, deref, at_address}
+use Rattle.gl_calculus.specs.Evaluation.World.{World, world}
 use Rattle.gl_calculus.specs.Evaluation.Evaluation.{program, evaluation, cell_value}
 use Rattle.gl_calculus.specs.Calculation.Calculation as C
 use Rattle.gl_calculus.specs.Calculation.Calculation.{Answer, Spent, spent_at, has_content, is_array, is_abort, TopHas, TopFails, Arrays, none, array, other, IsNext, FirstAbort, here, behind, GoesOn, Reaches, first, later, Ends, work, abort, settled, rounds, IsAnswer, TopLoops, Shown, IsShown, cycle, value, blank}
@@ -24,32 +25,32 @@ no_difference [] = refl
 no_difference (x ∷ xs) = rw (entry_same x, no_difference xs) refl
 
 module _ (version : Version) (S : Cells) where
-  fails_not : (test : Outcome → Bool) (w : Oracle) (a : Addr) (o : Outcome) → test o ≡ true → TopHas version S w a o → TopFails version S test w a → ⊥
-  fails_not test w a o t h (inl l) = Has-Loops (program version S w) (Cell Top a) o h l
-  fails_not test w a o t h (inr (p, g, f)) = clash (subst (λ u. test u ≡ true) (Has-one (program version S w) (Cell Top a) o p h g) t) f
+  fails_not : (test : Outcome → Bool) (w : Oracle) (a : Addr) (o : Outcome) → test o ≡ true → TopHas (world version S w) a o → TopFails (world version S w) test a → ⊥
+  fails_not test w a o t h (inl l) = Has-Loops (program (world version S w)) (Cell Top a) o h l
+  fails_not test w a o t h (inr (p, g, f)) = clash (subst (λ u. test u ≡ true) (Has-one (program (world version S w)) (Cell Top a) o p h g) t) f
 
-  one_arrays : (w : Oracle) (rest : List Addr) (ys zs : Sizes) → Arrays version S w rest ys → Arrays version S w rest zs → ys ≡ zs
+  one_arrays : (w : Oracle) (rest : List Addr) (ys zs : Sizes) → Arrays (world version S w) rest ys → Arrays (world version S w) rest zs → ys ≡ zs
   one_arrays w [] _ _ none none = refl
   one_arrays w (a ∷ rest) _ _ (array {z = y} {zs = ys} xs g r) (array {z = z} {zs = zs} vs h s) =
-      let q : Outcome.Value (Array y xs) ≡ Outcome.Value (Array z vs) = Has-one (program version S w) (Cell Top a) _ _ g h in
+      let q : Outcome.Value (Array y xs) ≡ Outcome.Value (Array z vs) = Has-one (program (world version S w)) (Cell Top a) _ _ g h in
       let e : y ≡ z = cc q in
       ap (λ u. (a, u) ∷ ys) e ∙ ap (λ u. (a, z) ∷ u) (one_arrays w rest ys zs r s)
   one_arrays w (a ∷ rest) _ _ (array {z = y} xs g r) (other f s) = absurd (fails_not is_array w a (Outcome.Value (Array y xs)) refl g f)
   one_arrays w (a ∷ rest) _ _ (other f r) (array {z = z} vs h s) = absurd (fails_not is_array w a (Outcome.Value (Array z vs)) refl h f)
   one_arrays w (a ∷ rest) _ _ (other f r) (other g s) = one_arrays w rest _ _ r s
 
-  one_next : (w u v : Oracle) → IsNext version S w u → IsNext version S w v → u ≡ v
+  one_next : (w u v : Oracle) → IsNext (world version S w) u → IsNext (world version S w) v → u ≡ v
   one_next w u v (ys, r, e) (zs, s, f) = e ∙ ap (λ t. grant grid (has_content S) t) (one_arrays w (formula_addresses S) ys zs r s) ∙ sym f
 
-  no_abort_first : (w : Oracle) (rest : List Addr) (a : Addr) (b : Budget) → AllByRecursion (TopFails version S is_abort w) rest → FirstAbort version S w rest a b → ⊥
+  no_abort_first : (w : Oracle) (rest : List Addr) (a : Addr) (b : Budget) → AllByRecursion (TopFails (world version S w) is_abort) rest → FirstAbort (world version S w) rest a b → ⊥
   no_abort_first w [] a b fs e = elim e [ ]
   no_abort_first w (c ∷ rest) a b (f, fs) (here {b = d} h) = fails_not is_abort w c (Abort d) refl h f
   no_abort_first w (c ∷ rest) a b (f, fs) (behind g r) = no_abort_first w rest a b fs r
 
-  one_abort : (w : Oracle) (rest : List Addr) (a c : Addr) (b d : Budget) → FirstAbort version S w rest a b → FirstAbort version S w rest c d → (a ≡ c) × (b ≡ d)
+  one_abort : (w : Oracle) (rest : List Addr) (a c : Addr) (b d : Budget) → FirstAbort (world version S w) rest a b → FirstAbort (world version S w) rest c d → (a ≡ c) × (b ≡ d)
   one_abort w [] a c b d e _ = elim e [ ]
   one_abort w (e ∷ rest) _ _ b d (here g) (here h) =
-      let q : Abort b ≡ Abort d = Has-one (program version S w) (Cell Top e) _ _ g h in
+      let q : Abort b ≡ Abort d = Has-one (program (world version S w)) (Cell Top e) _ _ g h in
       let s : b ≡ d = cc q in
       (refl, s)
   one_abort w (e ∷ rest) _ _ b d (here g) (behind f r) = absurd (fails_not is_abort w e (Abort b) refl g f)
@@ -97,7 +98,7 @@ module _ (version : Version) (S : Cells) where
   one_round zero _ _ first first = refl
   one_round (suc i) w v (later {w = x} r g) (later {w = y} s h) =
       let e : x ≡ y = one_round i x y r s in
-      one_next y w v (subst (λ u. IsNext version S u w) e g.is_next) h.is_next
+      one_next y w v (subst (λ u. IsNext (world version S u) w) e g.is_next) h.is_next
 
   -- a later round comes after one that goes on
   here_or_before : (i j : ℕ) (w y next : Oracle) → Reaches version S i w → Reaches version S j y → GoesOn version S j y next → (i ≡ j) ⊎ ((i < j) ⊎ (j < i)) → i < suc j → (i < j → (n : Oracle) × GoesOn version S i w n) → (n : Oracle) × GoesOn version S i w n
@@ -138,50 +139,50 @@ one_result program (Ask k c) r s (n, e) (m, f) =
       ]) refl f
     ]) refl e
 
-module _ (version : Version) (S : Cells) (w : Oracle) (a : Addr) where
+module _ (W : World) (a : Addr) where
   abbrev reading : ℕ → Fact → Option (Result Value Budget)
-  reading n x = run (val (program version S w) n) (given (facts S w) (deref Top [] x >>= λ y. give (One y.0)))
+  reading n x = run (val (program W) n) (given (facts W.sheet W.oracle) (deref Top [] x >>= λ y. give (One y.0)))
 
-  loops_at : (n : ℕ) (f : Formula) → content S a ≡ Some (Form f) → val (program version S w) n (Cell Top a) ≡ None → reading n (fact S w a) ≡ None
+  loops_at : (n : ℕ) (f : Formula) → content W.sheet a ≡ Some (Form f) → val (program W) n (Cell Top a) ≡ None → reading n (fact W.sheet W.oracle a) ≡ None
   loops_at n f c l = rw (c, l) refl
 
   -- a formula that loops shows no scalar
-  looping_shows_none : (f : Formula) (x : Scalar) → content S a ≡ Some (Form f) → TopLoops version S w a → Gives (program version S w) (given (facts S w) (at_address Top a)) (Ok (One x)) → ⊥
+  looping_shows_none : (f : Formula) (x : Scalar) → content W.sheet a ≡ Some (Form f) → TopLoops W a → Gives (program W) (given (facts W.sheet W.oracle) (at_address Top a)) (Ok (One x)) → ⊥
   looping_shows_none f x c l (n, e) =
-      let p : reading n (fact_at (facts S w (single a)) a) ≡ None = subst (λ u. reading n u ≡ None) (sym (fact_at_single S w a)) (loops_at n f c (l n)) in
+      let p : reading n (fact_at (facts W.sheet W.oracle (single a)) a) ≡ None = subst (λ u. reading n u ≡ None) (sym (fact_at_single W.sheet W.oracle a)) (loops_at n f c (l n)) in
       let q : None ≡ Some (Ok (One x)) = sym p ∙ e in
       absurd (cc q)
 
-  constant_ends : (r : Addr) (y : Scalar) → content S r ≡ Some (Const y) → val (program version S w) 1 (Cell Top r) ≡ None → ⊥
+  constant_ends : (r : Addr) (y : Scalar) → content W.sheet r ≡ Some (Const y) → val (program W) 1 (Cell Top r) ≡ None → ⊥
   unfolding program evaluation cell_value
-  constant_ends r y u e = absurd (cc (rw (fact_at_single S w r, u) at e))
+  constant_ends r y u e = absurd (cc (rw (fact_at_single W.sheet W.oracle r, u) at e))
 
-  nothing_ends : (r : Addr) → content S r ≡ None → val (program version S w) 1 (Cell Top r) ≡ None → ⊥
+  nothing_ends : (r : Addr) → content W.sheet r ≡ None → val (program W) 1 (Cell Top r) ≡ None → ⊥
   unfolding program evaluation cell_value
-  nothing_ends r u e = absurd (cc (rw (fact_at_single S w r, u) at e))
+  nothing_ends r u e = absurd (cc (rw (fact_at_single W.sheet W.oracle r, u) at e))
 
   covered_reading : ℕ → Cover → Fact → Option (Result Value Budget)
-  covered_reading n c x = run (val (program version S w) n) (given (facts S w) ((own Top x >>= λ (v : Option Value). give {R = Reading} (spilled v c.rows c.cols, x ∷ [])) >>= λ (y : Reading). give {R = Value} (One y.0)))
+  covered_reading n c x = run (val (program W) n) (given (facts W.sheet W.oracle) ((own Top x >>= λ (v : Option Value). give {R = Reading} (spilled v c.rows c.cols, x ∷ [])) >>= λ (y : Reading). give {R = Value} (One y.0)))
 
   -- no more does an address under a root that loops
-  under_loop_shows_none : (c : Cover) (x : Scalar) → content S a ≡ None → cover w a ≡ Some c → TopLoops version S w c.root → Gives (program version S w) (given (facts S w) (at_address Top a)) (Ok (One x)) → ⊥
+  under_loop_shows_none : (c : Cover) (x : Scalar) → content W.sheet a ≡ None → cover W.oracle a ≡ Some c → TopLoops W c.root → Gives (program W) (given (facts W.sheet W.oracle) (at_address Top a)) (Ok (One x)) → ⊥
   unfolding covered_reading
-  under_loop_shows_none c x d q l (n, e) = by (content S c.root) refl
+  under_loop_shows_none c x d q l (n, e) = by (content W.sheet c.root) refl
     where
-      root_none : (o : Option Content) → content S c.root ≡ o → covered_reading n c (fact S w c.root) ≡ None
+      root_none : (o : Option Content) → content W.sheet c.root ≡ o → covered_reading n c (fact W.sheet W.oracle c.root) ≡ None
       root_none (Some (Form f)) u = rw (u, l n) refl
       root_none (Some (Const y)) u = absurd (constant_ends c.root y u (l 1))
       root_none None u = absurd (nothing_ends c.root u (l 1))
 
-      by : (o : Option Content) → content S c.root ≡ o → ⊥
+      by : (o : Option Content) → content W.sheet c.root ≡ o → ⊥
       by o u =
-          let r : covered_reading n c (fact_at (facts S w (single c.root)) c.root) ≡ None = subst (λ t. covered_reading n c t ≡ None) (sym (fact_at_single S w c.root)) (root_none o u) in
-          let p : reading n (fact S w a) ≡ None = rw (d, q) r in
-          let p' : reading n (fact_at (facts S w (single a)) a) ≡ None = subst (λ t. reading n t ≡ None) (sym (fact_at_single S w a)) p in
+          let r : covered_reading n c (fact_at (facts W.sheet W.oracle (single c.root)) c.root) ≡ None = subst (λ t. covered_reading n c t ≡ None) (sym (fact_at_single W.sheet W.oracle c.root)) (root_none o u) in
+          let p : reading n (fact W.sheet W.oracle a) ≡ None = rw (d, q) r in
+          let p' : reading n (fact_at (facts W.sheet W.oracle (single a)) a) ≡ None = subst (λ t. reading n t ≡ None) (sym (fact_at_single W.sheet W.oracle a)) p in
           let z : None ≡ Some (Ok (One x)) = sym p' ∙ e in
           absurd (cc z)
 
-  pub one_shown : (x y : Shown) → IsShown version S w a x → IsShown version S w a y → x ≡ y
+  pub one_shown : (x y : Shown) → IsShown W a x → IsShown W a y → x ≡ y
   one_shown _ _ (cycle f c l) (cycle g d k) = refl
   one_shown _ _ (cycle f c l) (value {x = y} h) = absurd (looping_shows_none f y c l h)
   one_shown _ _ (value {x = x} h) (cycle f c l) = absurd (looping_shows_none f x c l h)
@@ -191,6 +192,6 @@ module _ (version : Version) (S : Cells) (w : Oracle) (a : Addr) where
   one_shown _ _ (blank c d q l) (value {x = y} h) = absurd (under_loop_shows_none c y d q l h)
   one_shown _ _ (value {x = y} h) (blank c d q l) = absurd (under_loop_shows_none c y d q l h)
   one_shown _ _ (value {x = x} h) (value {x = y} g) =
-      let e : Ok (One x) ≡ Ok (One y) = one_result (program version S w) (given (facts S w) (at_address Top a)) _ _ h g in
+      let e : Ok (One x) ≡ Ok (One y) = one_result (program W) (given (facts W.sheet W.oracle) (at_address Top a)) _ _ h g in
       let f : x ≡ y = cc e in
       ap (λ u. Shown.Value u) f

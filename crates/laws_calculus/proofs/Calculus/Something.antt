@@ -12,6 +12,7 @@ use Rattle.gl_calculus.specs.Evaluation.Oracle.{Cover, cover, spills_over}
 use Rattle.gl_calculus.specs.Evaluation.Facts.{Fact, fact, facts, fact_at}
 use Rattle.gl_calculus.specs.Evaluation.Key.{Cell, Budget, Outcome, Settled, Abort, Eval, on_result, give, ◌>>=◌}
 use Rattle.gl_calculus.specs.Evaluation.Reference.{Reading, own, value_of, held_top, covered, shown, shown_by, spilled, deref}
+use Rattle.gl_calculus.specs.Evaluation.World.{World, world}
 use Rattle.gl_calculus.specs.Evaluation.Evaluation.{program}
 use Rattle.gl_calculus.specs.Calculation.Calculation as C
 use Rattle.gl_calculus.specs.Calculation.Calculation.{is_abort, TopLoops, TopFails, IsNext, IsUnspent, Ends, settled, IsAnswer, Shown, IsShown, cycle, value}
@@ -51,69 +52,69 @@ covering (x ∷ xs) a c e =
       | false ↦ λ h. let (z, p, m) = covering xs a c h in (z, p, inr m)
     ]) e
 
-module _ (version : Version) (S : Cells) (w : Oracle) (sheet : IsSheet S) (unspent : IsUnspent version S w) (fixed : IsNext version S w w) where
+module _ (W : World) (sheet : IsSheet W.sheet) (unspent : IsUnspent W) (fixed : IsNext W W.oracle) where
   abbrev reads : ℕ → Eval Reading → Option (Result Reading Budget)
-  reads n p = run (val (program version S w) n) (given (facts S w) p)
+  reads n p = run (val (program W) n) (given (facts W.sheet W.oracle) p)
 
   abbrev Reads : Eval Reading → Type 0
   Reads p = (n : ℕ) × (y : Reading) × (reads n p ≡ Some (Ok y))
 
-  by_root : (c : Cover) (x : Fact) (n : ℕ) (v : Option Value) → run (val (program version S w) n) (given (facts S w) (own Top x)) ≡ Some (Ok v) → reads n (own Top x >>= λ u. give (spilled u c.rows c.cols, x ∷ [])) ≡ Some (Ok (spilled v c.rows c.cols, x ∷ []))
-  by_root c x n v h = run_bind (val (program version S w) n) (facts S w) (own Top x) (on_result (λ (u : Option Value). give {R = Reading} (spilled u c.rows c.cols, x ∷ []))) (Ok v) h
+  by_root : (c : Cover) (x : Fact) (n : ℕ) (v : Option Value) → run (val (program W) n) (given (facts W.sheet W.oracle) (own Top x)) ≡ Some (Ok v) → reads n (own Top x >>= λ u. give (spilled u c.rows c.cols, x ∷ [])) ≡ Some (Ok (spilled v c.rows c.cols, x ∷ []))
+  by_root c x n v h = run_bind (val (program W) n) (facts W.sheet W.oracle) (own Top x) (on_result (λ (u : Option Value). give {R = Reading} (spilled u c.rows c.cols, x ∷ []))) (Ok v) h
 
   -- what a root shows that may cover an address
-  covered_reads : (a : Addr) (o : Option Cover) → cover w a ≡ o → Reads (covered Top [] o)
+  covered_reads : (a : Addr) (o : Option Cover) → cover W.oracle a ≡ o → Reads (covered Top [] o)
   covered_reads a None e = (0, (Blank, []), refl)
   covered_reads a (Some c) e =
-      let (z, p, m) = covering w a c e in
-      let o : (xs : Scalars) × C.Owns version S w c.root (Array z xs) = ((fixed_consistent version S w sheet fixed).entries c.root z).0 (p, m) in
+      let (z, p, m) = covering W.oracle a c e in
+      let o : (xs : Scalars) × C.Owns W c.root (Array z xs) = ((fixed_consistent W sheet fixed).entries c.root z).0 (p, m) in
       let v : Option Value = Some (Array z o.0) in
-      let x : Fact = fact_at (facts S w (single c.root)) c.root in
-      let h : run (val (program version S w) o.1.0) (given (facts S w) (own Top x)) ≡ Some (Ok v) = subst (λ u. run (val (program version S w) o.1.0) (given (facts S w) (own Top u)) ≡ Some (Ok v)) (sym (fact_at_single S w c.root)) o.1.1 in
+      let x : Fact = fact_at (facts W.sheet W.oracle (single c.root)) c.root in
+      let h : run (val (program W) o.1.0) (given (facts W.sheet W.oracle) (own Top x)) ≡ Some (Ok v) = subst (λ u. run (val (program W) o.1.0) (given (facts W.sheet W.oracle) (own Top u)) ≡ Some (Ok v)) (sym (fact_at_single W.sheet W.oracle c.root)) o.1.1 in
       (o.1.0, (spilled v c.rows c.cols, x ∷ []), by_root c x o.1.0 v h)
 
-  abort_fails : (rest : List Addr) (a : Addr) → Member a rest → AllByRecursion (TopFails version S is_abort w) rest → TopFails version S is_abort w a
+  abort_fails : (rest : List Addr) (a : Addr) → Member a rest → AllByRecursion (TopFails W is_abort) rest → TopFails W is_abort a
   abort_fails [] a m fs = absurd m
-  abort_fails (b ∷ rest) a (inl e) (f, fs) = subst (TopFails version S is_abort w) (sym e) f
+  abort_fails (b ∷ rest) a (inl e) (f, fs) = subst (TopFails W is_abort) (sym e) f
   abort_fails (b ∷ rest) a (inr m) (f, fs) = abort_fails rest a m fs
 
   -- what an address shows by its content, or that it loops
   abbrev Shows : Addr → Option Content → Type 0
-  Shows a c = ((f : Formula) × (content S a ≡ Some (Form f)) × TopLoops version S w a) ⊎ Reads (value_of Top a (held_top c) >>= shown_by Top [] (fact S w a))
+  Shows a c = ((f : Formula) × (content W.sheet a ≡ Some (Form f)) × TopLoops W a) ⊎ Reads (value_of Top a (held_top c) >>= shown_by Top [] (fact W.sheet W.oracle a))
 
-  by_outcome : (a : Addr) (f : Formula) (o : Outcome) (n : ℕ) → val (program version S w) n (Cell Top a) ≡ Some o → is_abort o ≡ false → Reads (value_of Top a (held_top (Some (Form f))) >>= shown_by Top [] (fact S w a))
-  by_outcome a f (Outcome.Value v) n h t = (n, (shown (fact S w a).status v, []), rw h refl)
+  by_outcome : (a : Addr) (f : Formula) (o : Outcome) (n : ℕ) → val (program W) n (Cell Top a) ≡ Some o → is_abort o ≡ false → Reads (value_of Top a (held_top (Some (Form f))) >>= shown_by Top [] (fact W.sheet W.oracle a))
+  by_outcome a f (Outcome.Value v) n h t = (n, (shown (fact W.sheet W.oracle a).status v, []), rw h refl)
   by_outcome a f (Settled o) n h t =
-      let c : Reads (covered Top [] (cover w a)) = covered_reads a (cover w a) refl in
-      let e : val (program version S w) (n + c.0) (Cell Top a) ≡ Some (Settled o) = val-add (program version S w) n c.0 (Cell Top a) (Settled o) h in
-      let g : reads (n + c.0) (covered Top [] (cover w a)) ≡ Some (Ok c.1) = subst (λ m. reads m (covered Top [] (cover w a)) ≡ Some (Ok c.1)) (add_comm c.0 n) (grow (program version S w) c.0 n (given (facts S w) (covered Top [] (cover w a))) (Ok c.1) c.2) in
+      let c : Reads (covered Top [] (cover W.oracle a)) = covered_reads a (cover W.oracle a) refl in
+      let e : val (program W) (n + c.0) (Cell Top a) ≡ Some (Settled o) = val-add (program W) n c.0 (Cell Top a) (Settled o) h in
+      let g : reads (n + c.0) (covered Top [] (cover W.oracle a)) ≡ Some (Ok c.1) = subst (λ m. reads m (covered Top [] (cover W.oracle a)) ≡ Some (Ok c.1)) (add_comm c.0 n) (grow (program W) c.0 n (given (facts W.sheet W.oracle) (covered Top [] (cover W.oracle a))) (Ok c.1) c.2) in
       (n + c.0, c.1, rw e g)
   by_outcome a f (Abort b) n h t = absurd (cc t)
 
-  shows_by : (a : Addr) (c : Option Content) → content S a ≡ c → Shows a c
-  shows_by a None e = inr (covered_reads a (cover w a) refl)
+  shows_by : (a : Addr) (c : Option Content) → content W.sheet a ≡ c → Shows a c
+  shows_by a None e = inr (covered_reads a (cover W.oracle a) refl)
   shows_by a (Some (Const x)) e = inr (0, (x, []), refl)
-  shows_by a (Some (Form f)) e = by_end (abort_fails (formula_addresses S) a (formula_listed S a f e) unspent.no_abort)
+  shows_by a (Some (Form f)) e = by_end (abort_fails (formula_addresses W.sheet) a (formula_listed W.sheet a f e) unspent.no_abort)
     where
-      by_end : TopFails version S is_abort w a → Shows a (Some (Form f))
+      by_end : TopFails W is_abort a → Shows a (Some (Form f))
       by_end (inl l) = inl (f, e, l)
       by_end (inr (o, (n, h), t)) = inr (by_outcome a f o n h (no_true (is_abort o) t))
         where
           no_true : (b : Bool) → IsFalse b → b ≡ false
           no_true b t = t
 
-  pub shows_something : (a : Addr) → (x : Shown) × IsShown version S w a x
-  shows_something a = by (shows_by a (content S a) refl)
+  pub shows_something : (a : Addr) → (x : Shown) × IsShown W a x
+  shows_something a = by (shows_by a (content W.sheet a) refl)
     where
-      by : Shows a (content S a) → (x : Shown) × IsShown version S w a x
+      by : Shows a (content W.sheet a) → (x : Shown) × IsShown W a x
       by (inl (f, e, l)) = (Shown.Cycle, cycle f e l)
       by (inr r) =
           let y : Scalar = r.1.0 in
-          let h : reads r.0 (deref Top [] (fact_at (facts S w (single a)) a)) ≡ Some (Ok r.1) = subst (λ u. reads r.0 (deref Top [] u) ≡ Some (Ok r.1)) (sym (fact_at_single S w a)) r.2 in
-          (Shown.Value y, value (r.0, run_bind (val (program version S w) r.0) (facts S w) (deref Top [] (fact_at (facts S w (single a)) a)) (on_result (λ (u : Reading). give {R = Value} (One u.0))) (Ok r.1) h))
+          let h : reads r.0 (deref Top [] (fact_at (facts W.sheet W.oracle (single a)) a)) ≡ Some (Ok r.1) = subst (λ u. reads r.0 (deref Top [] u) ≡ Some (Ok r.1)) (sym (fact_at_single W.sheet W.oracle a)) r.2 in
+          (Shown.Value y, value (r.0, run_bind (val (program W) r.0) (facts W.sheet W.oracle) (deref Top [] (fact_at (facts W.sheet W.oracle (single a)) a)) (on_result (λ (u : Reading). give {R = Value} (One u.0))) (Ok r.1) h))
 
-settled_unspent : (version : Version) (S : Cells) (i : ℕ) (v w : Oracle) (n : ℕ) → Ends version S i v (C.Answer.Settled w n) → IsUnspent version S w × IsNext version S w w
+settled_unspent : (version : Version) (S : Cells) (i : ℕ) (v w : Oracle) (n : ℕ) → Ends version S i v (C.Answer.Settled w n) → IsUnspent (world version S w) × IsNext (world version S w) w
 settled_unspent version S i v w n (settled u next) = (u, next)
 
-pub settled_shows : (version : Version) (S : Cells) (w : Oracle) (n : ℕ) → IsSheet S → IsAnswer version S (C.Answer.Settled w n) → (a : Addr) → (x : Shown) × IsShown version S w a x
-settled_shows version S w n o r a = let (u, next) = settled_unspent version S r.round r.oracle w n r.ends in shows_something version S w o u next a
+pub settled_shows : (W : World) (n : ℕ) → IsSheet W.sheet → IsAnswer W.version W.sheet (C.Answer.Settled W.oracle n) → (a : Addr) → (x : Shown) × IsShown W a x
+settled_shows W n o r a = let (u, next) = settled_unspent W.version W.sheet r.round r.oracle W.oracle n r.ends in shows_something W o u next a

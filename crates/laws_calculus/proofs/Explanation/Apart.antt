@@ -48,4 +48,4 @@ module _ {K O A : Type 0} (same : K → K → Bool) (same_outcome : O → O → 
       again z = let y : Some x.1 ≡ None = rw (eq.1 x.0) at z in absurd (cc y)
 
 pub claims_once : ClaimsOnce
-claims_once version S w a c e = are_apart same_key same_outcome (is_proper S) (program version S w) key_equality outcome_equality [] c.notes (judged_parts _ _ _ e).0
+claims_once W a c e = are_apart same_key same_outcome (is_proper W.sheet) (program W) key_equality outcome_equality [] c.notes (judged_parts _ _ _ e).0

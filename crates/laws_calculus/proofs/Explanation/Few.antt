@@ -42,8 +42,8 @@ module _ {K O A : Type 0} (same : K → K → Bool) (limit : ℕ) (program : K �
           room d = omega (arith, h, d)
 
 pub few_keys : FewKeys
-few_keys version S w a _ (cert {notes = notes} {loops = loops} (n, e) s) =
-    walk_few same_key max_demanded (program version S w) n [] (start (key_at S w a)) (Explained notes loops) (begins (key_at S w a)) e
+few_keys W a _ (cert {notes = notes} {loops = loops} (n, e) s) =
+    walk_few same_key max_demanded (program W) n [] (start (key_at W.sheet W.oracle a)) (Explained notes loops) (begins (key_at W.sheet W.oracle a)) e
   where
     begins : (o : Option Key) → 0 + length (start o) ≤ max_demanded
     begins None = omega arith

@@ -3,10 +3,9 @@ use Rattle.std.proofs.Common.{◌≡◌, ℕ, zero, suc, ◌+◌, ◌==◌, Bool
 use Rattle.gl_calculus.specs.Computation.Lists.{has_member}
 use Rattle.gl_calculus.specs.Computation.Query.{Query, Found, Ready, Need, found}
 use Rattle.gl_calculus.specs.Grid.Grid.{Addr}
-use Rattle.gl_calculus.specs.Values.Value.{Oracle}
 use Rattle.gl_calculus.specs.Grid.Limits.{max_demanded}
-use Rattle.gl_calculus.specs.Formulas.Formula.{Version, Cells}
 use Rattle.gl_calculus.specs.Evaluation.Key.{Key, same_key, Budget, Outcome, Abort}
+use Rattle.gl_calculus.specs.Evaluation.World.{World}
 use Rattle.gl_calculus.specs.Evaluation.Evaluation.{program}
 use Rattle.gl_calculus.specs.Calculation.Calculation.{Shown}
 use Rattle.gl_calculus.specs.Explanation.Walk.{Claim, noted, Walked, Explained, Exhausted, turn, walk}
@@ -44,15 +43,15 @@ module _ {K O A : Type 0} (same : K → K → Bool) (limit : ℕ) (program : K �
 
 -- ---- explanations
 
-module _ (version : Version) (S : Cells) (w : Oracle) (a : Addr) where
-  same_walk : (r s : Walked Key Outcome) → Ce.IsWalked version S w a r → Ce.IsWalked version S w a s → r ≡ s
-  same_walk r s (n, e) (m, f) = one_walk same_key max_demanded (program version S w) n m [] (start (key_at S w a)) r s e f
+module _ (W : World) (a : Addr) where
+  same_walk : (r s : Walked Key Outcome) → Ce.IsWalked W a r → Ce.IsWalked W a s → r ≡ s
+  same_walk r s (n, e) (m, f) = one_walk same_key max_demanded (program W) n m [] (start (key_at W.sheet W.oracle a)) r s e f
 
   -- a key with a spent budget says nothing
-  says_none : (k : Key) (b : Budget) (notes : List (Claim Key Outcome)) (loops : List Key) (x : Shown) → key_at S w a ≡ Some k → noted same_key notes k ≡ Some (Abort b) → says S w a notes loops ≡ Some x → ⊥
+  says_none : (k : Key) (b : Budget) (notes : List (Claim Key Outcome)) (loops : List Key) (x : Shown) → key_at W.sheet W.oracle a ≡ Some k → noted same_key notes k ≡ Some (Abort b) → says W.sheet W.oracle a notes loops ≡ Some x → ⊥
   says_none k b notes loops x e n h = let z : None ≡ Some x = rw (e, n) at h in absurd (cc z)
 
-  pub one_explanation : (x y : Answer) → Explains version S w a x → Explains version S w a y → x ≡ y
+  pub one_explanation : (x y : Answer) → Explains W a x → Explains W a y → x ≡ y
   one_explanation _ _ (work p) (work q) = refl
   one_explanation _ _ (work p) (aborts {notes = ns} {loops = ls} q e n) = let d : Exhausted ≡ Explained ns ls = same_walk _ _ p q in absurd (cc d)
   one_explanation _ _ (work p) (cert {notes = ns} {loops = ls} q e) = let d : Exhausted ≡ Explained ns ls = same_walk _ _ p q in absurd (cc d)
@@ -77,6 +76,6 @@ module _ (version : Version) (S : Cells) (w : Oracle) (a : Addr) where
       let d : Explained ns ls ≡ Explained ms ks = same_walk _ _ p q in
       let u : ns ≡ ms = cc d in
       let v : ls ≡ ks = cc d in
-      let t : Some x ≡ Some y = sym h ∙ ap (λ z. says S w a z ls) u ∙ ap (says S w a ms) v ∙ g in
+      let t : Some x ≡ Some y = sym h ∙ ap (λ z. says W.sheet W.oracle a z ls) u ∙ ap (says W.sheet W.oracle a ms) v ∙ g in
       let z : x ≡ y = cc t in
       ap (λ o. Cert (record { notes = o; loops = ls; shown = x })) u ∙ ap (λ o. Cert (record { notes = ms; loops = o; shown = x })) v ∙ ap (λ o. Cert (record { notes = ms; loops = ks; shown = o })) z

@@ -15,6 +15,7 @@ use Rattle.gl_calculus.specs.Values.Same.{same_oracle}
 use Rattle.gl_calculus.specs.Formulas.Formula.{Version, Cells, IsSheet, formula_addresses}
 use Rattle.gl_calculus.specs.Evaluation.Oracle.{IsInOrder, entry_at}
 use Rattle.gl_calculus.specs.Evaluation.Key.{Key, Cell, Outcome, Settled, Abort}
+use Rattle.gl_calculus.specs.Evaluation.World.{world}
 use Rattle.gl_calculus.specs.Evaluation.Evaluation.{program}
 use Rattle.gl_calculus.specs.Calculation.Calculation as C
 use Rattle.gl_calculus.specs.Calculation.Calculation.{is_abort, TopHas, TopFails, DemandedIn, SpendsWork, IsUnspent, IsNext, Reaches, first, later, settled, IsAnswer, IsShown, cycle, Cycle}
@@ -157,7 +158,7 @@ module _ (version : Version) (S : Cells) (sheet : IsSheet S) (fit : AreFit S) (f
   seed_of (a ∷ rest) k (inl e) = (a, e, inl refl)
   seed_of (a ∷ rest) k (inr m) = let (b, e, i) = seed_of rest k m in (b, e, inr i)
 
-  demanded_cell : (w : Oracle) → IsFit S w → (k : Key) → DemandedIn version S w k → cell_of w k
+  demanded_cell : (w : Oracle) → IsFit S w → (k : Key) → DemandedIn (world version S w) k → cell_of w k
   unfolding cell_of
   demanded_cell w fits k (Seed m) = seed_of (formula_addresses S) k m
   demanded_cell w fits j (Read {k = k} d i) = by (demanded_cell w fits k d)
@@ -166,7 +167,7 @@ module _ (version : Version) (S : Cells) (sheet : IsSheet S) (fit : AreFit S) (f
       by (a, e, m) =
           let (f, c) = formula_content S sheet a m in
           let n : Member (Fo.Node.Value a) (nodes S) = of_formula S a (Fo.Node.Value a) m (inl refl) in
-          let (g, q, u) = asks version S fit plain w w fits fits a f c (λ r v. refl) (λ g v. St.ended version S sheet fit plain no_circle w fits g (value_cell S g (within S (Fo.Node.Value a) (Fo.Node.Value g) n v))) j (subst (λ t. IsAsked (program version S w) (program version S w t) j) e i) in
+          let (g, q, u) = asks version S fit plain w w fits fits a f c (λ r v. refl) (λ g v. St.ended version S sheet fit plain no_circle w fits g (value_cell S g (within S (Fo.Node.Value a) (Fo.Node.Value g) n v))) j (subst (λ t. IsAsked (program (world version S w)) (program (world version S w) t) j) e i) in
           (g, q, value_cell S g (within S (Fo.Node.Value a) (Fo.Node.Value g) n u))
 
   key_member : (rest : List Addr) (a : Addr) → Member a rest → Member (Cell Top a) (map (Cell Top) rest)
@@ -174,14 +175,14 @@ module _ (version : Version) (S : Cells) (sheet : IsSheet S) (fit : AreFit S) (f
   key_member (b ∷ rest) a (inl e) = inl (ap (Cell Top) e)
   key_member (b ∷ rest) a (inr m) = inr (key_member rest a m)
 
-  no_work : (w : Oracle) → IsFit S w → SpendsWork version S w → ⊥
+  no_work : (w : Oracle) → IsFit S w → SpendsWork (world version S w) → ⊥
   unfolding cell_of
   no_work w fits (ks, l, d, h) =
       let m : length ks ≤ length (map (Cell Top) (formula_addresses S)) = distinct_within ks (map (Cell Top) (formula_addresses S)) d (λ k i. let (a, e, j) = demanded_cell w fits k (h k i) in subst (λ u. Member u (map (Cell Top) (formula_addresses S))) (sym e) (key_member (formula_addresses S) a j)) in
       let c : length (map (Cell Top) (formula_addresses S)) ≡ length (formula_addresses S) = length-map (formula_addresses S) (Cell Top) in
       absurd (omega (arith, l, m, c, few))
 
-  no_aborts : (w : Oracle) → IsFit S w → (rest : List Addr) → ((a : Addr) → Member a rest → Member a (formula_addresses S)) → AllByRecursion (TopFails version S is_abort w) rest
+  no_aborts : (w : Oracle) → IsFit S w → (rest : List Addr) → ((a : Addr) → Member a rest → Member a (formula_addresses S)) → AllByRecursion (TopFails (world version S w) is_abort) rest
   no_aborts w fits [] h = tt
   no_aborts w fits (a ∷ rest) h = (inr (by (St.ended version S sheet fit plain no_circle w fits a (h a (inl refl)))), no_aborts w fits rest (λ b m. h b (inr m)))
     where
@@ -190,14 +191,14 @@ module _ (version : Version) (S : Cells) (sheet : IsSheet S) (fit : AreFit S) (f
       value_only (Settled o) c = absurd c
       value_only (Abort b) c = absurd c
 
-      by : Both version S fit plain w w a → (o : Outcome) × TopHas version S w a o × IsFalse (is_abort o)
+      by : Both version S fit plain w w a → (o : Outcome) × TopHas (world version S w) a o × IsFalse (is_abort o)
       by b = (b.outcome, b.first, value_only b.outcome b.comes)
 
-  unspent : (w : Oracle) → IsFit S w → IsUnspent version S w
+  unspent : (w : Oracle) → IsFit S w → IsUnspent (world version S w)
   unspent w fits = record { work = no_work w fits; no_abort = no_aborts w fits (formula_addresses S) (λ a m. m) }
 
-  no_cycle : (w : Oracle) → IsFit S w → (a : Addr) → IsShown version S w a Cycle → ⊥
-  no_cycle w fits a (cycle f e l) = let b = St.ended version S sheet fit plain no_circle w fits a (formula_listed S a f e) in Has-Loops (program version S w) (Cell Top a) b.outcome b.first l
+  no_cycle : (w : Oracle) → IsFit S w → (a : Addr) → IsShown (world version S w) a Cycle → ⊥
+  no_cycle w fits a (cycle f e l) = let b = St.ended version S sheet fit plain no_circle w fits a (formula_listed S a f e) in Has-Loops (program (world version S w)) (Cell Top a) b.outcome b.first l
 
   module _ (h : ℕ) (height : IsHeight S h) where
     orc : ℕ → Oracle
@@ -207,7 +208,7 @@ module _ (version : Version) (S : Cells) (sheet : IsSheet S) (fit : AreFit S) (f
     unfolding orc
     fitted i = St.fitting version S sheet fit plain no_circle i
 
-    nexts : (i : ℕ) → IsNext version S (orc i) (orc (suc i))
+    nexts : (i : ℕ) → IsNext (world version S (orc i)) (orc (suc i))
     unfolding orc
     nexts i = St.follows version S sheet fit plain no_circle i
 
@@ -234,11 +235,11 @@ module _ (version : Version) (S : Cells) (sheet : IsSheet S) (fit : AreFit S) (f
 
     -- settled in time, with no cycle
     abbrev pub Settles : Type 0
-    Settles = (w : Oracle) × (i : ℕ) × IsAnswer version S (C.Settled w i) × (i ≤ suc h) × ((a : Addr) → IsShown version S w a Cycle → ⊥)
+    Settles = (w : Oracle) × (i : ℕ) × IsAnswer version S (C.Settled w i) × (i ≤ suc h) × ((a : Addr) → IsShown (world version S w) a Cycle → ⊥)
 
     settle_at : (i : ℕ) → i ≤ h → Reaches version S i (orc i) → orc (suc i) ≡ orc i → Settles
     settle_at i l r e =
-        let n : IsNext version S (orc i) (orc i) = subst (λ u. IsNext version S (orc i) u) e (nexts i) in
+        let n : IsNext (world version S (orc i)) (orc i) = subst (λ u. IsNext (world version S (orc i)) u) e (nexts i) in
         (orc i, suc i, record { round = i; oracle = orc i; reached = r; ends = settled (unspent (orc i) (fitted i)) n }, omega (arith, l), no_cycle (orc i) (fitted i))
 
     differs : (i : ℕ) → same_oracle (orc (suc i)) (orc i) ≡ false → orc (suc i) ≡ orc i → ⊥

@@ -8,6 +8,7 @@ use Rattle.gl_calculus.specs.Values.Value.{Permit, Entry, Oracle, Value, One, Ar
 use Rattle.gl_calculus.specs.Formulas.Formula.{Version, Cells, IsSheet, formula_addresses}
 use Rattle.gl_calculus.specs.Evaluation.Oracle.{entry_at, Sizes, AreSizes, sizes_of, grant}
 use Rattle.gl_calculus.specs.Evaluation.Key.{Cell, Outcome, Settled, Abort}
+use Rattle.gl_calculus.specs.Evaluation.World.{world}
 use Rattle.gl_calculus.specs.Evaluation.Evaluation.{program}
 use Rattle.gl_calculus.specs.Calculation.Calculation.{has_content, Arrays, none, array, other, TopHas, IsNext}
 use Rattle.gl_calculus.proofs.Grants.{grant_permits}
@@ -60,40 +61,40 @@ module _ (version : Version) (S : Cells) (sheet : IsSheet S) (fit : AreFit S) (p
     unfolding Ended
     ended a i = ended_node (Fo.Node.Value a) (of_formula S a (Fo.Node.Value a) i (inl refl))
 
-    collect : (rest : List Addr) → ((a : Addr) → Member a rest → Both version S fit plain w w a) → (zs : Sizes) × Arrays version S w rest zs
+    collect : (rest : List Addr) → ((a : Addr) → Member a rest → Both version S fit plain w w a) → (zs : Sizes) × Arrays (world version S w) rest zs
     collect [] h = ([], none)
     collect (a ∷ rest) h =
         let (zs, r) = collect rest (λ b m. h b (inr m)) in
         let b = h a (inl refl) in
         by zs r b.outcome b.first b.comes
       where
-        by : (zs : Sizes) → Arrays version S w rest zs → (o : Outcome) → TopHas version S w a o → Comes S (Cell Top a) o → (ys : Sizes) × Arrays version S w (a ∷ rest) ys
+        by : (zs : Sizes) → Arrays (world version S w) rest zs → (o : Outcome) → TopHas (world version S w) a o → Comes S (Cell Top a) o → (ys : Sizes) × Arrays (world version S w) (a ∷ rest) ys
         by zs r (Outcome.Value (Array z xs)) g c = ((a, z) ∷ zs, array xs g r)
         by zs r (Outcome.Value (One x)) g c = (zs, other (inr (Outcome.Value (One x), g, refl)) r)
         by zs r (Settled o) g c = absurd c
         by zs r (Abort b) g c = absurd c
 
-    arrays : (zs : Sizes) × Arrays version S w (formula_addresses S) zs
+    arrays : (zs : Sizes) × Arrays (world version S w) (formula_addresses S) zs
     arrays = collect (formula_addresses S) ended
 
     pub next : Oracle
     next = grant grid (has_content S) arrays.0
 
-    pub next_is : IsNext version S w next
+    pub next_is : IsNext (world version S w) next
     unfolding next
     next_is = (arrays.0, arrays.1, refl)
 
     sizes_order : AreSizes arrays.0
-    sizes_order = array_order version S w (formula_addresses S) arrays.0 arrays.1 (formula_order S sheet)
+    sizes_order = array_order (world version S w) (formula_addresses S) arrays.0 arrays.1 (formula_order S sheet)
 
     next_sizes : sizes_of next ≡ arrays.0
     unfolding next
     next_sizes = (grant_permits grid (has_content S) arrays.0 sizes_order).0
 
-    shaped : (a : Addr) (z : Size) (xs : _) → TopHas version S w a (Outcome.Value (Array z xs)) → Member a (formula_addresses S) → (t : Size) × (cell_shape S a ≡ Some t) × (z.rows ≤ t.rows) × (z.cols ≤ t.cols)
+    shaped : (a : Addr) (z : Size) (xs : _) → TopHas (world version S w) a (Outcome.Value (Array z xs)) → Member a (formula_addresses S) → (t : Size) × (cell_shape S a ≡ Some t) × (z.rows ≤ t.rows) × (z.cols ≤ t.cols)
     shaped a z xs h i =
         let b = ended a i in
-        let e : b.outcome ≡ Outcome.Value (Array z xs) = Has-one (program version S w) (Cell Top a) b.outcome _ b.first h in
+        let e : b.outcome ≡ Outcome.Value (Array z xs) = Has-one (program (world version S w)) (Cell Top a) b.outcome _ b.first h in
         let c : Comes S (Cell Top a) (Outcome.Value (Array z xs)) = subst (Comes S (Cell Top a)) e b.comes in
         by (cell_shape S a) refl (c.1 17)
       where
@@ -108,26 +109,26 @@ module _ (version : Version) (S : Cells) (sheet : IsSheet S) (fit : AreFit S) (p
       permits = (grant_permits grid (has_content S) arrays.0 sizes_order).1;
       boxed = λ x m.
           let n : Member (x.root, x.size) arrays.0 = subst (λ u. Member (x.root, x.size) u) next_sizes (size_of_entry next x.root x.size x.permit m) in
-          let (i, (xs, h)) = array_has version S w (formula_addresses S) arrays.0 arrays.1 x.root x.size n in
+          let (i, (xs, h)) = array_has (world version S w) (formula_addresses S) arrays.0 arrays.1 x.root x.size n in
           shaped x.root x.size xs h i;
     }
 
     -- a root has an entry next exactly where its value is an array, with its size
-    entry_there : (a : Addr) (z : Size) (xs : _) → Member a (formula_addresses S) → TopHas version S w a (Outcome.Value (Array z xs)) → (p : Permit) × Member (record { root = a; size = z; permit = p }) next
+    entry_there : (a : Addr) (z : Size) (xs : _) → Member a (formula_addresses S) → TopHas (world version S w) a (Outcome.Value (Array z xs)) → (p : Permit) × Member (record { root = a; size = z; permit = p }) next
     entry_there a z xs i h =
-        let m : Member (a, z) arrays.0 = has_array version S w (formula_addresses S) arrays.0 arrays.1 a z xs i h in
+        let m : Member (a, z) arrays.0 = has_array (world version S w) (formula_addresses S) arrays.0 arrays.1 a z xs i h in
         entry_of_size next a z (subst (λ u. Member (a, z) u) (sym next_sizes) m)
 
-    no_entry : (a : Addr) (v : Value) → Member a (formula_addresses S) → TopHas version S w a (Outcome.Value v) → ((z : Size) (xs : _) → v ≡ Array z xs → ⊥) → entry_at next a ≡ None
+    no_entry : (a : Addr) (v : Value) → Member a (formula_addresses S) → TopHas (world version S w) a (Outcome.Value v) → ((z : Size) (xs : _) → v ≡ Array z xs → ⊥) → entry_at next a ≡ None
     no_entry a v i h n =
         (elim (entry_at next a) as (λ o. entry_at next a ≡ o → o ≡ None) [
           | None ↦ λ u. refl
           | Some x ↦ λ u.
               let (m, r) = entry_member next a x u in
               let k : Member (x.root, x.size) arrays.0 = subst (λ t. Member (x.root, x.size) t) next_sizes (size_of_entry next x.root x.size x.permit m) in
-              let (j, (xs, g)) = array_has version S w (formula_addresses S) arrays.0 arrays.1 x.root x.size k in
-              let g' : TopHas version S w a (Outcome.Value (Array x.size xs)) = subst (λ t. TopHas version S w t (Outcome.Value (Array x.size xs))) r g in
-              let q : Outcome.Value v ≡ Outcome.Value (Array x.size xs) = Has-one (program version S w) (Cell Top a) _ _ h g' in
+              let (j, (xs, g)) = array_has (world version S w) (formula_addresses S) arrays.0 arrays.1 x.root x.size k in
+              let g' : TopHas (world version S w) a (Outcome.Value (Array x.size xs)) = subst (λ t. TopHas (world version S w) t (Outcome.Value (Array x.size xs))) r g in
+              let q : Outcome.Value v ≡ Outcome.Value (Array x.size xs) = Has-one (program (world version S w)) (Cell Top a) _ _ h g' in
               let e : v ≡ Array x.size xs = cc q in
               absurd (n x.size xs e)
         ]) refl
@@ -161,19 +162,19 @@ module _ (version : Version) (S : Cells) (sheet : IsSheet S) (fit : AreFit S) (p
   unfolding Fitting oracle
   fitting i = (round i).1
 
-  pub follows : (i : ℕ) → IsNext version S (oracle i) (oracle (suc i))
+  pub follows : (i : ℕ) → IsNext (world version S (oracle i)) (oracle (suc i))
   unfolding Fitting oracle round after
   follows i = next_is (round i).0 (round i).1
 
-  there : (i : ℕ) (a : Addr) (z : Size) (xs : _) → Member a (formula_addresses S) → TopHas version S (oracle i) a (Outcome.Value (Array z xs)) → (p : Permit) × Member (record { root = a; size = z; permit = p }) (oracle (suc i))
+  there : (i : ℕ) (a : Addr) (z : Size) (xs : _) → Member a (formula_addresses S) → TopHas (world version S (oracle i)) a (Outcome.Value (Array z xs)) → (p : Permit) × Member (record { root = a; size = z; permit = p }) (oracle (suc i))
   unfolding Fitting oracle round after
   there i a z xs m h = entry_there (round i).0 (round i).1 a z xs m h
 
-  not_there : (i : ℕ) (a : Addr) (v : Value) → Member a (formula_addresses S) → TopHas version S (oracle i) a (Outcome.Value v) → ((z : Size) (xs : _) → v ≡ Array z xs → ⊥) → entry_at (oracle (suc i)) a ≡ None
+  not_there : (i : ℕ) (a : Addr) (v : Value) → Member a (formula_addresses S) → TopHas (world version S (oracle i)) a (Outcome.Value v) → ((z : Size) (xs : _) → v ≡ Array z xs → ⊥) → entry_at (oracle (suc i)) a ≡ None
   unfolding Fitting oracle round after
   not_there i a v m h n = no_entry (round i).0 (round i).1 a v m h n
 
-  shape_of : (i : ℕ) (a : Addr) (z : Size) (xs : _) → TopHas version S (oracle i) a (Outcome.Value (Array z xs)) → Member a (formula_addresses S) → (t : Size) × (cell_shape S a ≡ Some t) × (z.rows ≤ t.rows) × (z.cols ≤ t.cols)
+  shape_of : (i : ℕ) (a : Addr) (z : Size) (xs : _) → TopHas (world version S (oracle i)) a (Outcome.Value (Array z xs)) → Member a (formula_addresses S) → (t : Size) × (cell_shape S a ≡ Some t) × (z.rows ≤ t.rows) × (z.cols ≤ t.cols)
   unfolding Fitting oracle
   shape_of i a z xs h m = shaped (round i).0 (round i).1 a z xs h m
 
@@ -205,7 +206,7 @@ module _ (version : Version) (S : Cells) (sheet : IsSheet S) (fit : AreFit S) (p
   entry_stays : (j : ℕ) (a : Addr) → Member a (formula_addresses S) → Same j (Fo.Node.Value a) → ((r : Addr) → Member (Fo.Node.Entry r) (dependences S (Fo.Node.Entry a)) → entry_at (oracle (suc j)) r ≡ entry_at (oracle (suc (suc j))) r) → entry_at (oracle (suc j)) a ≡ entry_at (oracle (suc (suc j))) a
   entry_stays j a i b h = by b.outcome b.first b.second b.comes
     where
-      by : (o : Outcome) → TopHas version S (oracle j) a o → TopHas version S (oracle (suc j)) a o → Comes S (Cell Top a) o → entry_at (oracle (suc j)) a ≡ entry_at (oracle (suc (suc j))) a
+      by : (o : Outcome) → TopHas (world version S (oracle j)) a o → TopHas (world version S (oracle (suc j))) a o → Comes S (Cell Top a) o → entry_at (oracle (suc j)) a ≡ entry_at (oracle (suc (suc j))) a
       by (Outcome.Value (Array z xs)) g g' c =
           let (p, m) = there j a z xs i g in
           let (p', m') = there (suc j) a z xs i g' in

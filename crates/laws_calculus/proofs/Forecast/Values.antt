@@ -12,6 +12,7 @@ use Rattle.gl_calculus.specs.Evaluation.Oracle.{entry_at}
 use Rattle.gl_calculus.specs.Evaluation.Facts.{fact, facts, fact_at}
 use Rattle.gl_calculus.specs.Evaluation.Key.{Key, Cell, Outcome, Settled, Abort, as_value}
 use Rattle.gl_calculus.specs.Evaluation.Reference.{held_top}
+use Rattle.gl_calculus.specs.Evaluation.World.{world}
 use Rattle.gl_calculus.specs.Evaluation.Evaluation.{program, evaluation, cell_value, eval}
 use Rattle.laws_calculus.proofs.Calculus.Proper.{fact_at_single}
 use Rattle.laws_calculus.proofs.Calculus.Settles.{formula_listed}
@@ -58,8 +59,8 @@ module _ (version : Version) (S : Cells) (fit : AreFit S) (none : IsFalse (list_
   -- what a cell comes to under both oracles
   pub record Both (w w' : Oracle) (a : Addr) : Type 0 where
     pub outcome : Outcome
-    pub first : Has (program version S w) (Cell Top a) outcome
-    pub second : Has (program version S w') (Cell Top a) outcome
+    pub first : Has (program (world version S w)) (Cell Top a) outcome
+    pub second : Has (program (world version S w')) (Cell Top a) outcome
     pub comes : Comes S (Cell Top a) outcome
 
   module _ (w w' : Oracle) (fits : IsFit S w) (fits' : IsFit S w') (a : Addr) (f : Formula) (e : content S a ≡ Some (Form f)) (same : (r : Addr) → Member (Entry r) (dependences S (Fo.Node.Value a)) → entry_at w r ≡ entry_at w' r) (known : (g : Addr) → Member (Fo.Node.Value g) (dependences S (Fo.Node.Value a)) → Both w w' g) where
@@ -85,7 +86,7 @@ module _ (version : Version) (S : Cells) (fit : AreFit S) (none : IsFalse (list_
     IsNeeded : Key → Type 0
     IsNeeded = R.IsNeeded S fit w w' fits fits' (dependences S (Fo.Node.Value a)) same
 
-    cell_alike : (n : ℕ) → Alike IsNeeded (Comes S) (Within n) (program version S w (Cell Top a)) (program version S w' (Cell Top a))
+    cell_alike : (n : ℕ) → Alike IsNeeded (Comes S) (Within n) (program (world version S w) (Cell Top a)) (program (world version S w') (Cell Top a))
     unfolding program evaluation cell_value IsNeeded
     cell_alike n =
         let p : fact_at (facts S w (single a)) a ≡ fact S w a = fact_at_single S w a in
@@ -103,15 +104,15 @@ module _ (version : Version) (S : Cells) (fit : AreFit S) (none : IsFalse (list_
         (subst (λ u. Alike IsNeeded (Comes S) (Within n) (one (content S a)) (two u.content)) (sym p')
         (subst (λ c. Alike IsNeeded (Comes S) (Within n) (one c) (two c)) (sym e) body)))
 
-    outcomes : (k : Key) → IsNeeded k → (o : Outcome) × Has (program version S w) k o × Has (program version S w') k o × Comes S k o
+    outcomes : (k : Key) → IsNeeded k → (o : Outcome) × Has (program (world version S w)) k o × Has (program (world version S w')) k o × Comes S k o
     unfolding IsNeeded
-    outcomes k (g, d, m) = let b = known g m in (b.outcome, subst (λ u. Has (program version S w) u b.outcome) (sym d) b.first, subst (λ u. Has (program version S w') u b.outcome) (sym d) b.second, subst (λ u. Comes S u b.outcome) (sym d) b.comes)
+    outcomes k (g, d, m) = let b = known g m in (b.outcome, subst (λ u. Has (program (world version S w)) u b.outcome) (sym d) b.first, subst (λ u. Has (program (world version S w')) u b.outcome) (sym d) b.second, subst (λ u. Comes S u b.outcome) (sym d) b.comes)
 
-    gives_has : (u : Oracle) (o : Outcome) → Gives (program version S u) (program version S u (Cell Top a)) o → Has (program version S u) (Cell Top a) o
+    gives_has : (u : Oracle) (o : Outcome) → Gives (program (world version S u)) (program (world version S u) (Cell Top a)) o → Has (program (world version S u)) (Cell Top a) o
     gives_has u o (n, h) = (suc n, h)
 
-    at_level : (n : ℕ) → (o : Outcome) × Has (program version S w) (Cell Top a) o × Has (program version S w') (Cell Top a) o × Within n o
-    at_level n = let (o, h, h', k) = gives_both (program version S w) (program version S w') IsNeeded (Comes S) outcomes (cell_alike n) in (o, gives_has w o h, gives_has w' o h', k)
+    at_level : (n : ℕ) → (o : Outcome) × Has (program (world version S w)) (Cell Top a) o × Has (program (world version S w')) (Cell Top a) o × Within n o
+    at_level n = let (o, h, h', k) = gives_both (program (world version S w)) (program (world version S w')) IsNeeded (Comes S) outcomes (cell_alike n) in (o, gives_has w o h, gives_has w' o h', k)
 
     comes_all : (o : Outcome) → Within 0 o → ((n : ℕ) → Within n o) → Comes S (Cell Top a) o
     comes_all (Outcome.Value v) z h = (z.0, λ n. by n)
@@ -129,13 +130,13 @@ module _ (version : Version) (S : Cells) (fit : AreFit S) (none : IsFalse (list_
           outcome = o;
           first = h;
           second = h';
-          comes = comes_all o k (λ n. let (p, q, q', l) = at_level n in subst (Within n) (Has-one (program version S w) (Cell Top a) p o q h) l);
+          comes = comes_all o k (λ n. let (p, q, q', l) = at_level n in subst (Within n) (Has-one (program (world version S w)) (Cell Top a) p o q h) l);
         }
 
-    comes_of : (k : Key) (o : Outcome) → IsNeeded k → Has (program version S w) k o → Comes S k o
-    comes_of k o p h = let (x, g, g', c) = outcomes k p in subst (Comes S k) (Has-one (program version S w) k x o g h) c
+    comes_of : (k : Key) (o : Outcome) → IsNeeded k → Has (program (world version S w)) k o → Comes S k o
+    comes_of k o p h = let (x, g, g', c) = outcomes k p in subst (Comes S k) (Has-one (program (world version S w)) k x o g h) c
 
     -- the keys that the cell asks for
-    pub asks : (j : Key) → IsAsked (program version S w) (program version S w (Cell Top a)) j → (g : Addr) × (j ≡ Cell Top g) × Member (Fo.Node.Value g) (dependences S (Fo.Node.Value a))
+    pub asks : (j : Key) → IsAsked (program (world version S w)) (program (world version S w) (Cell Top a)) j → (g : Addr) × (j ≡ Cell Top g) × Member (Fo.Node.Value g) (dependences S (Fo.Node.Value a))
     unfolding IsNeeded
-    asks j i = alike_asked (program version S w) IsNeeded (Comes S) (Within 0) comes_of (cell_alike 0) j i
+    asks j i = alike_asked (program (world version S w)) IsNeeded (Comes S) (Within 0) comes_of (cell_alike 0) j i

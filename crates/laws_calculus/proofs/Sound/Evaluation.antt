@@ -17,6 +17,7 @@ use Rattle.gl_calculus.specs.Values.Lift.{lift2}
 use Rattle.gl_calculus.specs.Values.Functions.{apply}
 use Rattle.gl_calculus.specs.Evaluation.Key.{Key, Cell, Settle, Outcome, Settled, Abort, Budget, Eval, give, ◌>>=◌, as_value, as_settled}
 use Rattle.gl_calculus.specs.Evaluation.Reference.{Held, Given, Computed, own_content}
+use Rattle.gl_calculus.specs.Evaluation.World.{world}
 use Rattle.gl_calculus.specs.Evaluation.Evaluation as E
 use Rattle.gl_calculus.specs.Evaluation.Evaluation.{Argument, Bindings, program, evaluation, cell_value}
 use Rattle.gl_calculus.specs.Evaluation.Sound.{is_sound_sheet, is_sound_key}
@@ -239,7 +240,7 @@ module _ (S : Cells) (w : Oracle) where
   settled_outcome s (Err b) = (refl, refl)
 
   -- a sound key's program asks for sound keys, and returns a sound outcome of the key
-  pub keeps_sound : AreFit S → (version : Version) (k : Key) → IsTrue (is_sound_key k) → Keeps (λ j. IsTrue (is_sound_key j)) IsSoundOutcome (IsSoundOutcome k) (program version S w k)
+  pub keeps_sound : AreFit S → (version : Version) (k : Key) → IsTrue (is_sound_key k) → Keeps (λ j. IsTrue (is_sound_key j)) IsSoundOutcome (IsSoundOutcome k) (program (world version S w) k)
   unfolding program evaluation
   keeps_sound fit version (Cell e a) h =
       keeps_look (keeps_bind (λ j. IsTrue (is_sound_key j)) IsSoundOutcome (R.OnOk S w IsSoundValue) (IsSoundOutcome (Cell e a)) (facts S w) (cell_value version e (own_content (fact_at (facts S w (single a)) a).content e a)) (λ r. Done (as_value r))

@@ -69,13 +69,13 @@ module _ {K O A : Type 0} (program : K → Query K O A O) (P : K → Type 0) (T 
 -- ---- the laws
 
 pub sound_outcomes : SoundOutcomes
-sound_outcomes version S w k o fit h has = kept_outcome (program version S w) (λ j. IsTrue (is_sound_key j)) IsSoundOutcome (keeps_sound S w fit version) k o h has
+sound_outcomes W k o fit h has = kept_outcome (program W) (λ j. IsTrue (is_sound_key j)) IsSoundOutcome (keeps_sound W.sheet W.oracle fit W.version) k o h has
 
 pub sound_demands : SoundDemands
-sound_demands version S w seeds k fit s d = kept_demanded (program version S w) (λ j. IsTrue (is_sound_key j)) IsSoundOutcome (keeps_sound S w fit version) seeds s d
+sound_demands W seeds k fit s d = kept_demanded (program W) (λ j. IsTrue (is_sound_key j)) IsSoundOutcome (keeps_sound W.sheet W.oracle fit W.version) seeds s d
 
 pub sound_reads : SoundReads
-sound_reads version S w known k fit answers h = (
+sound_reads W known k fit answers h = (
   λ o e. kept_ready P IsSoundOutcome known answers (IsSoundOutcome k) q o keeps e,
   λ j e. reads j (need_asked P known q j e),
   reads,
@@ -85,10 +85,10 @@ sound_reads version S w known k fit answers h = (
     P j = IsTrue (is_sound_key j)
 
     q : Query Key Outcome Range Outcome
-    q = program version S w k
+    q = program W k
 
     keeps : Keeps P IsSoundOutcome (IsSoundOutcome k) q
-    keeps = keeps_sound S w fit version k h
+    keeps = keeps_sound W.sheet W.oracle fit W.version k h
 
-    reads : (j : Key) → Member j (asked known q) → IsTrue (is_sound_key j) × IsProperKey S j
-    reads j m = (kept_asked P IsSoundOutcome known answers (IsSoundOutcome k) q j keeps m, each_asked (IsProperKey S) known q j (asks_proper version S w k) m)
+    reads : (j : Key) → Member j (asked known q) → IsTrue (is_sound_key j) × IsProperKey W.sheet j
+    reads j m = (kept_asked P IsSoundOutcome known answers (IsSoundOutcome k) q j keeps m, each_asked (IsProperKey W.sheet) known q j (asks_proper W k) m)

@@ -19,6 +19,7 @@ use Rattle.gl_protocol.specs.Scripts.Commands as C
 use Rattle.gl_protocol.specs.Scripts.Commands.{Is, Not, Word, LineWord, TruncatedWord, Request, ReadsLine, ImportWords, words_of, error_line, spent_line, AreShown, SettledReply, asks_calculation}
 use Rattle.gl_calculus.specs.Edits.Replicas.{Stamp, Edit, Judged, Wins, Loses, Conflict, IsJudged, is_earlier}
 use Rattle.gl_calculus.specs.Edits.Replicas as R
+use Rattle.gl_calculus.specs.Evaluation.World.{world}
 use Rattle.gl_protocol.specs.Scripts.Script.{Script, register_of, merge}
 use Rattle.gl_protocol.specs.Scripts.Acts.{Does}
 use Rattle.gl_script.proofs.Once.{one_line, same_place}
@@ -71,10 +72,10 @@ module _ (records : Bytes → List (List Bytes)) (version : Version) (S : Cells)
   -- ---- what is shown
 
   one_row : (w : Oracle) (r : Range) (i n : ℕ) (xs ys : List Shown) → length xs ≡ n → length ys ≡ n
-      → ((j : ℕ) (d : Shown) → j < length xs → IsShown version S w (addr (r.first.col + j) (r.last.row - i)) (get_or xs j d))
-      → ((j : ℕ) (d : Shown) → j < length ys → IsShown version S w (addr (r.first.col + j) (r.last.row - i)) (get_or ys j d)) → xs ≡ ys
+      → ((j : ℕ) (d : Shown) → j < length xs → IsShown (world version S w) (addr (r.first.col + j) (r.last.row - i)) (get_or xs j d))
+      → ((j : ℕ) (d : Shown) → j < length ys → IsShown (world version S w) (addr (r.first.col + j) (r.last.row - i)) (get_or ys j d)) → xs ≡ ys
   one_row w r i n xs ys h k f g =
-      ext_get_or A.Cycle xs ys (h ∙ sym k) (λ j l. at_most_one_shown version S w (addr (r.first.col + j) (r.last.row - i)) (get_or xs j A.Cycle) (get_or ys j A.Cycle) (f j A.Cycle l) (g j A.Cycle (subst (λ m. j < m) (h ∙ sym k) l)))
+      ext_get_or A.Cycle xs ys (h ∙ sym k) (λ j l. at_most_one_shown (world version S w) (addr (r.first.col + j) (r.last.row - i)) (get_or xs j A.Cycle) (get_or ys j A.Cycle) (f j A.Cycle l) (g j A.Cycle (subst (λ m. j < m) (h ∙ sym k) l)))
 
   one_table : {w : Oracle} {r : Range} {i : ℕ} {xs ys : List (List Shown)} → AreShown records version S w r i xs → AreShown records version S w r i ys → xs ≡ ys
   one_table C.AreShown.none C.AreShown.none = refl
@@ -84,15 +85,15 @@ module _ (records : Bytes → List (List Bytes)) (version : Version) (S : Cells)
   same_certificate : (c d : Certificate) → Cert c ≡ Cert d → c ≡ d
   same_certificate c d h = cc h
 
-  one_certificate : (w : Oracle) (a : Addr) (c d : Certificate) → Explains version S w a (Cert c) → Explains version S w a (Cert d) → c ≡ d
-  one_certificate w a c d h k = same_certificate c d (one_explanation version S w a (Cert c) (Cert d) h k)
+  one_certificate : (w : Oracle) (a : Addr) (c d : Certificate) → Explains (world version S w) a (Cert c) → Explains (world version S w) a (Cert d) → c ≡ d
+  one_certificate w a c d h k = same_certificate c d (one_explanation (world version S w) a (Cert c) (Cert d) h k)
 
   -- the reply that gives a certificate
   abbrev explanation : Oracle → Addr → Certificate → Bytes
-  explanation w a c = explanation_text (verdict version S w a c) c
+  explanation w a c = explanation_text (verdict (world version S w) a c) c
 
   one_settled : {w : Oracle} {n : ℕ} {x : Request} {r s : Bytes} → SettledReply records version S w n x r → SettledReply records version S w n x s → r ≡ s
-  one_settled {w = w} (C.SettledReply.show {a = a} {x = x} h) (C.SettledReply.show {x = y} k) = ap (λ (z : Shown). line (shown_text z)) (at_most_one_shown version S w a x y h k)
+  one_settled {w = w} (C.SettledReply.show {a = a} {x = x} h) (C.SettledReply.show {x = y} k) = ap (λ (z : Shown). line (shown_text z)) (at_most_one_shown (world version S w) a x y h k)
   one_settled (C.SettledReply.view {r = r} h) (C.SettledReply.view k) = ap (table_text (extents r).cols) (one_table h k)
   one_settled C.SettledReply.calc C.SettledReply.calc = refl
   one_settled C.SettledReply.oracle C.SettledReply.oracle = refl

@@ -1,4 +1,5 @@
 //! Notes that a run leaves, and the next run begins with.
+ghost use Rattle.gl_calculus.specs.Evaluation.World.{world};
 ghost use Rattle.std.specs.Prelude.{IfOk};
 ghost use Rattle.gl_machine.specs.Remembered.{AreTrue};
 ghost use Rattle.gl_calculus.specs.Evaluation.Key.{same_key};
@@ -23,7 +24,7 @@ fn notes_after(
     core: Core,
     steps: &mut Steps<Silent>,
 ) -> Result<Memo<Key, Outcome, Range>, Fail>
-    requires { IsFor (version_tree at.now.version) (sheet at.now.cells.now) at.now.oracle.now core }
+    requires { IsFor (world (version_tree at.now.version) (sheet at.now.cells.now) at.now.oracle.now) core }
     ensures true_notes { IfOk result (λ m. AreTrue same_key (program_of at.now)
         (note_trees (notes_of m))) }
     ensures sound_notes { IfOk result (λ m. HaveSoundParts (note_trees (notes_of m))) }

@@ -1,4 +1,5 @@
 //! Single picks, and how often a run asks its rule.
+ghost use Rattle.gl_calculus.specs.Evaluation.World.{world};
 ghost use Rattle.std.specs.Prelude.{◌≤◌, ◌<◌};
 ghost use Rattle.gl_ast.specs.View.{version_tree};
 ghost use Rattle.gl_cells.specs.Sheet.{sheet};
@@ -21,10 +22,8 @@ fn pick_first(
     core: &mut Core,
     steps: &mut Steps<Silent>,
 ) -> Result<(u64, Picked), Fail>
-    requires { IsFor (version_tree at.now.version) (sheet at.now.cells.now)
-        at.now.oracle.now core.old }
-    ensures { IsFor (version_tree at.now.version) (sheet at.now.cells.now)
-        at.now.oracle.now core.new }
+    requires { IsFor (world (version_tree at.now.version) (sheet at.now.cells.now) at.now.oracle.now) core.old }
+    ensures { IsFor (world (version_tree at.now.version) (sheet at.now.cells.now) at.now.oracle.now) core.new }
 {
     let n = core.idle();
     if n == 0 {

@@ -1,4 +1,5 @@
 //! Runs that begin with the results of an earlier one, over one sheet.
+ghost use Rattle.gl_calculus.specs.Evaluation.World.{world};
 ghost use Rattle.std.specs.Prelude.{◌≤◌, [], IfOk};
 ghost use Rattle.gl_machine.specs.InOrder.{AreOrdered};
 ghost use Rattle.gl_machine.specs.Quiet.{IsQuiet};
@@ -75,7 +76,7 @@ fn numbers_of(alloc: Global, counts: &Counts) -> Result<Vec<u64>, Fail> {
 pub fn resumed(at: &Evaluator<'_>, places: &[Addr], results: Results) -> Result<Core, Fail>
     requires { AreTrue same_key (program_of at.now) results }
     ensures for_it { IfOk result (λ core.
-        IsFor (version_tree at.now.version) (sheet at.now.cells.now) at.now.oracle.now core) }
+        IsFor (world (version_tree at.now.version) (sheet at.now.cells.now) at.now.oracle.now) core) }
     ensures ordered { IfOk result (λ core. AreOrdered [] (notes_in core)) }
 {
     if places.len() > MAX_DEMANDED {
@@ -104,8 +105,7 @@ pub fn seen_of(alloc: Global, quiet: &Quiet, count: usize) -> Result<Vec<Sight>,
 fn results_of(at: &Evaluator<'_>, quiet: Quiet) -> Results
     requires ordered { AreOrdered [] (notes_in quiet) }
     requires quiet { IsQuiet same_key (program_of at.now) (seeds_of quiet) (state_of quiet) }
-    requires for_it { IsFor (version_tree at.now.version) (sheet at.now.cells.now)
-        at.now.oracle.now quiet }
+    requires for_it { IsFor (world (version_tree at.now.version) (sheet at.now.cells.now) at.now.oracle.now) quiet }
     ensures { AreTrue same_key (program_of at.now) result }
 {
     quiet.into_results()

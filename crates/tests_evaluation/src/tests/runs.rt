@@ -1,4 +1,5 @@
 //! Runs of a core over a sheet, by each pick rule.
+ghost use Rattle.gl_calculus.specs.Evaluation.World.{world};
 ghost use Rattle.std.specs.Prelude.{◌≡◌, ◌≤◌, [], IfOk, IsTrue, map};
 ghost use Rattle.gl_calculus.specs.Computation.Lists.{Member, AreDistinct};
 ghost use Rattle.gl_machine.specs.InOrder.{AreOrdered};
@@ -102,7 +103,7 @@ pub fn started(
         (note_trees (notes_of kept)) }
     requires sound_notes { HaveSoundParts (note_trees (notes_of kept)) }
     ensures { IfOk result (λ core.
-        IsFor (version_tree at.now.version) (sheet at.now.cells.now) at.now.oracle.now core) }
+        IsFor (world (version_tree at.now.version) (sheet at.now.cells.now) at.now.oracle.now) core) }
 {
     if seeds.len() > MAX_DEMANDED {
         return Err("too many seeds".into());
@@ -119,7 +120,7 @@ pub fn started(
 /// The core of these cells, without notes.
 pub fn fresh(at: &Evaluator<'_>, names: &[&str]) -> Result<Core, Fail>
     ensures { IfOk result (λ core.
-        IsFor (version_tree at.now.version) (sheet at.now.cells.now) at.now.oracle.now core) }
+        IsFor (world (version_tree at.now.version) (sheet at.now.cells.now) at.now.oracle.now) core) }
 {
     let seeds = cells_at(at.alloc, names)?;
     started(at, seeds, Memo::new(at.alloc))
@@ -133,13 +134,12 @@ pub fn run<L: Watch>(
     steps: &mut Steps<L>,
 ) -> Result<Quiet, CoreFault>
     requires kind { kind ≤ 2 }
-    requires for_it { IsFor (version_tree at.now.version) (sheet at.now.cells.now)
-        at.now.oracle.now core }
+    requires for_it { IsFor (world (version_tree at.now.version) (sheet at.now.cells.now) at.now.oracle.now) core }
     ensures quiet { IfOk result (λ q.
         IsQuiet same_key (program_of at.now) (seeds_of core) (state_of q)) }
     ensures seeds { IfOk result (λ q. seeds_of q ≡ seeds_of core) }
     ensures stays { IfOk result (λ q.
-        IsFor (version_tree at.now.version) (sheet at.now.cells.now) at.now.oracle.now q) }
+        IsFor (world (version_tree at.now.version) (sheet at.now.cells.now) at.now.oracle.now) q) }
     ensures ordered { IfOk result (λ q.
         AreOrdered [] (notes_in core) → AreOrdered [] (notes_in q)) }
 {

@@ -6,6 +6,7 @@ use Rattle.gl_calculus.specs.Evaluation.Key as K
 use Rattle.gl_calculus.specs.Calculation.Memory.{Table}
 use Rattle.gl_calculus.specs.Evaluation.Reference.{spilled}
 use Rattle.gl_calculus.specs.Values.Value as V
+use Rattle.gl_calculus.specs.Evaluation.World.{world}
 use Rattle.gl_core.specs.Results.{outcome_in}
 use Rattle.gl_value.specs.Forms.{frame_tree-Top}
 use Rattle.gl_value.specs.Made.{shown_tree}
@@ -23,10 +24,10 @@ returns-clause-shown c = λ version S w q.
     let root = c.args.cover.0 in
     IfOk-weaker c.outcome_element.result
     (λ x. (v : V.Value) × (o ≡ K.Outcome.Value v) × (shown_tree x ≡ C.Shown.Value (spilled (Some v) c.args.cover.1 c.args.cover.2)))
-    (λ x. (v : V.Value) × TopHas version S w root (K.Outcome.Value v) × (shown_tree x ≡ C.Shown.Value (spilled (Some v) c.args.cover.1 c.args.cover.2)))
+    (λ x. (v : V.Value) × TopHas (world version S w) root (K.Outcome.Value v) × (shown_tree x ≡ C.Shown.Value (spilled (Some v) c.args.cover.1 c.args.cover.2)))
     (λ x (v, e, y). (
       v,
-      subst (λ u. TopHas version S w root u) e (top_has version S w t (frame_tree Top) root o frame_tree-Top q
+      subst (λ u. TopHas (world version S w) root u) e (top_has (world version S w) t (frame_tree Top) root o frame_tree-Top q
           (subst (λ (u : Table). Some o ≡ outcome_in u.notes (K.Cell (frame_tree Top) root)) c.table.view_is c.in-Some.ensures.value)),
       y,
     ))

@@ -5,6 +5,7 @@ use Rattle.gl_calculus.specs.Values.Value.{Top}
 use Rattle.gl_calculus.specs.Formulas.Formula.{formula_addresses}
 use Rattle.gl_calculus.specs.Grid.Limits.{max_demanded}
 use Rattle.gl_calculus.specs.Evaluation.Key.{Cell}
+use Rattle.gl_calculus.specs.Evaluation.World.{world}
 use Rattle.gl_calculus.specs.Evaluation.Evaluation.{program}
 use Rattle.gl_calculus.specs.Grid.Grid.{Addr}
 use Rattle.gl_calculus.specs.Calculation.Memory.{Table}
@@ -31,15 +32,15 @@ run-requires-clause-started g c = record { seeds = c.in-Ok.ensures.seeds ∙ ap 
 
 pub returns-in-Ok-clause-steps : goal.returns-in-Ok-clause-steps
 returns-in-Ok-clause-steps g c =
-    subst (λ ns. IfOk c.run.result (λ q. (b : Table × List Addr) (i : ℕ) → AreKept b c.args.evaluator.now.oracle.now ns → Finishes (version_tree c.args.evaluator.now.version) (sheet c.args.evaluator.now.cells.now) b i c.args.evaluator.now.oracle.now c.args.steps.now c.run.new.steps)) c.in-Ok.ensures.notes c.run.ensures.steps
+    subst (λ ns. IfOk c.run.result (λ q. (b : Table × List Addr) (i : ℕ) → AreKept b c.args.evaluator.now.oracle.now ns → Finishes (world (version_tree c.args.evaluator.now.version) (sheet c.args.evaluator.now.cells.now) c.args.evaluator.now.oracle.now) b i c.args.steps.now c.run.new.steps)) c.in-Ok.ensures.notes c.run.ensures.steps
 
 pub returns-in-Ok-clause-stops : goal.returns-in-Ok-clause-stops
 returns-in-Ok-clause-stops g c =
-    subst (λ ns. IfErr c.run.result (λ e. (b : Table × List Addr) → AreKept b c.args.evaluator.now.oracle.now ns → Stops (version_tree c.args.evaluator.now.version) (sheet c.args.evaluator.now.cells.now) c.args.evaluator.now.oracle.now b e c.args.steps.now c.run.new.steps)) c.in-Ok.ensures.notes c.run.ensures.stops
+    subst (λ ns. IfErr c.run.result (λ e. (b : Table × List Addr) → AreKept b c.args.evaluator.now.oracle.now ns → Stops (world (version_tree c.args.evaluator.now.version) (sheet c.args.evaluator.now.cells.now) c.args.evaluator.now.oracle.now) b e c.args.steps.now c.run.new.steps)) c.in-Ok.ensures.notes c.run.ensures.stops
 
 pub returns-in-Err-Work-clause-stops : goal.returns-in-Err-Work-clause-stops
 returns-in-Err-Work-clause-stops g c = λ b k.
     let V = version_tree c.args.evaluator.now.version in
     let S = sheet c.args.evaluator.now.cells.now in
     let w = c.args.evaluator.now.oracle.now in
-    (subst (λ ps. MoreThan max_demanded (Demanded (program V S w) (map (Cell Top) ps))) c.requires.all (c.in-Err-Work.ensures.work c.in-Err-Work.field-0-is), none_taken V S w b c.args.steps.now)
+    (subst (λ ps. MoreThan max_demanded (Demanded (program (world V S w)) (map (Cell Top) ps))) c.requires.all (c.in-Err-Work.ensures.work c.in-Err-Work.field-0-is), none_taken (world V S w) b c.args.steps.now)

@@ -1,6 +1,7 @@
 use Rattle.std.proofs.Common.{◌≡◌, Some, None, map, ap, sym, ◌∙◌}
 use Rattle.std.proofs.lemmas.Result.{IfOk-weaker}
 use Rattle.gl_calculus.specs.Computation.Lists.{has_member}
+use Rattle.gl_calculus.specs.Evaluation.World.{world}
 use Rattle.gl_calculus.specs.Evaluation.Evaluation.{program}
 use Rattle.gl_calculus.specs.Evaluation.Key.{Key, same_key}
 use Rattle.gl_calculus.specs.Evaluation.SameOutcome.{same_outcome}
@@ -24,11 +25,11 @@ returns-in-Ok-None-clause-verdict g c =
     let ns = claims c.args.notes.now in
     let set = map key_tree c.in_ok-loops.loops.keys in
     let alike : (j : Key) → has_member same_key j set ≡ has_member same_key j t.loops = λ j. c.in_ok-loops.ensures j ∙ ap (λ ks. has_member same_key j (map key_tree ks)) c.deref.ensures.value in
-    let free = free_is v S w ns t.notes set t.loops c.requires.noted alike (map key_tree c.deref-2.result.now) None (ap (map key_tree) c.deref-2.ensures.value) (sym c.in-Ok-None.field-0-is ∙ c.in-Ok-None.ensures.free) in
+    let free = free_is (world v S w) ns t.notes set t.loops c.requires.noted alike (map key_tree c.deref-2.result.now) None (ap (map key_tree) c.deref-2.ensures.value) (sym c.in-Ok-None.field-0-is ∙ c.in-Ok-None.ensures.free) in
     IfOk-weaker c.check_shown.result
     (λ x. verdict_tree x ≡ judged None None (says_so t.shown (says S w a ns set)))
-    (λ x. verdict_tree x ≡ judged None (first_free same_key same_outcome (is_proper S) (program v S w) t.notes t.loops t.loops) (says_so t.shown (says S w a t.notes t.loops)))
-    (λ x e. e ∙ ap (λ o. judged None None (says_so t.shown o)) (says_is v S w ns t.notes set t.loops c.requires.noted alike a) ∙ ap (λ o. judged None o (says_so t.shown (says S w a t.notes t.loops))) (sym free))
+    (λ x. verdict_tree x ≡ judged None (first_free same_key same_outcome (is_proper S) (program (world v S w)) t.notes t.loops t.loops) (says_so t.shown (says S w a t.notes t.loops)))
+    (λ x e. e ∙ ap (λ o. judged None None (says_so t.shown o)) (says_is (world v S w) ns t.notes set t.loops c.requires.noted alike a) ∙ ap (λ o. judged None o (says_so t.shown (says S w a t.notes t.loops))) (sym free))
     c.check_shown.ensures
 
 pub returns-in-Ok-Some-clause-verdict : goal.returns-in-Ok-Some-clause-verdict
@@ -41,5 +42,5 @@ returns-in-Ok-Some-clause-verdict g c =
     let ns = claims c.args.notes.now in
     let set = map key_tree c.in_ok-loops.loops.keys in
     let alike : (j : Key) → has_member same_key j set ≡ has_member same_key j t.loops = λ j. c.in_ok-loops.ensures j ∙ ap (λ ks. has_member same_key j (map key_tree ks)) c.deref.ensures.value in
-    let free = free_is v S w ns t.notes set t.loops c.requires.noted alike (map key_tree c.deref-2.result.now) (Some c.in-Ok-Some.at) (ap (map key_tree) c.deref-2.ensures.value) (sym c.in-Ok-Some.field-0-is ∙ c.in-Ok-Some.ensures.free) in
+    let free = free_is (world v S w) ns t.notes set t.loops c.requires.noted alike (map key_tree c.deref-2.result.now) (Some c.in-Ok-Some.at) (ap (map key_tree) c.deref-2.ensures.value) (sym c.in-Ok-Some.field-0-is ∙ c.in-Ok-Some.ensures.free) in
     ap (λ o. judged None o (says_so t.shown (says S w a t.notes t.loops))) (sym free)

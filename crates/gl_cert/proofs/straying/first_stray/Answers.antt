@@ -1,4 +1,5 @@
 use Rattle.std.proofs.Common.{◌<◌, ◌+◌, drop, length, sym, subst, ◌∙◌, arith}
+use Rattle.gl_calculus.specs.Evaluation.World.{world}
 use Rattle.gl_calculus.specs.Evaluation.Evaluation.{program}
 use Rattle.gl_calculus.specs.Evaluation.Key.{same_key}
 use Rattle.gl_calculus.specs.Evaluation.SameOutcome.{same_outcome}
@@ -20,7 +21,7 @@ note_follows-requires g c =
 pub returns-in-Ok-false-clause-stray : goal.returns-in-Ok-false-clause-stray
 returns-in-Ok-false-clause-stray g c =
     let S = sheet c.args.evaluator.now.cells.now in
-    let P = program (version_tree c.args.evaluator.now.version) S c.args.evaluator.now.oracle.now in
+    let P = program (world (version_tree c.args.evaluator.now.version) S c.args.evaluator.now.oracle.now) in
     let list = c.args.list.now in
     let i = c.loop-i.i in
     let x = c.index-list-i.result in
@@ -34,7 +35,7 @@ returns-in-Ok-false-clause-stray g c =
 pub loop-i-preserved : goal.loop-i-preserved
 loop-i-preserved g c =
     let S = sheet c.args.evaluator.now.cells.now in
-    let P = program (version_tree c.args.evaluator.now.version) S c.args.evaluator.now.oracle.now in
+    let P = program (world (version_tree c.args.evaluator.now.version) S c.args.evaluator.now.oracle.now) in
     let list = c.args.list.now in
     let i = c.loop-i.i in
     let x = c.index-list-i.result in

@@ -1,4 +1,5 @@
 use Rattle.std.proofs.Common.{◌≤◌, ◌+◌, drop}
+use Rattle.gl_calculus.specs.Evaluation.World.{world}
 use Rattle.gl_calculus.specs.Evaluation.Evaluation.{program}
 use Rattle.gl_calculus.specs.Evaluation.Key.{same_key}
 use Rattle.gl_calculus.specs.Evaluation.SameOutcome.{same_outcome}
@@ -13,7 +14,7 @@ use Rattle.gl_cert.proofs.straying.first_stray.Given as goal
 
 abbrev pub invariant-loop-i : goal.invariant-loop-i
 invariant-loop-i g l = record {
-  passed : Passed same_key same_outcome (is_proper (sheet l.evaluator.cells.now)) (program (version_tree l.evaluator.version) (sheet l.evaluator.cells.now) l.evaluator.oracle.now) key_equality (claim_trees l.list) (claims l.notes) (claim_trees (drop l.i l.list)) l.i;
+  passed : Passed same_key same_outcome (is_proper (sheet l.evaluator.cells.now)) (program (world (version_tree l.evaluator.version) (sheet l.evaluator.cells.now) l.evaluator.oracle.now)) key_equality (claim_trees l.list) (claims l.notes) (claim_trees (drop l.i l.list)) l.i;
   steps : l.steps ≤ l.fn.steps + l.i;
   later : l.fn.steps ≤ l.steps;
 }

@@ -1,6 +1,7 @@
 use Rattle.std.proofs.Common.{rules, inl, inr, refl, subst}
 use Rattle.gl_machine.specs.Machine.{at, table}
 use Rattle.gl_calculus.specs.Evaluation.Key.{same_key}
+use Rattle.gl_calculus.specs.Evaluation.World.{world}
 use Rattle.gl_calculus.specs.Evaluation.Evaluation.{program}
 use Rattle.gl_ast.specs.View.{version_tree}
 use Rattle.gl_cells.specs.Sheet.{sheet}
@@ -30,7 +31,7 @@ returns-in-Some-clause-picked g c =
     let S = sheet c.args.evaluator.now.cells.now in
     let w = c.args.evaluator.now.oracle.now in
     let st = table_of l e in
-    let p = program (version_tree c.args.evaluator.now.version) S w in
+    let p = program (world (version_tree c.args.evaluator.now.version) S w) in
     let r = c.go_by_mark.result in
     let needs = c.go_by_mark.ensures.needs in
     let (m, em) = mark_there l e c.requires.pickable.place.core c.args.p c.requires.pickable.place.there in

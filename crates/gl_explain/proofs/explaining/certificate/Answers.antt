@@ -4,6 +4,7 @@ use Rattle.gl_calculus.specs.Calculation.Calculation as C
 use Rattle.gl_calculus.specs.Calculation.Calculation.{IsAnswer}
 use Rattle.gl_calculus.specs.Explanation.Certificate as E
 use Rattle.gl_calculus.specs.Explanation.Certificate.{Explains, verdict}
+use Rattle.gl_calculus.specs.Evaluation.World.{world}
 use Rattle.laws_calculus.proofs.Explanation.Explaining.{walk_accepted, settled_certifies}
 use Rattle.gl_ast.specs.View.{version_tree}
 use Rattle.gl_cells.specs.Sheet.{sheet}
@@ -18,9 +19,9 @@ returns-clause-accepted g c =
     let w = c.args.w.now in
     let a = c.args.a in
     IfOk-weaker c.explained.result
-    (λ x. IsExplained v S w a c.args.steps.now c.explained.new.steps (explained_tree x))
-    (λ x. (t : E.Certificate) → explained_tree x ≡ E.Cert t → verdict v S w a t ≡ E.Accepted)
-    (λ x h t e. walk_accepted v S w a t (subst (Explains v S w a) e h.explains))
+    (λ x. IsExplained (world v S w) a c.args.steps.now c.explained.new.steps (explained_tree x))
+    (λ x. (t : E.Certificate) → explained_tree x ≡ E.Cert t → verdict (world v S w) a t ≡ E.Accepted)
+    (λ x h t e. walk_accepted (world v S w) a t (subst (Explains (world v S w) a) e h.explains))
     c.explained.ensures.explained
 
 pub returns-clause-certified : goal.returns-clause-certified
@@ -30,7 +31,7 @@ returns-clause-certified g c =
     let w = c.args.w.now in
     let a = c.args.a in
     IfOk-weaker c.explained.result
-    (λ x. IsExplained v S w a c.args.steps.now c.explained.new.steps (explained_tree x))
+    (λ x. IsExplained (world v S w) a c.args.steps.now c.explained.new.steps (explained_tree x))
     (λ x. (i : ℕ) → IsAnswer v S (C.Settled w i) → (t : E.Certificate) × (explained_tree x ≡ E.Cert t))
-    (λ x h i s. settled_certifies v S w i a (explained_tree x) c.formulas-formulas.ensures.ordered s h.explains)
+    (λ x h i s. settled_certifies (world v S w) i a (explained_tree x) c.formulas-formulas.ensures.ordered s h.explains)
     c.explained.ensures.explained

@@ -1,5 +1,6 @@
 use Rattle.std.proofs.Common.{◌≡◌, Some, [], map, ap, sym, ◌∙◌}
 use Rattle.gl_calculus.specs.Explanation.Certificate.{says}
+use Rattle.gl_calculus.specs.Evaluation.World.{world}
 use Rattle.gl_cells.specs.Sheet.{sheet}
 use Rattle.gl_demand.specs.View.{key_tree}
 use Rattle.gl_cert.specs.View.{cert_tree}
@@ -14,4 +15,4 @@ returns-in-Ok c = λ version n.
     let p = c.new.ensures in
     let q = ap (map key_tree) c.new-2.ensures.empty in
     let s : says S w a [] [] ≡ Some (cert_tree c.in-Ok.cert).shown = sym (ap (λ x. says S w a x (map key_tree c.new-2.result.keys)) p ∙ ap (says S w a []) q) ∙ c.in-Ok.ensures.shown in
-    explained_plain version S w a n (cert_tree c.in-Ok.cert) c.requires (c.in-Ok.ensures.notes ∙ p) (c.in-Ok.ensures.loops ∙ q) s
+    explained_plain (world version S w) a n (cert_tree c.in-Ok.cert) c.requires (c.in-Ok.ensures.notes ∙ p) (c.in-Ok.ensures.loops ∙ q) s

@@ -1,6 +1,7 @@
 use Rattle.std.proofs.Common.{◌≡◌, sym, subst}
 use Rattle.gl_calculus.specs.Evaluation.Key.{same_key}
 use Rattle.gl_calculus.specs.Explanation.Walk.{noted}
+use Rattle.gl_calculus.specs.Evaluation.World.{world}
 use Rattle.gl_ast.specs.View.{version_tree}
 use Rattle.gl_cells.specs.Sheet.{sheet}
 use Rattle.gl_machine.specs.Ahead.Reading.{keys_from}
@@ -23,9 +24,9 @@ returns-in-Ok-Some-clause-mark g c =
     let m = mark_tree c.args.mark in
     let x = c.in-Ok-Some.lacked in
     let is = subst (IsNext (noted same_key done) (keys_from S w m.0) m.1) c.in-Ok-Some.field-0-is c.in-Ok-Some.ensures in
-    marked_still (λ n. n ≡ (ahead_tree c.args.mark.ahead, x.place)) (IsMark v S w done k) (λ n e. subst (IsMark v S w done k) (sym e) (mark_onward v S w done k m x.place is.1 c.requires.mark)) c.by_mark.result c.by_mark.ensures.mark
+    marked_still (λ n. n ≡ (ahead_tree c.args.mark.ahead, x.place)) (IsMark (world v S w) done k) (λ n e. subst (IsMark (world v S w) done k) (sym e) (mark_onward (world v S w) done k m x.place is.1 c.requires.mark)) c.by_mark.result c.by_mark.ensures.mark
 
 pub returns-in-Ok-clause-mark : goal.returns-in-Ok-clause-mark
 returns-in-Ok-clause-mark g c =
-    let is = IsMark (version_tree c.args.evaluator.now.version) (sheet c.args.evaluator.now.cells.now) c.args.evaluator.now.oracle.now (claims c.args.notes.now) (key_tree c.args.key.now) in
+    let is = IsMark (world (version_tree c.args.evaluator.now.version) (sheet c.args.evaluator.now.cells.now) c.args.evaluator.now.oracle.now) (claims c.args.notes.now) (key_tree c.args.key.now) in
     marked_still (λ m. m ≡ (ahead_tree c.in-Ok.turn.ahead, 0)) is (λ m e. subst is (sym e) c.in-Ok.ensures.ahead) c.by_turn.result c.by_turn.ensures.mark

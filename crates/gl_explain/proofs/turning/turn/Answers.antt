@@ -1,6 +1,7 @@
 use Rattle.std.proofs.Common.{◌≡◌, ℕ, ◌≤◌, ◌+◌, ◌<◌, None, map, IsTrue, ap, sym, subst, ◌∙◌}
 use Rattle.std.proofs.lemmas.Result.{IfOk-weaker}
 use Rattle.gl_calculus.specs.Computation.Query.{Ready, Need, found}
+use Rattle.gl_calculus.specs.Evaluation.World.{world}
 use Rattle.gl_calculus.specs.Evaluation.Evaluation.{program}
 use Rattle.gl_calculus.specs.Evaluation.Key as K
 use Rattle.gl_calculus.specs.Evaluation.Key.{same_key}
@@ -37,7 +38,7 @@ read_on-requires-clause-proper g c =
     let us = map key_tree below in
     let e = trees_top c.args.stack.now.keys below k d in
     let (root, n, h) = c.requires.walking in
-    top_proper v S w root n m done us (key_tree k) (subst (IsWalking v S w root n m done) e h)
+    top_proper (world v S w) root n m done us (key_tree k) (subst (IsWalking (world v S w) root n m done) e h)
 
 pub take_mark-mark-requires : goal.take_mark-mark-requires
 take_mark-mark-requires g c =
@@ -50,7 +51,7 @@ take_mark-mark-requires g c =
     let (below, d) = c.in-Some.ensures.some in
     let us = map key_tree below in
     let e = trees_top c.args.stack.now.keys below k d in
-    some_mark (IsMark v S w done) up us (key_tree k) c.args.marks.now.items e c.requires.marks
+    some_mark (IsMark (world v S w) done) up us (key_tree k) c.args.marks.now.items e c.requires.marks
 
 pub read_on-requires-clause-mark : goal.read_on-requires-clause-mark
 read_on-requires-clause-mark g c =
@@ -63,7 +64,7 @@ read_on-requires-clause-mark g c =
     let (below, d) = c.in-Some.ensures.some in
     let us = map key_tree below in
     let e = trees_top c.args.stack.now.keys below k d in
-    (below_marked (IsMark v S w done) up us (key_tree k) (mark_trees c.args.marks.now.items) (mark_trees c.take_mark-mark.new.marks.items) (mark_tree c.take_mark-mark.result) e c.take_mark-mark.ensures c.requires.marks).1
+    (below_marked (IsMark (world v S w) done) up us (key_tree k) (mark_trees c.args.marks.now.items) (mark_trees c.take_mark-mark.new.marks.items) (mark_tree c.take_mark-mark.result) e c.take_mark-mark.ensures c.requires.marks).1
 
 pub take_off-requires-clause-top : goal.take_off-requires-clause-top
 take_off-requires-clause-top g c = λ j t.
@@ -81,7 +82,7 @@ take_off-requires-clause-top g c = λ j t.
     let o = outcome_tree c.in-Ok-Ready.outcome in
     let f : IsSoundFound (key_tree k) (Ready o) = subst (λ f. IsSoundFound (key_tree k) (reached_tree f)) c.in-Ok-Ready.field-0-is c.in-Ok-Ready.ensures.sound in
     subst (λ x. (noted same_key done (key_tree x) ≡ None) × IsTrue (is_sound_key (key_tree x)) × IsSoundFound (key_tree x) (Ready o)) (one_top c.args.stack.now.keys k j (below, d) t)
-    (top_free v S w root n m done us (key_tree k) (subst (IsWalking v S w root n m done) e h), top_sound c.args.stack.now.keys k c.requires.sound (below, d), f)
+    (top_free (world v S w) root n m done us (key_tree k) (subst (IsWalking (world v S w) root n m done) e h), top_sound c.args.stack.now.keys k c.requires.sound (below, d), f)
 
 pub returns-in-Ok-Ready-clause-turned : goal.returns-in-Ok-Ready-clause-turned
 returns-in-Ok-Ready-clause-turned g c =
@@ -100,9 +101,9 @@ returns-in-Ok-Ready-clause-turned g c =
     let vs = map key_tree c.take_off.new.stack.keys in
     let l = c.read_on.new.steps in
     let le : l ≤ m + 1 = c.read_on.ensures.steps in
-    let f : found (noted same_key done) (program v S w (key_tree k)) ≡ Ready o = sym c.in-Ok-Ready.ensures.found ∙ ap reached_tree c.in-Ok-Ready.field-0-is in
-    IfOk-weaker c.take_off.result (λ t. IsTakenOff o done up t more vs) (λ t. (root : K.Key) (n : ℕ) → IsWalking v S w root n m done up → IsTurned v S w root n l more vs t)
-    (λ t x root n h. off_turned v S w root n m l done more up vs o t h x (λ j us' q. subst (λ y. found (noted same_key done) (program v S w y) ≡ Ready o) (one_top up (key_tree k) j (us, e) (us', q)) f) le)
+    let f : found (noted same_key done) (program (world v S w) (key_tree k)) ≡ Ready o = sym c.in-Ok-Ready.ensures.found ∙ ap reached_tree c.in-Ok-Ready.field-0-is in
+    IfOk-weaker c.take_off.result (λ t. IsTakenOff o done up t more vs) (λ t. (root : K.Key) (n : ℕ) → IsWalking (world v S w) root n m done up → IsTurned (world v S w) root n l more vs t)
+    (λ t x root n h. off_turned (world v S w) root n m l done more up vs o t h x (λ j us' q. subst (λ y. found (noted same_key done) (program (world v S w) y) ≡ Ready o) (one_top up (key_tree k) j (us, e) (us', q)) f) le)
     c.take_off.ensures.taken
 
 pub returns-in-Ok-Ready-clause-sound : goal.returns-in-Ok-Ready-clause-sound
@@ -129,8 +130,8 @@ returns-in-Ok-Ready-clause-marks g c =
     let more = claims c.take_off.new.notes in
     let vs = map key_tree c.take_off.new.stack.keys in
     let ns = mark_trees c.take_mark-mark.new.marks.items in
-    let h = (below_marked (IsMark v S w done) up us (key_tree k) (mark_trees c.args.marks.now.items) ns (mark_tree c.take_mark-mark.result) e c.take_mark-mark.ensures c.requires.marks).0 in
-    IfOk-weaker c.take_off.result (λ t. IsTakenOff o done up t more vs) (λ t. t ≡ On → AreMarks v S w more vs ns) (λ t x q. off_marks v S w o done more up us vs (key_tree k) t ns x e h) c.take_off.ensures.taken
+    let h = (below_marked (IsMark (world v S w) done) up us (key_tree k) (mark_trees c.args.marks.now.items) ns (mark_tree c.take_mark-mark.result) e c.take_mark-mark.ensures c.requires.marks).0 in
+    IfOk-weaker c.take_off.result (λ t. IsTakenOff o done up t more vs) (λ t. t ≡ On → AreMarks (world v S w) more vs ns) (λ t x q. off_marks (world v S w) o done more up us vs (key_tree k) t ns x e h) c.take_off.ensures.taken
 
 pub returns-in-Ok-Need-clause-turned : goal.returns-in-Ok-Need-clause-turned
 returns-in-Ok-Need-clause-turned g c =
@@ -151,9 +152,9 @@ returns-in-Ok-Need-clause-turned g c =
     let ns = mark_trees c.put_on.new.marks.items in
     let l = c.read_on.new.steps in
     let le : l ≤ m + 1 = c.read_on.ensures.steps in
-    let f : found (noted same_key done) (program v S w (key_tree k)) ≡ Need j = sym c.in-Ok-Need.ensures.found ∙ ap reached_tree c.in-Ok-Need.field-0-is in
-    IfOk-weaker c.put_on.result (λ t. IsPutOn j a done up ms t vs ns) (λ t. (root : K.Key) (n : ℕ) → IsWalking v S w root n m done up → IsTurned v S w root n l done vs t)
-    (λ t x root n h. on_turned v S w root n m l done up us vs (key_tree k) j a ms ns t h e x f le)
+    let f : found (noted same_key done) (program (world v S w) (key_tree k)) ≡ Need j = sym c.in-Ok-Need.ensures.found ∙ ap reached_tree c.in-Ok-Need.field-0-is in
+    IfOk-weaker c.put_on.result (λ t. IsPutOn j a done up ms t vs ns) (λ t. (root : K.Key) (n : ℕ) → IsWalking (world v S w) root n m done up → IsTurned (world v S w) root n l done vs t)
+    (λ t x root n h. on_turned (world v S w) root n m l done up us vs (key_tree k) j a ms ns t h e x f le)
     c.put_on.ensures.put
 
 pub returns-in-Ok-Need-clause-falls : goal.returns-in-Ok-Need-clause-falls
@@ -169,7 +170,7 @@ returns-in-Ok-Need-clause-falls g c =
     let ms = mark_trees c.take_mark-mark.new.marks.items in
     let ns = mark_trees c.put_on.new.marks.items in
     let (root, n, h) = c.requires.walking in
-    IfOk-weaker c.put_on.result (λ t. IsPutOn j a done up ms t vs ns) (λ t. t ≡ On → left done vs < left done up) (λ t x. put_falls v S w root n c.args.steps.now done up vs j a ms ns t h x) c.put_on.ensures.put
+    IfOk-weaker c.put_on.result (λ t. IsPutOn j a done up ms t vs ns) (λ t. t ≡ On → left done vs < left done up) (λ t x. put_falls (world v S w) root n c.args.steps.now done up vs j a ms ns t h x) c.put_on.ensures.put
 
 pub returns-in-Ok-Need-clause-sound : goal.returns-in-Ok-Need-clause-sound
 returns-in-Ok-Need-clause-sound g c =
@@ -199,9 +200,9 @@ returns-in-Ok-Need-clause-marks g c =
     let a = mark_tree c.in-Ok-Need.mark in
     let ms = mark_trees c.take_mark-mark.new.marks.items in
     let ns = mark_trees c.put_on.new.marks.items in
-    let h = (below_marked (IsMark v S w done) up us (key_tree k) (mark_trees c.args.marks.now.items) ms (mark_tree c.take_mark-mark.result) e c.take_mark-mark.ensures c.requires.marks).0 in
-    let i : IsMark v S w done (key_tree k) a = subst (IsMarked (IsMark v S w done (key_tree k))) c.in-Ok-Need.field-0-is c.in-Ok-Need.ensures.mark in
-    IfOk-weaker c.put_on.result (λ t. IsPutOn j a done up ms t vs ns) (λ t. t ≡ On → AreMarks v S w done vs ns) (λ t x q. on_marks v S w done up us vs (key_tree k) j a ms ns t x e h i q) c.put_on.ensures.put
+    let h = (below_marked (IsMark (world v S w) done) up us (key_tree k) (mark_trees c.args.marks.now.items) ms (mark_tree c.take_mark-mark.result) e c.take_mark-mark.ensures c.requires.marks).0 in
+    let i : IsMark (world v S w) done (key_tree k) a = subst (IsMarked (IsMark (world v S w) done (key_tree k))) c.in-Ok-Need.field-0-is c.in-Ok-Need.ensures.mark in
+    IfOk-weaker c.put_on.result (λ t. IsPutOn j a done up ms t vs ns) (λ t. t ≡ On → AreMarks (world v S w) done vs ns) (λ t x q. on_marks (world v S w) done up us vs (key_tree k) j a ms ns t x e h i q) c.put_on.ensures.put
 
 pub returns-in-None-clause-turned : goal.returns-in-None-clause-turned
 returns-in-None-clause-turned g c = λ root n h.
@@ -211,4 +212,4 @@ returns-in-None-clause-turned g c = λ root n h.
     let done = claims c.args.notes.now in
     let m = c.args.steps.now in
     let e = ap (map key_tree) c.in-None.ensures.none in
-    subst (HasEnded v S w root n m done) (sym e) (end_empty v S w root n m done (subst (IsWalking v S w root n m done) e h))
+    subst (HasEnded (world v S w) root n m done) (sym e) (end_empty (world v S w) root n m done (subst (IsWalking (world v S w) root n m done) e h))

@@ -11,6 +11,7 @@ use Rattle.gl_explain.proofs.Tops.{one_sound}
 use Rattle.gl_explain.proofs.Marks.{nothing_marks}
 use Rattle.gl_explain.proofs.Turns.{begin_walk}
 use Rattle.gl_explain.proofs.walking.walk.Goals as goal
+use Rattle.gl_calculus.specs.Evaluation.World.{world}
 
 pub turns-init : goal.turns-init
 turns-init g c =
@@ -20,10 +21,10 @@ turns-init g c =
     let r = key_tree c.args.root.now in
     let n = c.args.steps.now in
     record {
-      walking = subst (λ d. IsWalking v S w r n n d (map key_tree c.in_ok-stack.stack.keys)) (sym c.new-notes.ensures) (subst (λ u. IsWalking v S w r n n [] u) (sym c.in_ok-stack.ensures) (begin_walk v S w r n c.requires.proper));
+      walking = subst (λ d. IsWalking (world v S w) r n n d (map key_tree c.in_ok-stack.stack.keys)) (sym c.new-notes.ensures) (subst (λ u. IsWalking (world v S w) r n n [] u) (sym c.in_ok-stack.ensures) (begin_walk (world v S w) r n c.requires.proper));
       sound = subst AreSoundKeys (sym c.in_ok-stack.ensures) (one_sound r c.requires.sound);
-      marks = subst (λ u. AreMarks v S w (claims c.new-notes.result) u (mark_trees c.in_ok-marks.marks.items)) (sym c.in_ok-stack.ensures)
-          (subst (AreMarks v S w (claims c.new-notes.result) (r ∷ [])) (sym c.in_ok-marks.ensures) (nothing_marks v S w (claims c.new-notes.result) r, tt));
+      marks = subst (λ u. AreMarks (world v S w) (claims c.new-notes.result) u (mark_trees c.in_ok-marks.marks.items)) (sym c.in_ok-stack.ensures)
+          (subst (AreMarks (world v S w) (claims c.new-notes.result) (r ∷ [])) (sym c.in_ok-marks.ensures) (nothing_marks (world v S w) (claims c.new-notes.result) r, tt));
       later = omega arith;
     }
 
@@ -35,7 +36,7 @@ turns-smaller g c = c.in-Ok-On.ensures.falls c.in-Ok-On.field-0-is
 
 pub turns-preserved : goal.turns-preserved
 turns-preserved g c = record {
-  walking = subst (IsTurned (version_tree c.args.evaluator.now.version) (sheet c.args.evaluator.now.cells.now) c.args.evaluator.now.oracle.now (key_tree c.args.root.now) c.args.steps.now c.turn.new.steps (claims c.turn.new.notes) (map key_tree c.turn.new.stack.keys)) c.in-Ok-On.field-0-is (c.in-Ok-On.ensures.turned (key_tree c.args.root.now) c.args.steps.now c.turns.invariant.walking);
+  walking = subst (IsTurned (world (version_tree c.args.evaluator.now.version) (sheet c.args.evaluator.now.cells.now) c.args.evaluator.now.oracle.now) (key_tree c.args.root.now) c.args.steps.now c.turn.new.steps (claims c.turn.new.notes) (map key_tree c.turn.new.stack.keys)) c.in-Ok-On.field-0-is (c.in-Ok-On.ensures.turned (key_tree c.args.root.now) c.args.steps.now c.turns.invariant.walking);
   sound = c.in-Ok-On.ensures.sound;
   marks = c.in-Ok-On.ensures.marks c.in-Ok-On.field-0-is;
   later = omega (arith, c.turns.invariant.later, c.turn.ensures.later);
@@ -43,10 +44,10 @@ turns-preserved g c = record {
 
 pub returns-in-Ok-Ended-clause-found : goal.returns-in-Ok-Ended-clause-found
 returns-in-Ok-Ended-clause-found g c = (
-  subst (IsTurned (version_tree c.args.evaluator.now.version) (sheet c.args.evaluator.now.cells.now) c.args.evaluator.now.oracle.now (key_tree c.args.root.now) c.args.steps.now c.turn.new.steps (claims c.turn.new.notes) (map key_tree c.turn.new.stack.keys)) c.in-Ok-Ended.field-0-is (c.in-Ok-Ended.ensures.turned (key_tree c.args.root.now) c.args.steps.now c.turns.invariant.walking),
+  subst (IsTurned (world (version_tree c.args.evaluator.now.version) (sheet c.args.evaluator.now.cells.now) c.args.evaluator.now.oracle.now) (key_tree c.args.root.now) c.args.steps.now c.turn.new.steps (claims c.turn.new.notes) (map key_tree c.turn.new.stack.keys)) c.in-Ok-Ended.field-0-is (c.in-Ok-Ended.ensures.turned (key_tree c.args.root.now) c.args.steps.now c.turns.invariant.walking),
   c.in-Ok-Ended.ensures.sound,
 )
 
 pub returns-in-Ok-Full-clause-found : goal.returns-in-Ok-Full-clause-found
 returns-in-Ok-Full-clause-found g c =
-    subst (IsTurned (version_tree c.args.evaluator.now.version) (sheet c.args.evaluator.now.cells.now) c.args.evaluator.now.oracle.now (key_tree c.args.root.now) c.args.steps.now c.turn.new.steps (claims c.turn.new.notes) (map key_tree c.turn.new.stack.keys)) c.in-Ok-Full.field-0-is (c.in-Ok-Full.ensures.turned (key_tree c.args.root.now) c.args.steps.now c.turns.invariant.walking)
+    subst (IsTurned (world (version_tree c.args.evaluator.now.version) (sheet c.args.evaluator.now.cells.now) c.args.evaluator.now.oracle.now) (key_tree c.args.root.now) c.args.steps.now c.turn.new.steps (claims c.turn.new.notes) (map key_tree c.turn.new.stack.keys)) c.in-Ok-Full.field-0-is (c.in-Ok-Full.ensures.turned (key_tree c.args.root.now) c.args.steps.now c.turns.invariant.walking)

@@ -8,6 +8,7 @@ use Rattle.gl_cells.specs.Sheet.{sheet}
 use Rattle.gl_cert.specs.View.{cert_tree}
 use Rattle.gl_demand.specs.View.{budget_tree}
 use Rattle.gl_calculus.specs.Steps.Walk.{AllowsWalk}
+use Rattle.gl_calculus.specs.Evaluation.World.{world}
 use Rattle.gl_explain.specs.View.{explained_tree}
 use Rattle.gl_run.specs.Replies.{IsExplanation}
 use Rattle.gl_run.proofs.explaining.explain_by.Goals as goal
@@ -37,15 +38,15 @@ returns-in-Ok-Cert g c =
     let k = c.certificate.new.steps in
     let m = c.explain_checked.new.steps in
     let is : explained_tree c.in-Ok-Cert.field-0 ≡ E.Cert t = ap explained_tree c.in-Ok-Cert.field-0-is in
-    let P : Vec ℕ Global → Type 0 = λ reply. reply.items ≡ explanation_text (verdict V S w a t) t in
-    let Q : Vec ℕ Global → Type 0 = λ reply. IsExplanation V S w a n m reply.items in
+    let P : Vec ℕ Global → Type 0 = λ reply. reply.items ≡ explanation_text (verdict (world V S w) a t) t in
+    let Q : Vec ℕ Global → Type 0 = λ reply. IsExplanation (world V S w) a n m reply.items in
     IfOk-weaker c.explain_checked.result P Q
     (λ reply e. (
       record {
         certificate = t;
-        explains = subst (Explains V S w a) is c.in-Ok-Cert.ensures.explained;
+        explains = subst (Explains (world V S w) a) is c.in-Ok-Cert.ensures.explained;
         found = k;
-        walk = subst (λ x. AllowsWalk V S w a x n k) is c.in-Ok-Cert.ensures.steps;
+        walk = subst (λ x. AllowsWalk (world V S w) a x n k) is c.in-Ok-Cert.ensures.steps;
         check = c.explain_checked.ensures.steps;
         later = omega (arith, c.certificate.ensures.later, c.explain_checked.ensures.later);
       },

@@ -1,6 +1,7 @@
 use Rattle.std.proofs.Common.{refl, sym, subst}
 use Rattle.std.proofs.lemmas.Result.{IfOk-weaker, IfErr-weaker}
 use Rattle.gl_calculus.specs.Grid.Grid.{AreInOrder}
+use Rattle.gl_calculus.specs.Evaluation.World.{world}
 use Rattle.gl_ast.specs.View.{version_tree}
 use Rattle.gl_cells.specs.Sheet.{sheet}
 use Rattle.gl_calc.specs.Progress.{next_base}
@@ -49,7 +50,7 @@ pub returns-in-Err-evaluated-clause-failed : goal.returns-in-Err-evaluated-claus
 returns-in-Err-evaluated-clause-failed g c =
     let s = c.args.self.now in
     let b = next_base s.tables s.touched.now in
-    stopped_fails (version_tree s.version) (sheet s.cells.now) c.args.w.now b c.in-Err-evaluated.fault c.args.steps.now c.evaluated.new.steps
+    stopped_fails (world (version_tree s.version) (sheet s.cells.now) c.args.w.now) b c.in-Err-evaluated.fault c.args.steps.now c.evaluated.new.steps
     (c.in-Err-evaluated.ensures.stops b (c.in-Ok.ensures.kept s.touched.now c.requires.can.1.covered))
 
 pub returns-in-Err-evaluated-clause-called : goal.returns-in-Err-evaluated-clause-called
