@@ -156,7 +156,7 @@ module _ (version : Version) (S : Cells) (tables : List Table) where
       by : (i ≡ j) ⊎ ((i < j) ⊎ (j < i)) → j < suc i → j < i
       by (inl q) l =
           let same : w ≡ v = one_round version S j w v (subst (λ k. Reaches version S k w) q a) f.0 in
-          absurd (f.1 (subst (SpendsWork version S) same s))
+          absurd (f.1 (subst (λ u. SpendsWork (world version S u)) same s))
       by (inr (inl k)) l = absurd (omega (arith, k, l))
       by (inr (inr k)) l = k
 

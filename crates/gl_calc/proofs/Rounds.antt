@@ -77,7 +77,7 @@ module _ (V : F.Version) (S : Cells) (tables : List M.Table) (touched : List Add
             (next q k u.work h).last,
             record {
               table = subst (λ v. IsTableOf (world V S v) h.table) o h.is_table;
-              unspent = subst (IsUnspent V S) o u;
+              unspent = subst (λ u. IsUnspent (world V S u)) o u;
               answer = subst (λ v. IsAnswer V S (C.Settled v (suc i))) o (costs_answer V S tables touched (C.Settled w (suc i)) n k costs);
             },
           ),
@@ -124,7 +124,7 @@ module _ {T : Type 0} (version : T → Version) (table : T → Table) (marks : T
   same : (t : T) → Same t → (P : F.Version → Cells → List Addr → Type 0) → P (version_tree (version t)) (sheet (table t)) (marks t) → P V S (marks s)
   same t (p, q, r) P x = subst (λ v. P (version_tree v) S (marks s)) p (subst (λ u. P (version_tree (version t)) (sheet u) (marks s)) q (subst (λ m. P (version_tree (version t)) (sheet (table t)) m) r x))
 
-  comes : (i : ℕ) (w : Oracle) (t : T) (d : ℕ) → R.Reaches (Gives V S) CallsOf grid (has_content S) budget s n i w t d → Same t × Stands V S tables (marks s) n i w (progress t) d
+  comes : (i : ℕ) (w : Oracle) (t : T) (d : ℕ) → R.Reaches (λ u. Gives (world V S u)) CallsOf grid (has_content S) budget s n i w t d → Same t × Stands V S tables (marks s) n i w (progress t) d
   comes _ _ _ _ R.first = ((refl, refl, refl), record { before = M.no_table; comes = first; follows = subst (Follows V S tables 0 M.no_table) (sym begun) (follows_first V S tables M.no_table) })
   comes _ _ _ _ (R.later {i = i} {w = w} {zs = zs} {t = t} {t' = u} {d = c} {d' = d} r g k moves more) =
       let (e, m) = comes i w t c r in (
@@ -134,21 +134,21 @@ module _ {T : Type 0} (version : T → Version) (table : T → Table) (marks : T
             (same t e (λ v x y. Keeps v x y (progress t) w (progress u) c d) k.3),
       )
 
-  pub settles_at : (w : Oracle) (i : ℕ) (t : T) (d : ℕ) → A.Settles (Gives V S) (Fails V S) CallsOf grid (has_content S) budget s n w i t d → Leaves V S tables (marks s) (C.Settled w i) (progress t) n d × ((x : M.Table) × (before_of (progress t) ≡ Some x) × IsSettledTable V S i x)
+  pub settles_at : (w : Oracle) (i : ℕ) (t : T) (d : ℕ) → A.Settles (λ u. Gives (world V S u)) (λ u. Fails (world V S u)) CallsOf grid (has_content S) budget s n w i t d → Leaves V S tables (marks s) (C.Settled w i) (progress t) n d × ((x : M.Table) × (before_of (progress t) ≡ Some x) × IsSettledTable V S i x)
   settles_at w i t d h =
       let (e, m) = comes h.round w h.call.object h.call.count h.call.reached in
       let keeps = same h.call.object e (λ v x y. Keeps v x y (progress h.call.object) w (progress t) h.call.count d) h.call.called.3 in
       subst (λ r. Leaves V S tables (marks s) (C.Settled w r) (progress t) n d × ((x : M.Table) × (before_of (progress t) ≡ Some x) × IsSettledTable V S r x)) (sym h.counted)
       (settles V S tables (marks s) n h.round w (progress h.call.object) h.call.count m (progress t) d h.given.0 (h.sizes, h.given.1, sym h.stays) keeps)
 
-  runs_out_at : (a : Addr) (t : T) (d : ℕ) → A.RunsOut (Gives V S) (Fails V S) CallsOf grid (has_content S) budget s n a t d → Leaves V S tables (marks s) (C.Spent (C.Rounds a)) (progress t) n d
+  runs_out_at : (a : Addr) (t : T) (d : ℕ) → A.RunsOut (λ u. Gives (world V S u)) (λ u. Fails (world V S u)) CallsOf grid (has_content S) budget s n a t d → Leaves V S tables (marks s) (C.Spent (C.Rounds a)) (progress t) n d
   runs_out_at a t d h =
       let (e, m) = comes h.round h.oracle h.call.object h.call.count h.call.reached in
       runs_out V S tables (marks s) n h.round h.oracle (progress h.call.object) h.call.count m (grant grid (has_content S) h.sizes) a (progress t) d h.given.0
       (rounds (grant grid (has_content S) h.sizes) h.given.0 (h.sizes, h.given.1, refl) h.differs (h.spent ∙ allowed))
       (same h.call.object e (λ v x y. Keeps v x y (progress h.call.object) h.oracle (progress t) h.call.count d) h.call.called.3)
 
-  breaks_at : (e : RoundFault) (k : SpentKind) (t : T) (d : ℕ) → spent_by (iter.Round e) ≡ Some k → A.Breaks (Gives V S) (Fails V S) CallsOf grid (has_content S) budget s n e t d → Leaves V S tables (marks s) (C.Spent (spent_tree k)) (progress t) n d
+  breaks_at : (e : RoundFault) (k : SpentKind) (t : T) (d : ℕ) → spent_by (iter.Round e) ≡ Some k → A.Breaks (λ u. Gives (world V S u)) (λ u. Fails (world V S u)) CallsOf grid (has_content S) budget s n e t d → Leaves V S tables (marks s) (C.Spent (spent_tree k)) (progress t) n d
   breaks_at fault.Work k t d e h =
       let (i, m) = comes h.round h.oracle h.call.object h.call.count h.call.reached in
       let b : spent.Work ≡ k = cc e in
@@ -169,14 +169,14 @@ module _ {T : Type 0} (version : T → Version) (table : T → Table) (marks : T
       (same h.call.object i (λ v x y. Keeps v x y (progress h.call.object) h.oracle (progress t) h.call.count d) h.call.called.3))
   breaks_at fault.NoMemory k t d e h = absurd (cc e)
 
-  spends_at : (f : IterFault RoundFault) (k : SpentKind) (t : T) (d : ℕ) → spent_by f ≡ Some k → A.Answers (Gives V S) (Fails V S) CallsOf grid (has_content S) budget s n (Err f) t d → Leaves V S tables (marks s) (C.Spent (spent_tree k)) (progress t) n d
+  spends_at : (f : IterFault RoundFault) (k : SpentKind) (t : T) (d : ℕ) → spent_by f ≡ Some k → A.Answers (λ u. Gives (world V S u)) (λ u. Fails (world V S u)) CallsOf grid (has_content S) budget s n (Err f) t d → Leaves V S tables (marks s) (C.Spent (spent_tree k)) (progress t) n d
   spends_at (iter.Rounds a) k t d e h = (let b : spent.Rounds a ≡ k = cc e in subst (λ u. Leaves V S tables (marks s) (C.Spent (spent_tree u)) (progress t) n d) b (runs_out_at a t d h))
   spends_at (iter.Round f) k t d e h = breaks_at f k t d e h
   spends_at iter.NoMemory k t d e h = absurd (cc e)
 
   -- the same where the bound is said otherwise
-  pub settles_within : (bound : Range) → bound ≡ grid → (w : Oracle) (i : ℕ) (t : T) (d : ℕ) → A.Settles (Gives V S) (Fails V S) CallsOf bound (has_content S) budget s n w i t d → Leaves V S tables (marks s) (C.Settled w i) (progress t) n d × ((x : M.Table) × (before_of (progress t) ≡ Some x) × IsSettledTable V S i x)
-  settles_within bound e w i t d h = settles_at w i t d (subst (λ b. A.Settles (Gives V S) (Fails V S) CallsOf b (has_content S) budget s n w i t d) e h)
+  pub settles_within : (bound : Range) → bound ≡ grid → (w : Oracle) (i : ℕ) (t : T) (d : ℕ) → A.Settles (λ u. Gives (world V S u)) (λ u. Fails (world V S u)) CallsOf bound (has_content S) budget s n w i t d → Leaves V S tables (marks s) (C.Settled w i) (progress t) n d × ((x : M.Table) × (before_of (progress t) ≡ Some x) × IsSettledTable V S i x)
+  settles_within bound e w i t d h = settles_at w i t d (subst (λ b. A.Settles (λ u. Gives (world V S u)) (λ u. Fails (world V S u)) CallsOf b (has_content S) budget s n w i t d) e h)
 
-  pub spends_within : (bound : Range) → bound ≡ grid → (f : IterFault RoundFault) (k : SpentKind) (t : T) (d : ℕ) → spent_by f ≡ Some k → A.Answers (Gives V S) (Fails V S) CallsOf bound (has_content S) budget s n (Err f) t d → Leaves V S tables (marks s) (C.Spent (spent_tree k)) (progress t) n d
-  spends_within bound e f k t d p h = spends_at f k t d p (subst (λ b. A.Answers (Gives V S) (Fails V S) CallsOf b (has_content S) budget s n (Err f) t d) e h)
+  pub spends_within : (bound : Range) → bound ≡ grid → (f : IterFault RoundFault) (k : SpentKind) (t : T) (d : ℕ) → spent_by f ≡ Some k → A.Answers (λ u. Gives (world V S u)) (λ u. Fails (world V S u)) CallsOf bound (has_content S) budget s n (Err f) t d → Leaves V S tables (marks s) (C.Spent (spent_tree k)) (progress t) n d
+  spends_within bound e f k t d p h = spends_at f k t d p (subst (λ b. A.Answers (λ u. Gives (world V S u)) (λ u. Fails (world V S u)) CallsOf b (has_content S) budget s n (Err f) t d) e h)

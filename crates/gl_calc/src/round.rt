@@ -112,9 +112,9 @@ impl<F: Fn(u8, u64, u64) -> u64, L: Watch> Round for TopRound<'_, F, L> {
 
     ghost under = { λ s w. AreApart w };
 
-    ghost gives = { λ s. Gives (version_tree s.version) (sheet s.cells.now) };
+    ghost gives = { λ s w. Gives (world (version_tree s.version) (sheet s.cells.now) w) };
 
-    ghost fails = { λ s. Fails (version_tree s.version) (sheet s.cells.now) };
+    ghost fails = { λ s w. Fails (world (version_tree s.version) (sheet s.cells.now) w) };
 
     ghost calls = { λ s c w r t d.
         (t.version ≡ s.version)
