@@ -1,15 +1,14 @@
 -- The steps of a round that is run to its end, beginning with what is kept of a table.
 use Rattle.std.proofs.Common.{◌≡◌, ℕ, ◌+◌, ◌-◌, ◌^◌, ◌≤◌, ◌<◌, List, [], ◌∷◌, ◌||◌, Bool, length, inl, inr, true, false, cond, Some, refl, sym, ap, subst, ◌∙◌, arith}
-use Rattle.gl_calculus.specs.Computation.Lists.{Member, AreDistinct, MoreThan}
+use Rattle.gl_calculus.specs.Computation.Lists.{Member, MoreThan}
 use Rattle.gl_machine.specs.Quiet.{IsQuiet}
 use Rattle.gl_machine.specs.InOrder.{AreOrdered}
 use Rattle.gl_calculus.specs.Computation.Demanded.{Demanded}
-use Rattle.gl_machine.specs.Machine.{Entry, Status, Idle, Waiting, Resolved, at, keys}
+use Rattle.gl_machine.specs.Machine.{Entry, Status, Idle, Waiting, Resolved, at}
 use Rattle.gl_calculus.specs.Computation.Notes.{Note, Here}
 use Rattle.gl_machine.specs.Remembered.{IsDropped}
-use Rattle.gl_machine.specs.Costs.{unnoted, settled, settled_of, step_of}
+use Rattle.gl_machine.specs.Costs.{settled, settled_of, step_of}
 use Rattle.laws_calculus.proofs.Query.Quiet.{distinct_within}
-use Rattle.laws_calculus.proofs.Query.Lookups.{member_known}
 use Rattle.laws_calculus.proofs.Query.Credit.{at-entry}
 use Rattle.laws_calculus.proofs.Query.Proved.{kept_or_dropped}
 use Rattle.gl_calculus.specs.Grid.Grid.{Addr, Range}
@@ -21,13 +20,13 @@ use Rattle.gl_calculus.specs.Evaluation.Evaluation.{program}
 use Rattle.gl_calculus.specs.Grid.Limits.{max_demanded}
 use Rattle.gl_calculus.specs.Calculation.Calculation.{SpendsWork}
 use Rattle.gl_calculus.specs.Calculation.Memory.{Table, Notes, differs_in, IsKeptKey}
-use Rattle.gl_calculus.specs.Steps.Costs.{Finishes}
+use Rattle.gl_calculus.specs.Steps.Allowance.{Allows, HasReads}
+use Rattle.gl_calculus.specs.Steps.Costs.{IsAnew, Finishes, Breaks}
 use Rattle.gl_calculus.proofs.Tests.{key_equality}
 use Rattle.gl_core.specs.Held.{Held}
 use Rattle.gl_core.specs.State.{State, state_of, seeds_of, notes_in, is_noted, IsFor}
-use Rattle.gl_calculus.specs.Steps.Demanded.{AllowsDemanded}
-use Rattle.gl_core.specs.Answers.{AllowsKnown}
-use Rattle.gl_calculus.specs.Steps.Rounds.{Breaks}
+use Rattle.laws_calculus.proofs.Calculus.Allowances.{no_steps, allows_wider}
+use Rattle.gl_core.specs.Answers.{IsUnnoted}
 use Rattle.gl_calc.specs.Kept.{AreKept}
 use Rattle.gl_calc.specs.Shown.{IsRound}
 use Rattle.gl_calc.specs.Starting.{IsStarted}
@@ -83,23 +82,6 @@ module _ (b : Table × List Addr) (w : Oracle) (kept : Notes) (h : AreKept b w k
 -- ---- keys of a state by their notes
 
 module _ (noted : K.Key → Bool) where
-  among : (st : State) (k : K.Key) → Member k (unnoted noted st) → Member k (keys st) × (noted k ≡ false)
-  among [] k m = absurd m
-  among (x ∷ st) k m = by (noted x.key) refl m (among st k)
-    where
-      by : (b : Bool) → noted x.key ≡ b → Member k (cond b (unnoted noted st) (x.key ∷ unnoted noted st)) → (Member k (unnoted noted st) → Member k (keys st) × (noted k ≡ false)) → Member k (x.key ∷ keys st) × (noted k ≡ false)
-      by true e i r = let (a, b) = r i in (inr a, b)
-      by false e (inl d) r = (inl d, ap noted d ∙ e)
-      by false e (inr i) r = let (a, b) = r i in (inr a, b)
-
-  unnoted_apart : (st : State) → AreDistinct (keys st) → AreDistinct (unnoted noted st)
-  unnoted_apart [] d = tt
-  unnoted_apart (x ∷ st) d = by (noted x.key) (unnoted_apart st d.1)
-    where
-      by : (b : Bool) → AreDistinct (unnoted noted st) → AreDistinct (cond b (unnoted noted st) (x.key ∷ unnoted noted st))
-      by true r = r
-      by false r = ((λ m. d.0 (among st x.key m).0), r)
-
   -- the resolved keys without a note, which are as many as are settled
   abbrev resolved_then : Status K.Key K.Outcome → K.Key → List K.Key → List K.Key
   resolved_then Idle k ks = ks
@@ -163,42 +145,33 @@ module _ (W : World) (core : Held) (h : IsStarted W core) (n m : ℕ) where
   pub still_started : (q : Held) → seeds_of q ≡ seeds_of core → IsFor W q → AreOrdered [] (notes_in q) → IsStarted W q
   still_started q s f o = record { seeds = s ∙ h.seeds; ordered = o; for_it = f }
 
-  pub finishes : (q : Held) → IsQuiet same_key (program W) (seeds_of core) (state_of q) → IsFor W q → AllowsKnown (program W) (is_noted (notes_in core)) (state_of q) n m →
-      (m < 2 ^ 64 - 1 → n + settled (is_noted (notes_in core)) (state_of q) ≤ m + settled (is_noted (notes_in core)) (state_of core)) → (b : Table × List Addr) (i : ℕ) → AreKept b W.oracle (notes_in core) → Finishes W b i n m
-  finishes q r f a l b i kept =
+  -- a demanded key without a note isn't kept
+  anew : (b : Table × List Addr) → AreKept b W.oracle (notes_in core) → (k : K.Key) → IsUnnoted W (seeds_of core) (is_noted (notes_in core)) k → IsAnew W b k
+  anew b kept k (p, u) = (subst (λ ks. Demanded (program W) ks k) h.seeds p, unnoted_anew b W.oracle (notes_in core) kept k u)
+
+  pub finishes : (q : Held) → IsQuiet same_key (program W) (seeds_of core) (state_of q) →
+      Allows W (λ k. IsUnnoted W (seeds_of core) (is_noted (notes_in core)) k × HasReads W k) n m →
+      (m < 2 ^ 64 - 1 → n + settled (is_noted (notes_in core)) (state_of q) ≤ m + settled (is_noted (notes_in core)) (state_of core)) →
+      (b : Table × List Addr) (i : ℕ) → AreKept b W.oracle (notes_in core) → Finishes W b i n m
+  finishes q r a l b i kept =
       let noted = is_noted (notes_in core) in
       let round = quiet_round q r in
-      let none : settled noted (state_of core) ≡ 0 = none_settled noted (state_of core) (λ x j o s. h.for_it.noted x.key o (at-entry same_key key_equality (state_of core) x h.for_it.sound.apart j ∙ ap Some s)) in
-      record {
-        counts = a.counts;
-        distinct = subst AreDistinct (sym a.keys) (unnoted_apart noted (state_of q) f.sound.apart);
-        each = λ k j.
-            let (p, u) = among noted (state_of q) k (subst (Member k) a.keys j) in
-            (round.known_demanded k (member_known same_key key_equality (state_of q) k p), unnoted_anew b W.oracle (notes_in core) kept k u);
-        reads = a.reads;
-        most = a.most;
-        least = λ few ks d each small.
+      let none : settled noted (state_of core) ≡ 0 = none_settled noted (state_of core) (λ x j o s. h.for_it.noted x.key o (at-entry same_key key_equality (state_of core) x h.for_it.sound.apart j ∙ ap Some s)) in (
+        allows_wider a (λ k p. (anew b kept k p.0, p.1)),
+        λ few ks d each small.
             let some = as_many noted (state_of q) in
             let inside : length ks ≤ length (resolved_keys noted (state_of q)) =
             distinct_within ks (resolved_keys noted (state_of q)) d (λ k e.
             (let ((p, u), (o, g)) = each k e in
             resolved_member noted (state_of q) k o (anew_unnoted b W.oracle (notes_in core) kept k u) (round.having_resolved k o p g))) in
             let bound = l small in
-            omega (arith, inside, some, bound, none);
-      }
+            omega (arith, inside, some, bound, none),
+      )
 
-  pub breaks : AllowsDemanded (Demanded (program W) (seeds_of core)) (program W) (is_noted (notes_in core)) n m → (b : Table × List Addr) → AreKept b W.oracle (notes_in core) → Breaks W b n m
-  breaks a b kept = record {
-    keys = a.keys;
-    distinct = a.distinct;
-    few = a.few;
-    each = λ k j. (let (p, u) = a.each k j in ((subst (λ ks. Demanded (program W) ks k) h.seeds p, unnoted_anew b W.oracle (notes_in core) kept k u), refl));
-    most = a.most;
-  }
-
-  pub stops_work : MoreThan max_demanded (Demanded (program W) (seeds_of core)) → AllowsDemanded (Demanded (program W) (seeds_of core)) (program W) (is_noted (notes_in core)) n m → (b : Table × List Addr) → AreKept b W.oracle (notes_in core) → SpendsWork W × Breaks W b n m
-  stops_work more a b kept = (subst (λ ks. MoreThan max_demanded (Demanded (program W) ks)) h.seeds more, breaks a b kept)
+  pub stops_work : MoreThan max_demanded (Demanded (program W) (seeds_of core)) → Allows W (IsUnnoted W (seeds_of core) (is_noted (notes_in core))) n m →
+      (b : Table × List Addr) → AreKept b W.oracle (notes_in core) → SpendsWork W × Breaks W b n m
+  stops_work more a b kept = (subst (λ ks. MoreThan max_demanded (Demanded (program W) ks)) h.seeds more, allows_wider a (anew b kept))
 
 -- where no round was begun, no step was taken
 pub none_taken : (W : World) (b : Table × List Addr) (n : ℕ) → Breaks W b n n
-none_taken W b n = record { keys = []; distinct = tt; few = omega arith; each = λ k m. absurd m; most = λ cs e r. omega arith }
+none_taken W b n = no_steps W (IsAnew W b) n

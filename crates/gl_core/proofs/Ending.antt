@@ -14,7 +14,7 @@ use Rattle.laws_calculus.proofs.Query.Quiet.{quiet}
 use Rattle.laws_calculus.proofs.Query.Counts.{full_demands, pick_less}
 use Rattle.laws_calculus.proofs.Query.Credit.{credit_allowed, full_allowed}
 use Rattle.laws_calculus.proofs.Query.Bound.{allowed_within}
-use Rattle.laws_calculus.proofs.Query.Tables.{quiet_counted}
+use Rattle.laws_calculus.proofs.Query.Tables.{quiet_reads}
 use Rattle.laws_calculus.proofs.Query.Proved.{no_idle}
 use Rattle.gl_calculus.specs.Grid.Limits.{max_demanded}
 use Rattle.gl_calculus.specs.Grid.Grid.{Range}
@@ -31,8 +31,8 @@ use Rattle.gl_core.specs.Held.{Held}
 use Rattle.gl_core.specs.State.{State, state_of, seeds_of, notes_in, is_noted, newly_noted, noted_after, IsFor}
 use Rattle.gl_machine.specs.InOrder.{AreOrdered}
 use Rattle.gl_calculus.specs.Computation.Notes.{note_keys}
-use Rattle.gl_calculus.specs.Steps.Demanded.{AllowsDemanded}
-use Rattle.gl_core.specs.Answers.{counted, AtMostCounted, AllowsKnown}
+use Rattle.gl_calculus.specs.Steps.Allowance.{Allows, HasReads}
+use Rattle.gl_core.specs.Answers.{counted, AtMostCounted, IsUnnoted}
 use Rattle.gl_core.proofs.Seeing.{none_of}
 
 -- a run of picks from one core to another, with the count of steps
@@ -44,9 +44,10 @@ pub record IsRun (W : World) (first now : Held) (n m : ℕ) : Type 0 where
   pub before : (k : K.Key) → is_noted (notes_in now) k ≡ true → (is_noted (notes_in first) k ≡ true) ⊎ ((o : K.Outcome) × (at same_key (state_of now) k ≡ Some (Resolved o)))
   pub most : m ≤ n + total same_key (program W) (is_noted (notes_in first)) (state_of now)
   pub least : m < 2 ^ 64 - 1 → n + settled (is_noted (notes_in first)) (state_of now) ≤ m + settled (is_noted (notes_in first)) (state_of first)
+  pub later : n ≤ m
 
 pub run_begun : (W : World) (c : Held) (n : ℕ) → IsFor W c → IsRun W c c n n
-run_begun W c n h = record { for_it = h; seeds = refl; ordered = λ o. o; stay = λ k e. e; before = λ k e. inl e; most = omega arith; least = λ l. omega arith }
+run_begun W c n h = record { for_it = h; seeds = refl; ordered = λ o. o; stay = λ k e. e; before = λ k e. inl e; most = omega arith; least = λ l. omega arith; later = omega arith }
 
 -- ---- notes by their keys
 
@@ -148,6 +149,22 @@ counts_up n = by (nat_lt n 18446744073709551615)
     by true = omega arith
     by false = omega arith
 
+counts_on : (n : ℕ) → n ≤ one_more n
+counts_on n = by (nat_lt n 18446744073709551615)
+  where
+    by : (b : Bool) → n ≤ (if b then n + 1 else n)
+    by true = omega arith
+    by false = omega arith
+
+counted_later : (noted : K.Key → Bool) (v : Option K.Key) (n m : ℕ) → AtMostCounted noted v n m → n ≤ m
+counted_later noted v n m (inl e) = omega (arith, e)
+counted_later noted None n m (inr e) = omega (arith, e)
+counted_later noted (Some k) n m (inr e) = by (noted k) e
+  where
+    by : (b : Bool) → m ≡ cond b n (one_more n) → n ≤ m
+    by true d = omega (arith, d)
+    by false d = let u = counts_on n in omega (arith, d, u)
+
 counted_most : (b : Bool) (n : ℕ) → cond b n (one_more n) ≤ n + cond b 0 1
 counted_most true n = omega arith
 counted_most false n = counts_up n
@@ -223,6 +240,7 @@ module _ (W : World) (first c : Held) (n m : ℕ) (h : IsRun W first c n m) (i :
             (λ s t. let (o, r) = turn_resolves st k idle max_demanded e (sym answer_is ∙ t) in inr (o, ap (at same_key (state_of c')) s ∙ ap (λ x. at same_key x k) turned ∙ r));
         most = subst (λ t. m' ≤ n + total same_key p noted t) (sym state) high;
         least = λ b. subst (λ t. n + settled noted t ≤ m' + settled noted (state_of first)) (sym state) (low b);
+        later = let up = counted_later (is_noted (notes_in c)) (nth (idle_keys st) i) m m' count in omega (arith, h.later, up);
       }
 
   -- a pick that isn't Full leaves less to do
@@ -287,7 +305,7 @@ module _ (W : World) (first c : Held) (n m : ℕ) (h : IsRun W first c n m) wher
   sums_allow cs e r = allowed_within same_key key_equality (program W) (is_noted (notes_in first)) (table same_key (state_of c)) (true_table same_key key_equality (program W) (seeds_of c) (state_of c) h.for_it.sound) (state_of c) cs e r
 
   pub full_allows : (i : ℕ) → i < length (idle_keys (state_of c)) → Picked.Full ≡ answer_at same_key max_demanded (program W) (state_of c) (nth (idle_keys (state_of c)) i) → (m' : ℕ) → AtMostCounted (is_noted (notes_in c)) (nth (idle_keys (state_of c)) i) m m' →
-      AllowsDemanded (Demanded (program W) (seeds_of first)) (program W) (is_noted (notes_in first)) n m'
+      Allows W (IsUnnoted W (seeds_of first) (is_noted (notes_in first))) n m'
   full_allows i l full m' count =
       let st = state_of c in
       let p = program W in
@@ -304,6 +322,7 @@ module _ (W : World) (first c : Held) (n m : ℕ) (h : IsRun W first c n m) wher
             let a = sums_allow cs e r in
             let b = full_allowed same_key key_equality max_demanded p (seeds_of c) noted (table same_key st) k st idle in
             omega (arith, a, b, up, h.most);
+        later = let l = counted_later (is_noted (notes_in c)) (nth (idle_keys st) i) m m' count in omega (arith, h.later, l);
       }
 
   module _ (quiet_now : length (idle_keys (state_of c)) ≡ 0) where
@@ -316,10 +335,18 @@ module _ (W : World) (first c : Held) (n m : ℕ) (h : IsRun W first c n m) wher
     pub run_few : MoreThan max_demanded (Demanded (program W) (seeds_of first)) → ⊥
     run_few (xs, l, d, each) = let a = run_quiet.no_more xs d each in omega (arith, a, l, h.for_it.within)
 
-    pub run_allows : AllowsKnown (program W) (is_noted (notes_in first)) (state_of c) n m
+    pub run_allows : Allows W (λ k. IsUnnoted W (seeds_of first) (is_noted (notes_in first)) k × HasReads W k) n m
     run_allows =
         let noted = is_noted (notes_in first) in
-        let (cs, e, r) = quiet_counted same_key key_equality (program W) (seeds_of c) (state_of c) h.for_it.sound none_idle noted in
-        let a = sums_allow cs e r in
         let b = credit_allowed same_key key_equality max_demanded (program W) (seeds_of c) noted (table same_key (state_of c)) (state_of c) in
-        record { counts = cs; keys = e; reads = r; most = omega (arith, a, b, h.most) }
+        record {
+          keys = unnoted noted (state_of c);
+          distinct = unnoted_apart noted (state_of c) h.for_it.sound.apart;
+          few = let a = unnoted_few noted (state_of c) in omega (arith, a, h.for_it.within);
+          each = λ k i.
+              let (y, z) = among noted (state_of c) k i in
+              let known = known_key (state_of c) k y in
+              ((subst (λ t. Demanded (program W) t k) h.seeds (h.for_it.sound.demanded k known), z), _, quiet_reads same_key key_equality (program W) (seeds_of c) (state_of c) h.for_it.sound none_idle k known);
+          most = λ cs e r. let a = sums_allow cs e r in omega (arith, a, b, h.most);
+          later = h.later;
+        }

@@ -1,12 +1,11 @@
 -- What picks and runs answer, and the steps that they take.
-use Rattle.std.specs.Prelude.{◌≡◌, ◌⊎◌, ℕ, ◌+◌, ◌≤◌, List, slice_get, Option, Some, None, Bool, cond, IsTrue, IfSome, IsSome}
-use Rattle.gl_calculus.specs.Computation.Query.{Query}
+use Rattle.std.specs.Prelude.{◌≡◌, ◌⊎◌, ℕ, List, slice_get, Option, Some, None, Bool, false, cond, IsTrue, IfSome, IsSome}
+use Rattle.gl_calculus.specs.Computation.Demanded.{Demanded}
 use Rattle.gl_machine.specs.Machine as Machine
-use Rattle.gl_calculus.specs.Steps.Counted.{Counted, counted_keys, AreReads, sum_reads}
-use Rattle.gl_machine.specs.Costs.{unnoted}
 use Rattle.gl_calculus.specs.Grid.Grid.{Range}
 use Rattle.gl_calculus.specs.Evaluation.Key as K
-use Rattle.gl_calculus.specs.Evaluation.Key.{same_key}
+use Rattle.gl_calculus.specs.Evaluation.World.{World}
+use Rattle.gl_calculus.specs.Evaluation.Evaluation.{program}
 use Rattle.gl_calculus.specs.Evaluation.Sound.{is_sound_outcome, is_outcome_of}
 use Rattle.gl_demand.specs.View.{outcome_tree}
 use Rattle.gl_demand.specs.Steps.{one_more}
@@ -33,12 +32,9 @@ counted noted (Some k) n = cond (noted k) n (one_more n)
 abbrev pub AtMostCounted : (K.Key → Bool) → Option K.Key → ℕ → ℕ → Type 0
 AtMostCounted noted v n m = (m ≡ n) ⊎ (m ≡ counted noted v n)
 
--- The steps from n to m are at most 1 and the number of reads for each known key without a note, of which the reads are there.
-pub record AllowsKnown (program : K.Key → Query K.Key K.Outcome Range K.Outcome) (noted : K.Key → Bool) (st : State) (n m : ℕ) : Type 0 where
-  pub counts : List (Counted K.Key)
-  pub keys : counted_keys counts ≡ unnoted noted st
-  pub reads : AreReads same_key program counts
-  pub most : m ≤ n + sum_reads counts
+-- the key is demanded from these seeds, and had no note at the start
+abbrev pub IsUnnoted : World → List K.Key → (K.Key → Bool) → K.Key → Type 0
+IsUnnoted W seeds noted k = Demanded (program W) seeds k × (noted k ≡ false)
 
 -- what is seen of a key by its status, where no key is idle
 abbrev pub IsSeen : Seen → Option (Machine.Status K.Key K.Outcome) → Type 0

@@ -26,10 +26,10 @@ ghost use Rattle.gl_order.specs.Rule.{rule_of};
 ghost use Rattle.gl_memo.specs.Notes.{notes_of};
 ghost use Rattle.gl_demand.specs.{View.key_tree, Sound.AreSoundKeys, Marks.mark_trees};
 ghost use Rattle.gl_demand.specs.{Evaluators.program_of};
-ghost use Rattle.gl_calculus.specs.Steps.Demanded.{AllowsDemanded};
+ghost use Rattle.gl_calculus.specs.Steps.Allowance.{Allows, HasReads};
 ghost use Rattle.gl_core.specs.State.{state_of, seeds_of, notes_in, note_trees, is_noted};
 ghost use Rattle.gl_core.specs.State.{noted_after, HaveSoundParts, AreSoundNotes, IsFor};
-ghost use Rattle.gl_core.specs.Answers.{picked_tree, counted, AtMostCounted, AllowsKnown};
+ghost use Rattle.gl_core.specs.Answers.{picked_tree, counted, AtMostCounted, IsUnnoted};
 ghost use Rattle.gl_core.specs.{Table.IsTable, Table.AreIdle, Table.IsCore, Table.held};
 ghost use Rattle.gl_core.specs.{Held.Held, Marks.TellNothing, Marks.coded_mark, Started.IsStarted};
 
@@ -298,14 +298,14 @@ impl Core {
             (Demanded (program (world (version_tree version) (sheet cells.now) w.now)) (seeds_of self))
             → ⊥) }
         ensures most { IfOk result (λ q.
-            AllowsKnown (program (world (version_tree version) (sheet cells.now) w.now))
-            (is_noted (notes_in self)) (state_of q) steps.old steps.new) }
+            let W = world (version_tree version) (sheet cells.now) w.now in
+            let noted = is_noted (notes_in self) in
+            Allows W (λ k. IsUnnoted W (seeds_of self) noted k × HasReads W k) steps.old steps.new) }
         ensures most_work { IfErr result (λ e.
+            let W = world (version_tree version) (sheet cells.now) w.now in
             e ≡ CoreFault.Work
-            → AllowsDemanded
-            (Demanded (program (world (version_tree version) (sheet cells.now) w.now)) (seeds_of self))
-            (program (world (version_tree version) (sheet cells.now) w.now)) (is_noted (notes_in self))
-            steps.old steps.new) }
+            → Allows W (IsUnnoted W (seeds_of self) (is_noted (notes_in self))) steps.old steps.new) }
+        ensures later { steps.old ≤ steps.new }
         ensures least { IfOk result (λ q.
             steps.new < 2 ^ 64 - 1
             → steps.old + settled (is_noted (notes_in self)) (state_of q)

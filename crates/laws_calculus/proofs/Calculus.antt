@@ -1,6 +1,7 @@
 -- Lemmas of evaluation, oracles and answers.
 pub mod Apart
 pub mod Fits
+pub mod Allowances
 pub mod Keeps
 pub mod OutcomeTests
 pub mod Proper

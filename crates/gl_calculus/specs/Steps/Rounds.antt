@@ -1,19 +1,13 @@
 -- The steps of a calculation, round by round, where rounds begin with tables from before.
-use Rattle.std.specs.Prelude.{ℕ, suc, List, [], false}
+use Rattle.std.specs.Prelude.{ℕ, suc, List, []}
 use Rattle.gl_calculus.specs.Grid.Grid.{Addr}
 use Rattle.gl_calculus.specs.Values.Value.{Oracle}
 use Rattle.gl_calculus.specs.Formulas.Formula.{Version, Cells}
 use Rattle.gl_calculus.specs.Evaluation.World.{World, world}
-use Rattle.gl_calculus.specs.Evaluation.Evaluation.{program}
 use Rattle.gl_calculus.specs.Calculation.Calculation as C
 use Rattle.gl_calculus.specs.Calculation.Calculation.{GoesOn, Ends}
 use Rattle.gl_calculus.specs.Calculation.Memory.{Table, no_table, base, IsTableOf}
-use Rattle.gl_calculus.specs.Steps.Costs.{IsAnew, Finishes}
-use Rattle.gl_calculus.specs.Steps.Demanded.{AllowsDemanded}
-
--- the steps of a round that spends its work, begun with a table and with what was touched since
-abbrev pub Breaks : World → Table × List Addr → ℕ → ℕ → Type 0
-Breaks W b n m = AllowsDemanded (IsAnew W b) (program W) (λ k. false) n m
+use Rattle.gl_calculus.specs.Steps.Costs.{Finishes, Breaks}
 
 -- the steps of the last round, by the answer
 abbrev pub Last : World → C.Answer → Table × List Addr → ℕ → ℕ → ℕ → Type 0

@@ -1,22 +1,24 @@
 -- How many steps an explanation may take.
-use Rattle.std.specs.Prelude.{ℕ, List, false}
+use Rattle.std.specs.Prelude.{ℕ, List, ◌++◌, map}
+use Rattle.gl_calculus.specs.Computation.Lists.{Member}
 use Rattle.gl_calculus.specs.Computation.Demanded.{Demanded}
 use Rattle.gl_calculus.specs.Grid.Grid.{Addr}
-use Rattle.gl_calculus.specs.Evaluation.Key.{Key, Outcome, same_key}
+use Rattle.gl_calculus.specs.Evaluation.Key.{Key, Outcome}
 use Rattle.gl_calculus.specs.Evaluation.World.{World}
 use Rattle.gl_calculus.specs.Evaluation.Evaluation.{program}
 use Rattle.gl_calculus.specs.Explanation.Walk.{Claim, Explained}
 use Rattle.gl_calculus.specs.Explanation.Certificate.{Answer, Cert, Work, Aborts, key_at, start, IsWalked}
-use Rattle.gl_calculus.specs.Steps.Allowance.{AllowsNotes}
-use Rattle.gl_calculus.specs.Steps.Demanded.{AllowsDemanded}
+use Rattle.gl_calculus.specs.Steps.Allowance.{Allows, HasReads}
 
--- the steps from n to m of the walk with this end: at most 1 and the number of reads for each key
--- that was on its stack
+-- the key of a note or of a loop, whose reads are there
+abbrev pub IsExplainedKey : World → List (Claim Key Outcome) → List Key → Key → Type 0
+IsExplainedKey W notes loops k = Member k (map (λ n. n.0) notes ++ loops) × HasReads W k
+
+-- the steps from n to m of the walk with this end, as the keys allow that were on its stack
 abbrev pub AllowsWalk : World → Addr → Answer → ℕ → ℕ → Type 0
-AllowsWalk W a (Cert c) n m = AllowsNotes same_key (program W) c.notes c.loops n m
+AllowsWalk W a (Cert c) n m = Allows W (IsExplainedKey W c.notes c.loops) n m
 AllowsWalk W a (Aborts b) n m =
-    (notes : List (Claim Key Outcome)) × (loops : List Key) × IsWalked W a (Explained notes loops) ×
-    AllowsNotes same_key (program W) notes loops n m
+    (notes : List (Claim Key Outcome)) × (loops : List Key) ×
+    IsWalked W a (Explained notes loops) × Allows W (IsExplainedKey W notes loops) n m
 AllowsWalk W a Work n m =
-    AllowsDemanded (Demanded (program W) (start (key_at W.sheet W.oracle a))) (program W)
-    (λ k. false) n m
+    Allows W (Demanded (program W) (start (key_at W.sheet W.oracle a))) n m

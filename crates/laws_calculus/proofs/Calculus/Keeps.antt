@@ -22,6 +22,7 @@ use Rattle.gl_calculus.proofs.Tests.{and_true, addr_same, bool_same}
 use Rattle.laws_calculus.proofs.Calculus.Single.{one_round}
 use Rattle.gl_calculus.specs.Steps.Costs.{IsAnew}
 use Rattle.laws_calculus.specs.Calculus.{AllKept, NothingAsked}
+use Rattle.laws_calculus.proofs.Calculus.Allowances.{no_steps}
 
 status_itself : (s : Option Permit) → same_status s s ≡ true
 status_itself None = refl
@@ -68,14 +69,7 @@ pub all_kept : AllKept
 all_kept W t h k m = kept W t h k m
 
 pub nothing_asked : NothingAsked
-nothing_asked version S tables before i w n a f = record {
-  counts = [];
-  distinct = tt;
-  each = λ k m. absurd m;
-  reads = tt;
-  most = omega arith;
-  least = λ l ks d each small. by ks each (a.all i w f l);
-}
+nothing_asked version S tables before i w n a f = (no_steps (world version S w) _ n, λ l ks d each small. by ks each (a.all i w f l))
   where
     by : (ks : List Key) → ((k : Key) → Member k ks → IsAnew (world version S w) (base tables [] before i) k × ((o : Outcome) × Has (program (world version S w)) k o)) → (t : Table) × (slice_get tables i ≡ Some t) → n + length ks ≤ n
     by [] each p = omega arith

@@ -10,21 +10,12 @@ use Rattle.laws_calculus.proofs.Query.Levels.{Has-path}
 use Rattle.laws_calculus.proofs.Query.Looping.{true_path}
 use Rattle.laws_calculus.proofs.Query.Quiet.{end_at}
 use Rattle.gl_calculus.specs.Explanation.Walk.{Claim, noted, first_stray, first_free}
-use Rattle.gl_calculus.specs.Steps.Allowance.{AllowsNotes}
 use Rattle.laws_calculus.proofs.Explanation.Claims.{both, all_true, true_notes, free_none, needs_member, all_loop}
 use Rattle.laws_calculus.proofs.Explanation.Walks as Wa
 use Rattle.laws_calculus.proofs.Explanation.Going as Go
 use Rattle.laws_calculus.proofs.Explanation.Steps.{whole, last_step, whole_within}
 
 module _ {K O A : Type 0} (same : K → K → Bool) (eq : IsEquality same) (program : K → Query K O A O) where
-  -- keys of which each has reads
-  pub counted : (ks : List K) → ((k : K) → Member k ks → (rs : List K) × IsReads same program k rs) → (cs : List (Counted K)) × (counted_keys cs ≡ ks) × AreReads same program cs
-  counted [] h = ([], refl, tt)
-  counted (k ∷ ks) h =
-      let (rs, r) = h k (inl refl) in
-      let (cs, e, a) = counted ks (λ j m. h j (inr m)) in
-      (record { key = k; reads = rs } ∷ cs, ap (λ t. k ∷ t) e, (r, a))
-
   -- a key with an outcome has reads, and so has one that lacks a key that loops
   outcome_reads : (k : K) (o : O) → Has program k o → (rs : List K) × IsReads same program k rs
   outcome_reads k o h = let (ks, ls, p) = Has-path program (Loops program) k o h in (distinct same ks, (ks, ls, Ready o, p, refl))
@@ -38,12 +29,6 @@ module _ {K O A : Type 0} (same : K → K → Bool) (eq : IsEquality same) (prog
   whole_both : (f : K → Option O) (xs ys : List K) → whole same eq program f (xs ++ ys) ≡ whole same eq program f xs + whole same eq program f ys
   whole_both f [] ys = omega arith
   whole_both f (x ∷ xs) ys = omega (arith, whole_both f xs ys)
-
-  whole_back : (f : K → Option O) (xs : List K) → whole same eq program f (reverse xs) ≡ whole same eq program f xs
-  whole_back f [] = refl
-  whole_back f (x ∷ xs) =
-      ap (whole same eq program f) (reverse-append (x ∷ []) xs) ∙ whole_both f (reverse xs) (x ∷ [])
-      ∙ omega (arith, whole_back f xs)
 
 module _ {K O A : Type 0} (same : K → K → Bool) (same_outcome : O → O → Bool) (allowed : K → Bool) (limit : ℕ) (program : K → Query K O A O) (eq : IsEquality same) (eq_outcome : IsEquality same_outcome) (asks : (k : K) → EachAsked (λ j. allowed j ≡ true) (program k)) (root : K) (fine : allowed root ≡ true) where
   abbrev Walking : ℕ → ℕ → List (Claim K O) → List K → Type 0
@@ -60,12 +45,20 @@ module _ {K O A : Type 0} (same : K → K → Bool) (same_outcome : O → O → 
   in_named (n ∷ ns) k (inl e) = (n.1, inl (ap (λ t. (t, n.1)) e))
   in_named (n ∷ ns) k (inr m) = let (o, i) = in_named ns k m in (o, inr i)
 
-  -- notes and loops that pass the tests allow what their keys cost
-  allows : (n m : ℕ) (notes : List (Claim K O)) (loops : List K) → first_stray same same_outcome allowed program [] notes ≡ None → first_free same same_outcome allowed program notes loops loops ≡ None →
-      m ≤ n + cost (noted same notes) (named notes ++ loops) → AllowsNotes same program notes loops n m
-  allows n m notes loops p q h =
-      let (cs, e, a) = counted same eq program (named notes ++ loops) each in
-      record { counts = cs; keys = e; reads = a; most = omega (arith, h, whole_within same eq program (noted same notes) true_table (named notes ++ loops) cs e a) }
+  -- a key of these notes or loops, whose reads are there
+  abbrev OnStack : List (Claim K O) → List K → K → Type 0
+  OnStack notes loops k = Member k (named notes ++ loops) × ((rs : List K) × IsReads same program k rs)
+
+  -- some keys of a kind allow the steps from n to m
+  abbrev pub AllowsBy : (K → Type 0) → ℕ → ℕ → Type 0
+  AllowsBy kind n m =
+      (ks : List K) × AreDistinct ks × (length ks ≤ limit) × ((k : K) → Member k ks → kind k) ×
+      ((cs : List (Counted K)) → counted_keys cs ≡ ks → AreReads same program cs → m ≤ n + sum_reads cs)
+
+  -- each key of notes and loops that pass the tests has reads
+  stacked : (notes : List (Claim K O)) (loops : List K) → first_stray same same_outcome allowed program [] notes ≡ None →
+      first_free same same_outcome allowed program notes loops loops ≡ None → (k : K) → Member k (named notes ++ loops) → OnStack notes loops k
+  stacked notes loops p q k i = (i, each k i)
     where
       true_table : IsTrueTable program (noted same notes)
       true_table = true_notes same same_outcome allowed program eq eq_outcome notes p
@@ -100,53 +93,65 @@ module _ {K O A : Type 0} (same : K → K → Bool) (same_outcome : O → O → 
       ap named (reverse-append (n ∷ []) ns) ∙ named_both (reverse ns) (n ∷ []) ∙ ap (λ t. t ++ n.0 ∷ []) (named_back ns)
       ∙ sym (reverse-append (n.0 ∷ []) (named ns))
 
-  -- what the keys cost in the order of the walk, and as they are handed out
-  cost_is : (done ns : List (Claim K O)) (up st : List K) → done ≡ reverse ns → up ≡ reverse st → noted same done ≡ noted same ns →
-      cost (noted same done) (named done ++ up) ≡ cost (noted same ns) (Go.keys same same_outcome allowed limit program eq eq_outcome asks root fine ns) + cost (noted same ns) st
-  cost_is done ns up st p q t =
-      ap (λ f. cost f (named done ++ up)) t
-      ∙ whole_both same eq program (noted same ns) (named done) up
-      ∙ ap (λ x. cost (noted same ns) (named x) + cost (noted same ns) up) p
-      ∙ ap (λ x. cost (noted same ns) x + cost (noted same ns) up) (named_back ns)
-      ∙ ap (λ x. x + cost (noted same ns) up) (whole_back same eq program (noted same ns) (named ns))
-      ∙ ap (λ x. cost (noted same ns) x + cost (noted same ns) up) (named_keys ns)
-      ∙ ap (λ x. cost (noted same ns) (Go.keys same same_outcome allowed limit program eq eq_outcome asks root fine ns) + cost (noted same ns) x) q
-      ∙ ap (λ x. cost (noted same ns) (Go.keys same same_outcome allowed limit program eq eq_outcome asks root fine ns) + x) (whole_back same eq program (noted same ns) st)
+  -- the keys of a walk, as they are handed out
+  handed : (done ns : List (Claim K O)) (up st : List K) → done ≡ reverse ns → up ≡ reverse st → (k : K) →
+      Member k (st ++ Go.keys same same_outcome allowed limit program eq eq_outcome asks root fine ns) → Member k (named done ++ up)
+  handed done ns up st p q k m = by (Wa.in_either same same_outcome allowed limit program eq eq_outcome asks root fine st (Go.keys same same_outcome allowed limit program eq eq_outcome asks root fine ns) k m)
+    where
+      by : Member k st ⊎ Member k (Go.keys same same_outcome allowed limit program eq eq_outcome asks root fine ns) → Member k (named done ++ up)
+      by (inl i) =
+          Wa.in_back same same_outcome allowed limit program eq eq_outcome asks root fine (named done) up k
+          (subst (Member k) (sym q) (Wa.into_aux same same_outcome allowed limit program eq eq_outcome asks root fine st [] k (inl i)))
+      by (inr i) =
+          Wa.in_front same same_outcome allowed limit program eq eq_outcome asks root fine (named done) up k
+          (subst (Member k) (sym (ap named p ∙ named_back ns)) (Wa.into_aux same same_outcome allowed limit program eq eq_outcome asks root fine (named ns) [] k (inl (subst (Member k) (sym (named_keys ns)) i))))
+
+  key_count : (ns : List (Claim K O)) → length (Go.keys same same_outcome allowed limit program eq eq_outcome asks root fine ns) ≡ length ns
+  key_count [] = refl
+  key_count (n ∷ ns) = ap suc (key_count ns)
 
   abbrev Found' : List (Claim K O) → List K → Type 0
   Found' done up = Wa.Sound same same_outcome allowed limit program eq eq_outcome asks root fine done up
 
   -- a walk that ended with an empty stack
-  pub emptied_spent : (n m : ℕ) (done : List (Claim K O)) → Walking n m done [] → Found' done [] → AllowsNotes same program done [] n m
+  pub emptied_spent : (n m : ℕ) (done : List (Claim K O)) → Walking n m done [] → Found' done [] → AllowsBy (OnStack done []) n m
   emptied_spent n m done w s =
       let d : w.stack ≡ [] = Go.none_turned w.stack w.stacked in
+      let ks = Go.keys same same_outcome allowed limit program eq eq_outcome asks root fine w.notes in
       let h = subst (Go.IsWithin same same_outcome allowed limit program eq eq_outcome asks root fine n m w.notes) d w.within in
-      let t = Go.same_notes same same_outcome allowed limit program eq eq_outcome asks root fine n m done [] w in
-      allows n m done [] s.stray s.free (omega (arith, h, cost_is done w.notes [] [] w.order refl t))
+      let true_table = Wa.good_true same same_outcome allowed limit program eq eq_outcome asks root fine w.notes w.holds.good in (
+        ks,
+        subst (λ st. AreDistinct (st ++ ks)) d w.holds.distinct,
+        omega (arith, w.room, key_count w.notes),
+        λ k i. stacked done [] s.stray s.free k (handed done w.notes [] [] w.order refl k i),
+        λ cs e a. omega (arith, h, whole_within same eq program (noted same w.notes) true_table ks cs e a),
+      )
 
-  -- one that ended in a circle, after a turn more
-  pub circled_spent : (n m l : ℕ) (done : List (Claim K O)) (us : List K) (k : K) → Walking n m done (us ++ k ∷ []) → Found' done (us ++ k ∷ []) → l ≤ m + 1 → AllowsNotes same program done (us ++ k ∷ []) n l
-  circled_spent n m l done us k w s h =
-      let t = Go.has_top same same_outcome allowed limit program eq eq_outcome asks root fine n m done us k w in
-      let up = Go.whole_stack same same_outcome allowed limit program eq eq_outcome asks root fine us t.rest k t.below in
-      allows n l done (us ++ k ∷ []) s.stray s.free (omega (arith, h, t.within, last_step same eq program (noted same t.notes) (Go.keys same same_outcome allowed limit program eq eq_outcome asks root fine t.notes) k t.rest, cost_is done t.notes (us ++ k ∷ []) (k ∷ t.rest) t.order up t.table))
-
-  -- one that ended at the limit: so many keys are demanded, and their reads allow its steps
-  pub exhausted_spent : (n m l : ℕ) (done : List (Claim K O)) (us : List K) (k : K) → Walking n m done (us ++ k ∷ []) → length done + length (us ++ k ∷ []) ≡ limit → l ≤ m + 1 →
-      (ks : List K) × AreDistinct ks × (length ks ≤ limit) × ((j : K) → Member j ks → Demanded program (root ∷ []) j) ×
-      ((cs : List (Counted K)) → counted_keys cs ≡ ks → AreReads same program cs → l ≤ n + sum_reads cs)
-  exhausted_spent n m l done us k w c h =
-      let t = Go.has_top same same_outcome allowed limit program eq eq_outcome asks root fine n m done us k w in
+  -- one with a top, after a turn more: its keys, if each is of a kind
+  pub topped_spent : (n m l : ℕ) (done : List (Claim K O)) (us : List K) (k : K) (t : Go.HasTop same same_outcome allowed limit program eq eq_outcome asks root fine done us k n m) → l ≤ m + 1 → (kind : K → Type 0) →
+      ((j : K) → Member j ((k ∷ t.rest) ++ Go.keys same same_outcome allowed limit program eq eq_outcome asks root fine t.notes) → kind j) → AllowsBy kind n l
+  topped_spent n m l done us k t h kind each =
       let ks = Go.keys same same_outcome allowed limit program eq eq_outcome asks root fine t.notes in
-      let full : length t.notes + length (k ∷ t.rest) ≡ limit = sym (Go.counted same same_outcome allowed limit program eq eq_outcome asks root fine done t.notes us t.rest k t.order t.below) ∙ c in
       let true_table = Wa.good_true same same_outcome allowed limit program eq eq_outcome asks root fine t.notes t.holds.good in (
         (k ∷ t.rest) ++ ks,
         t.holds.distinct,
-        omega (arith, full, length-append (k ∷ t.rest) ks, key_count t.notes),
-        t.holds.demanded,
+        omega (arith, t.room, length-append (k ∷ t.rest) ks, key_count t.notes),
+        each,
         λ cs e a. omega (arith, h, t.within, last_step same eq program (noted same t.notes) ks k t.rest, whole_both same eq program (noted same t.notes) (k ∷ t.rest) ks, whole_within same eq program (noted same t.notes) true_table ((k ∷ t.rest) ++ ks) cs e a),
       )
-    where
-      key_count : (ns : List (Claim K O)) → length (Go.keys same same_outcome allowed limit program eq eq_outcome asks root fine ns) ≡ length ns
-      key_count [] = refl
-      key_count (n ∷ ns) = ap suc (key_count ns)
+
+  -- one that ended in a circle
+  pub circled_spent : (n m l : ℕ) (done : List (Claim K O)) (us : List K) (k : K) → Walking n m done (us ++ k ∷ []) → Found' done (us ++ k ∷ []) → l ≤ m + 1 →
+      AllowsBy (OnStack done (us ++ k ∷ [])) n l
+  circled_spent n m l done us k w s h =
+      let t = Go.has_top same same_outcome allowed limit program eq eq_outcome asks root fine n m done us k w in
+      let up = Go.whole_stack same same_outcome allowed limit program eq eq_outcome asks root fine us t.rest k t.below in
+      topped_spent n m l done us k t h (OnStack done (us ++ k ∷ []))
+      (λ j i. stacked done (us ++ k ∷ []) s.stray s.free j (handed done t.notes (us ++ k ∷ []) (k ∷ t.rest) t.order up j i))
+
+  -- one that ended at the limit
+  pub exhausted_spent : (n m l : ℕ) (done : List (Claim K O)) (us : List K) (k : K) → Walking n m done (us ++ k ∷ []) → l ≤ m + 1 →
+      AllowsBy (Demanded program (root ∷ [])) n l
+  exhausted_spent n m l done us k w h =
+      let t = Go.has_top same same_outcome allowed limit program eq eq_outcome asks root fine n m done us k w in
+      topped_spent n m l done us k t h (Demanded program (root ∷ [])) t.holds.demanded

@@ -43,7 +43,7 @@ module _ {K O A : Type 0} (same : K → K → Bool) (eq : IsEquality same) (prog
   whole_within f t [] cs e r = omega arith
   whole_within f t (k ∷ ks) [] e r = absurd (cc e)
   whole_within f t (k ∷ ks) (c ∷ cs) e (a, r) =
-      let u : c.key ≡ k = cc e in
+      let u : c.0 ≡ k = cc e in
       let v : counted_keys cs ≡ ks = cc e in
-      let z = known_within same eq program f t k c.reads (subst (λ y. IsReads same program y c.reads) u a) in
+      let z = known_within same eq program f t k c.1 (subst (λ y. IsReads same program y c.1) u a) in
       omega (arith, z, whole_within f t ks cs v r)

@@ -49,10 +49,10 @@ module _ {K O A : Type 0} (same : K → K → Bool) (eq : IsEquality same) (prog
       first : (k : K) (ks : List K) (n : ℕ) (cs : List (Counted K)) → counted_keys cs ≡ k ∷ ks → AreReads same program cs → ((cs : List (Counted K)) → counted_keys cs ≡ ks → AreReads same program cs → n ≤ sum_reads cs) → suc (known_reads same f (program k)) + n ≤ sum_reads cs
       first k ks n [] d r h = absurd (cc d)
       first k ks n (c ∷ cs) d (a, r) h =
-          let u : c.key ≡ k = cc d in
+          let u : c.0 ≡ k = cc d in
           let v : counted_keys cs ≡ ks = cc d in
           let w = h cs v r in
-          let z : known_reads same f (program k) ≤ length c.reads = known_within f t k c.reads (subst (λ y. IsReads same program y c.reads) u a) in
+          let z : known_reads same f (program k) ≤ length c.1 = known_within f t k c.1 (subst (λ y. IsReads same program y c.1) u a) in
           omega arith
 
   -- where nothing is idle, there is such a list
@@ -63,5 +63,5 @@ module _ {K O A : Type 0} (same : K → K → Bool) (eq : IsEquality same) (prog
       let (cs, e, a) = counted noted f xs (λ y m. h y (inr m)) in
       elim (noted x.key) as (λ b. (cs : List (Counted K)) × (counted_keys cs ≡ cond b (unnoted noted xs) (x.key ∷ unnoted noted xs)) × AreReads same program cs) [
         | true ↦ (cs, e, a)
-        | false ↦ (record { key = x.key; reads = rs } ∷ cs, ap (λ t. x.key ∷ t) e, (r, a))
+        | false ↦ ((x.key, rs) ∷ cs, ap (λ t. x.key ∷ t) e, (r, a))
       ]

@@ -49,27 +49,27 @@ pick_at-requires-clause-true_notes g c =
 pub returns-clause-state : goal.returns-clause-state
 returns-clause-state g c =
     let h = subst (IsFor (world (version_tree c.args.version) (sheet c.args.cells.now) c.args.w.now)) (sym c.self.view_is) c.requires.for_it in
-    on_ok c.pick_at.result (picked_state (version_tree c.args.version) (sheet c.args.cells.now) c.args.w.now c.self.inside.ledger c.self.inside.entries c.self.inside.seeds h c.self.invariant c.args.i c.idle_place-p.result c.idle_place-p.ensures.before c.idle_place-p.ensures.idle c.pick_at.new.ledger c.pick_at.new.entries c.pick_at.result c.pick_at.ensures.picked.state c.pick_at.ensures.picked.answer c.pick_at.ensures.picked.err) (λ e. e ∙ ap (λ (x : Held). pick same_key max_demanded (program (world (version_tree c.args.version) (sheet c.args.cells.now) c.args.w.now)) (state_of x) c.args.i) c.self.view_is)
+    on_ok c.pick_at.result (picked_state (world (version_tree c.args.version) (sheet c.args.cells.now) c.args.w.now) c.self.inside.ledger c.self.inside.entries c.self.inside.seeds h c.self.invariant c.args.i c.idle_place-p.result c.idle_place-p.ensures.before c.idle_place-p.ensures.idle c.pick_at.new.ledger c.pick_at.new.entries c.pick_at.result c.pick_at.ensures.picked.state c.pick_at.ensures.picked.answer c.pick_at.ensures.picked.err) (λ e. e ∙ ap (λ (x : Held). pick same_key max_demanded (program (world (version_tree c.args.version) (sheet c.args.cells.now) c.args.w.now)) (state_of x) c.args.i) c.self.view_is)
 
 pub returns-clause-answer : goal.returns-clause-answer
 returns-clause-answer g c =
     let h = subst (IsFor (world (version_tree c.args.version) (sheet c.args.cells.now) c.args.w.now)) (sym c.self.view_is) c.requires.for_it in
-    if_ok c.pick_at.result (picked_answer (version_tree c.args.version) (sheet c.args.cells.now) c.args.w.now c.self.inside.ledger c.self.inside.entries c.self.inside.seeds h c.self.invariant c.args.i c.idle_place-p.result c.idle_place-p.ensures.before c.idle_place-p.ensures.idle c.pick_at.new.ledger c.pick_at.new.entries c.pick_at.result c.pick_at.ensures.picked.state c.pick_at.ensures.picked.answer c.pick_at.ensures.picked.err) (λ a e. e ∙ ap (λ (x : Held). answer_at same_key max_demanded (program (world (version_tree c.args.version) (sheet c.args.cells.now) c.args.w.now)) (state_of x) (nth (idle_keys (state_of x)) c.args.i)) c.self.view_is)
+    if_ok c.pick_at.result (picked_answer (world (version_tree c.args.version) (sheet c.args.cells.now) c.args.w.now) c.self.inside.ledger c.self.inside.entries c.self.inside.seeds h c.self.invariant c.args.i c.idle_place-p.result c.idle_place-p.ensures.before c.idle_place-p.ensures.idle c.pick_at.new.ledger c.pick_at.new.entries c.pick_at.result c.pick_at.ensures.picked.state c.pick_at.ensures.picked.answer c.pick_at.ensures.picked.err) (λ a e. e ∙ ap (λ (x : Held). answer_at same_key max_demanded (program (world (version_tree c.args.version) (sheet c.args.cells.now) c.args.w.now)) (state_of x) (nth (idle_keys (state_of x)) c.args.i)) c.self.view_is)
 
 pub returns-clause-notes : goal.returns-clause-notes
 returns-clause-notes g c =
     let h = subst (IsFor (world (version_tree c.args.version) (sheet c.args.cells.now) c.args.w.now)) (sym c.self.view_is) c.requires.for_it in
-    if_ok c.pick_at.result (picked_notes (version_tree c.args.version) (sheet c.args.cells.now) c.args.w.now c.self.inside.ledger c.self.inside.entries c.self.inside.seeds h c.self.invariant c.args.i c.idle_place-p.result c.idle_place-p.ensures.before c.idle_place-p.ensures.idle c.pick_at.new.ledger c.pick_at.new.entries c.pick_at.result c.pick_at.ensures.picked.state c.pick_at.ensures.picked.answer c.pick_at.ensures.picked.err) (λ a e. e ∙ ap (λ (x : Held). noted_after (notes_in x) (nth (idle_keys (state_of x)) c.args.i) (picked_tree a)) c.self.view_is)
+    if_ok c.pick_at.result (picked_notes (world (version_tree c.args.version) (sheet c.args.cells.now) c.args.w.now) c.self.inside.ledger c.self.inside.entries c.self.inside.seeds h c.self.invariant c.args.i c.idle_place-p.result c.idle_place-p.ensures.before c.idle_place-p.ensures.idle c.pick_at.new.ledger c.pick_at.new.entries c.pick_at.result c.pick_at.ensures.picked.state c.pick_at.ensures.picked.answer c.pick_at.ensures.picked.err) (λ a e. e ∙ ap (λ (x : Held). noted_after (notes_in x) (nth (idle_keys (state_of x)) c.args.i) (picked_tree a)) c.self.view_is)
 
 pub returns-clause-seeds : goal.returns-clause-seeds
 returns-clause-seeds g c =
     let h = subst (IsFor (world (version_tree c.args.version) (sheet c.args.cells.now) c.args.w.now)) (sym c.self.view_is) c.requires.for_it in
-    picked_seeds (version_tree c.args.version) (sheet c.args.cells.now) c.args.w.now c.self.inside.ledger c.self.inside.entries c.self.inside.seeds h c.self.invariant c.args.i c.idle_place-p.result c.idle_place-p.ensures.before c.idle_place-p.ensures.idle c.pick_at.new.ledger c.pick_at.new.entries c.pick_at.result c.pick_at.ensures.picked.state c.pick_at.ensures.picked.answer c.pick_at.ensures.picked.err ∙ ap seeds_of c.self.view_is
+    picked_seeds (world (version_tree c.args.version) (sheet c.args.cells.now) c.args.w.now) c.self.inside.ledger c.self.inside.entries c.self.inside.seeds h c.self.invariant c.args.i c.idle_place-p.result c.idle_place-p.ensures.before c.idle_place-p.ensures.idle c.pick_at.new.ledger c.pick_at.new.entries c.pick_at.result c.pick_at.ensures.picked.state c.pick_at.ensures.picked.answer c.pick_at.ensures.picked.err ∙ ap seeds_of c.self.view_is
 
 pub returns-clause-stays : goal.returns-clause-stays
 returns-clause-stays g c =
     let h = subst (IsFor (world (version_tree c.args.version) (sheet c.args.cells.now) c.args.w.now)) (sym c.self.view_is) c.requires.for_it in
-    picked_stays (version_tree c.args.version) (sheet c.args.cells.now) c.args.w.now c.self.inside.ledger c.self.inside.entries c.self.inside.seeds h c.self.invariant c.args.i c.idle_place-p.result c.idle_place-p.ensures.before c.idle_place-p.ensures.idle c.pick_at.new.ledger c.pick_at.new.entries c.pick_at.result c.pick_at.ensures.picked.state c.pick_at.ensures.picked.answer c.pick_at.ensures.picked.err c.pick_at.ensures.picked.core c.pick_at.ensures.picked.marks c.pick_at.ensures.picked.marks_err
+    picked_stays (world (version_tree c.args.version) (sheet c.args.cells.now) c.args.w.now) c.self.inside.ledger c.self.inside.entries c.self.inside.seeds h c.self.invariant c.args.i c.idle_place-p.result c.idle_place-p.ensures.before c.idle_place-p.ensures.idle c.pick_at.new.ledger c.pick_at.new.entries c.pick_at.result c.pick_at.ensures.picked.state c.pick_at.ensures.picked.answer c.pick_at.ensures.picked.err c.pick_at.ensures.picked.core c.pick_at.ensures.picked.marks c.pick_at.ensures.picked.marks_err
 
 pub returns-clause-counted : goal.returns-clause-counted
 returns-clause-counted g c =
@@ -96,4 +96,4 @@ pick_at-requires-clause-ahead g c =
 pub returns-clause-ordered : goal.returns-clause-ordered
 returns-clause-ordered g c o =
     let h = subst (IsFor (world (version_tree c.args.version) (sheet c.args.cells.now) c.args.w.now)) (sym c.self.view_is) c.requires.for_it in
-    picked_order (version_tree c.args.version) (sheet c.args.cells.now) c.args.w.now c.self.inside.ledger c.self.inside.entries c.self.inside.seeds h c.self.invariant c.args.i c.idle_place-p.result c.idle_place-p.ensures.before c.idle_place-p.ensures.idle c.pick_at.new.ledger c.pick_at.new.entries c.pick_at.result c.pick_at.ensures.picked.state c.pick_at.ensures.picked.answer c.pick_at.ensures.picked.err (subst (λ (x : Held). AreOrdered [] (notes_in x)) (sym c.self.view_is) o)
+    picked_order (world (version_tree c.args.version) (sheet c.args.cells.now) c.args.w.now) c.self.inside.ledger c.self.inside.entries c.self.inside.seeds h c.self.invariant c.args.i c.idle_place-p.result c.idle_place-p.ensures.before c.idle_place-p.ensures.idle c.pick_at.new.ledger c.pick_at.new.entries c.pick_at.result c.pick_at.ensures.picked.state c.pick_at.ensures.picked.answer c.pick_at.ensures.picked.err (subst (λ (x : Held). AreOrdered [] (notes_in x)) (sym c.self.view_is) o)

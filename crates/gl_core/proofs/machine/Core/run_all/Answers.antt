@@ -19,20 +19,20 @@ picks-init g c = run_begun (world (version_tree c.args.version) (sheet c.args.ce
 pub returns-then-n-eq0-clause-quiet : goal.returns-then-n-eq0-clause-quiet
 returns-then-n-eq0-clause-quiet g c =
     subst (λ (x : Held). IsQuiet same_key (program (world (version_tree c.args.version) (sheet c.args.cells.now) c.args.w.now)) (seeds_of c.args.self) (state_of x)) (sym c.into_quiet.ensures)
-    (run_quiet (version_tree c.args.version) (sheet c.args.cells.now) c.args.w.now c.args.self c.picks.core c.args.steps.now c.picks.steps c.picks.invariant (sym c.idle-n.ensures ∙ c.if-n-eq0.true))
+    (run_quiet (world (version_tree c.args.version) (sheet c.args.cells.now) c.args.w.now) c.args.self c.picks.core c.args.steps.now c.picks.steps c.picks.invariant (sym c.idle-n.ensures ∙ c.if-n-eq0.true))
 
 pub returns-then-n-eq0-clause-no_work : goal.returns-then-n-eq0-clause-no_work
-returns-then-n-eq0-clause-no_work g c = run_few (version_tree c.args.version) (sheet c.args.cells.now) c.args.w.now c.args.self c.picks.core c.args.steps.now c.picks.steps c.picks.invariant (sym c.idle-n.ensures ∙ c.if-n-eq0.true)
+returns-then-n-eq0-clause-no_work g c = run_few (world (version_tree c.args.version) (sheet c.args.cells.now) c.args.w.now) c.args.self c.picks.core c.args.steps.now c.picks.steps c.picks.invariant (sym c.idle-n.ensures ∙ c.if-n-eq0.true)
 
 pub returns-then-n-eq0-clause-most : goal.returns-then-n-eq0-clause-most
 returns-then-n-eq0-clause-most g c =
     subst (λ (x : Held). AllowsKnown (program (world (version_tree c.args.version) (sheet c.args.cells.now) c.args.w.now)) (is_noted (notes_in c.args.self)) (state_of x) c.args.steps.now c.picks.steps) (sym c.into_quiet.ensures)
-    (run_allows (version_tree c.args.version) (sheet c.args.cells.now) c.args.w.now c.args.self c.picks.core c.args.steps.now c.picks.steps c.picks.invariant (sym c.idle-n.ensures ∙ c.if-n-eq0.true))
+    (run_allows (world (version_tree c.args.version) (sheet c.args.cells.now) c.args.w.now) c.args.self c.picks.core c.args.steps.now c.picks.steps c.picks.invariant (sym c.idle-n.ensures ∙ c.if-n-eq0.true))
 
 pub returns-then-is_full-clause-work : goal.returns-then-is_full-clause-work
 returns-then-is_full-clause-work g c e =
     let l = subst (λ x. c.next-i.result < x) c.idle-n.ensures c.next-i.ensures.below in
-    run_full (version_tree c.args.version) (sheet c.args.cells.now) c.args.w.now c.args.self c.picks.core c.args.steps.now c.picks.steps c.picks.invariant c.next-i.result l (c.is_full.ensures.full c.if-is_full.true ∙ c.in-Ok.ensures.answer)
+    run_full (world (version_tree c.args.version) (sheet c.args.cells.now) c.args.w.now) c.args.self c.picks.core c.args.steps.now c.picks.steps c.picks.invariant c.next-i.result l (c.is_full.ensures.full c.if-is_full.true ∙ c.in-Ok.ensures.answer)
 
 pub returns-then-is_full-clause-most_work : goal.returns-then-is_full-clause-most_work
 returns-then-is_full-clause-most_work g c e =
