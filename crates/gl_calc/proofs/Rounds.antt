@@ -10,7 +10,7 @@ use Rattle.gl_calculus.specs.Calculation.Calculation.{has_content, round_budget,
 use Rattle.gl_calculus.specs.Evaluation.Key.{Budget}
 use Rattle.gl_calculus.specs.Calculation.Memory as M
 use Rattle.gl_calculus.specs.Calculation.Memory.{base, IsTableOf, AreTables}
-use Rattle.gl_calculus.specs.Steps.Costs.{Finishes}
+use Rattle.gl_calculus.specs.Steps.Costs.{Finishes, Breaks}
 use Rattle.gl_ast.specs.View.{version_tree}
 use Rattle.gl_ast.specs.declared.Version.{Version}
 use Rattle.gl_cells.specs.Sheet.{Table, sheet}
@@ -18,7 +18,7 @@ use Rattle.gl_rounds.specs.Rounds as R
 use Rattle.gl_rounds.specs.Answers as A
 use Rattle.gl_rounds.specs.declared.IterFault.{IterFault}
 use Rattle.gl_rounds.specs.declared.IterFault.TheVariants as iter
-use Rattle.gl_calculus.specs.Steps.Rounds.{Breaks, Comes, first, later, Costs}
+use Rattle.gl_calculus.specs.Steps.Rounds.{Comes, first, later, Costs}
 use Rattle.gl_calculus.specs.Evaluation.World.{world}
 use Rattle.gl_calc.specs.Progress.{Progress, next_base, before_of}
 use Rattle.gl_calc.specs.Round.{Gives, Fails, Keeps, Calls}

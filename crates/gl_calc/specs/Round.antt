@@ -7,8 +7,7 @@ use Rattle.gl_calculus.specs.Formulas.Formula.{Version, Cells, formula_addresses
 use Rattle.gl_calculus.specs.Evaluation.Key.{Budget}
 use Rattle.gl_calculus.specs.Calculation.Calculation.{Arrays, FirstAbort, SpendsWork, IsUnspent}
 use Rattle.gl_calculus.specs.Calculation.Memory.{Table, IsTableOf}
-use Rattle.gl_calculus.specs.Steps.Costs.{Finishes}
-use Rattle.gl_calculus.specs.Steps.Rounds.{Breaks}
+use Rattle.gl_calculus.specs.Steps.Costs.{Finishes, Breaks}
 use Rattle.gl_calculus.specs.Evaluation.World.{World, world}
 use Rattle.gl_calc.specs.Progress.{Progress, rest_of, next_base, made_with, beyond_with}
 use Rattle.gl_calc.specs.declared.ending.RoundFault.{RoundFault}

@@ -1,5 +1,5 @@
 //! The evaluation of all that the formulas demand.
-ghost use Rattle.gl_calculus.specs.Evaluation.World.{world};
+ghost use Rattle.gl_calculus.specs.Evaluation.Evaluation.{program};
 ghost use Rattle.std.specs.Prelude.{◌≡◌, ◌≤◌, ℕ, List, IfOk, IfErr, length};
 ghost use Rattle.gl_machine.specs.Remembered.{AreTrue};
 ghost use Rattle.gl_calculus.specs.Grid.Grid.{Addr as PlainAddr};
@@ -8,13 +8,12 @@ ghost use Rattle.gl_calculus.specs.Calculation.Memory.{Table as Plain};
 ghost use Rattle.gl_calculus.specs.Steps.Costs.{Finishes};
 ghost use Rattle.gl_calculus.specs.Formulas.Formula.{IsSheet, formula_addresses};
 ghost use Rattle.gl_calculus.specs.Grid.Limits.{max_formulas};
-ghost use Rattle.gl_ast.specs.View.{version_tree};
 ghost use Rattle.gl_cells.specs.Sheet.{sheet};
 ghost use Rattle.gl_calculus.specs.Steps.Rule.{PicksBelow};
 ghost use Rattle.gl_core.specs.State.{notes_in};
 ghost use Rattle.gl_calc.specs.{Kept.AreKept, Round.Stops, Starting.IsStarted, Engine.rule_in};
 ghost use Rattle.gl_calc.specs.{Starting.IsEvaluated};
-ghost use Rattle.gl_demand.specs.{Evaluators.program_of};
+ghost use Rattle.gl_demand.specs.{Evaluators.world_of};
 
 use crate::Engine;
 use crate::ending::RoundFault;
@@ -35,16 +34,16 @@ pub fn evaluated<F: Fn(u8, u64, u64) -> u64, L: Watch>(
     requires all { places.now ≡ formula_addresses (sheet evaluator.now.cells.now) }
     requires few { length (formula_addresses (sheet evaluator.now.cells.now)) ≤ max_formulas }
     requires ordered { IsSheet (sheet evaluator.now.cells.now) }
-    requires true_notes { AreTrue same_key (program_of evaluator.now) results }
-    ensures evaluated { IfOk result (IsEvaluated (world (version_tree evaluator.now.version) (sheet evaluator.now.cells.now) evaluator.now.oracle.now)) }
+    requires true_notes { AreTrue same_key (program (world_of evaluator.now)) results }
+    ensures evaluated { IfOk result (IsEvaluated (world_of evaluator.now)) }
     ensures steps { IfOk result (λ q.
         (b : Plain × List PlainAddr) (i : ℕ)
         → AreKept b evaluator.now.oracle.now results
-        → Finishes (world (version_tree evaluator.now.version) (sheet evaluator.now.cells.now) evaluator.now.oracle.now) b i steps.old steps.new) }
+        → Finishes (world_of evaluator.now) b i steps.old steps.new) }
     ensures stops { IfErr result (λ e.
         (b : Plain × List PlainAddr)
         → AreKept b evaluator.now.oracle.now results
-        → Stops (world (version_tree evaluator.now.version) (sheet evaluator.now.cells.now) evaluator.now.oracle.now) b e steps.old steps.new) }
+        → Stops (world_of evaluator.now) b e steps.old steps.new) }
 {
     match Core::resume(evaluator, places, results) {
         Ok(core) => run(evaluator, engine, core, steps),
@@ -61,16 +60,16 @@ fn run<F: Fn(u8, u64, u64) -> u64, L: Watch>(
     steps: &mut Steps<L>,
 ) -> Result<Quiet, RoundFault>
     requires rule { PicksBelow (F.pre (rule_in engine.now)) (F.post (rule_in engine.now)) }
-    requires started { IsStarted (world (version_tree evaluator.now.version) (sheet evaluator.now.cells.now) evaluator.now.oracle.now) core }
-    ensures evaluated { IfOk result (IsEvaluated (world (version_tree evaluator.now.version) (sheet evaluator.now.cells.now) evaluator.now.oracle.now)) }
+    requires started { IsStarted (world_of evaluator.now) core }
+    ensures evaluated { IfOk result (IsEvaluated (world_of evaluator.now)) }
     ensures steps { IfOk result (λ q.
         (b : Plain × List PlainAddr) (i : ℕ)
         → AreKept b evaluator.now.oracle.now (notes_in core)
-        → Finishes (world (version_tree evaluator.now.version) (sheet evaluator.now.cells.now) evaluator.now.oracle.now) b i steps.old steps.new) }
+        → Finishes (world_of evaluator.now) b i steps.old steps.new) }
     ensures stops { IfErr result (λ e.
         (b : Plain × List PlainAddr)
         → AreKept b evaluator.now.oracle.now (notes_in core)
-        → Stops (world (version_tree evaluator.now.version) (sheet evaluator.now.cells.now) evaluator.now.oracle.now) b e steps.old steps.new) }
+        → Stops (world_of evaluator.now) b e steps.old steps.new) }
 {
     match core.run_all(
         engine.alloc,

@@ -1,4 +1,5 @@
 //! The check of a certificate.
+ghost use Rattle.gl_calculus.specs.Evaluation.Evaluation.{program};
 ghost use Rattle.gl_calculus.specs.Evaluation.World.{world};
 ghost use Rattle.std.specs.Prelude.{◌≡◌, ◌≤◌, ◌+◌, None, length, map, option_map, IfOk};
 ghost use Rattle.gl_calculus.specs.Calculation.Calculation.{IsShown};
@@ -11,7 +12,7 @@ ghost use Rattle.gl_calculus.specs.Explanation.Certificate as E;
 ghost use Rattle.gl_value.specs.Made.{shown_tree};
 ghost use Rattle.gl_ast.specs.View.{version_tree};
 ghost use Rattle.gl_cells.specs.Sheet.{sheet};
-ghost use Rattle.gl_demand.specs.{Sound.AreSoundKeys, View.key_tree, Evaluators.program_of};
+ghost use Rattle.gl_demand.specs.{Sound.AreSoundKeys, View.key_tree, Evaluators.world_of};
 ghost use Rattle.gl_cert.specs.{Notes.claims, View.cert_tree, View.verdict_tree};
 
 use crate::loops::{first_free, key_set};
@@ -71,7 +72,7 @@ fn check_loops<L: Watch>(
     requires loops { AreSoundKeys (cert_tree c.now).loops }
     ensures verdict { IfOk result (λ v. verdict_tree v ≡ judged None
         (first_free same_key same_outcome (is_proper (sheet evaluator.now.cells.now))
-        (program_of evaluator.now)
+        (program (world_of evaluator.now))
         (cert_tree c.now).notes (cert_tree c.now).loops (cert_tree c.now).loops)
         (says_so (cert_tree c.now).shown
         (says (sheet evaluator.now.cells.now) evaluator.now.oracle.now a (cert_tree c.now).notes

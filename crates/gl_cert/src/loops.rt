@@ -1,4 +1,5 @@
 //! Which loops of a certificate wait for one of them.
+ghost use Rattle.gl_calculus.specs.Evaluation.Evaluation.{program};
 ghost use Rattle.std.specs.Prelude.{◌≡◌, ◌≤◌, ◌<◌, ◌+◌, ◌^◌, true, cond, length, map, IsTrue, IfOk};
 ghost use Rattle.gl_calculus.specs.Computation.Lists.{has_member};
 ghost use Rattle.gl_calculus.specs.Evaluation.Key.{same_key};
@@ -9,7 +10,7 @@ ghost use Rattle.gl_calculus.specs.Explanation.Walk.{waits_among, waits, first_f
 ghost use Rattle.gl_calculus.specs.Explanation.Certificate.{is_proper};
 ghost use Rattle.gl_cells.specs.Sheet.{sheet};
 ghost use Rattle.gl_demand.specs.{Sound.AreSoundKeys, View.key_tree, View.found_tree};
-ghost use Rattle.gl_demand.specs.{Evaluators.program_of};
+ghost use Rattle.gl_demand.specs.{Evaluators.world_of};
 ghost use Rattle.gl_cert.specs.Notes.{claims};
 
 use crate::Notes;
@@ -71,7 +72,7 @@ fn key_waits<L: Watch>(
 ) -> Result<bool, NoMemory>
     requires sound { IsTrue (is_sound_key (key_tree key.now)) }
     ensures waits { IfOk result (λ b. b ≡ waits same_key same_outcome
-        (is_proper (sheet evaluator.now.cells.now)) (program_of evaluator.now)
+        (is_proper (sheet evaluator.now.cells.now)) (program (world_of evaluator.now))
         (claims notes.now) (map key_tree loops.now.keys) (key_tree key.now)) }
     ensures steps { steps.new ≤ steps.old + 1 }
     ensures later { steps.old ≤ steps.new }
@@ -98,7 +99,7 @@ pub fn first_free<L: Watch>(
     requires sound { AreSoundKeys (map key_tree list.now) }
     ensures free { IfOk result (λ r. r
         ≡ first_free same_key same_outcome (is_proper (sheet evaluator.now.cells.now))
-        (program_of evaluator.now)
+        (program (world_of evaluator.now))
         (claims notes.now) (map key_tree loops.now.keys) (map key_tree list.now)) }
     ensures steps { steps.new ≤ steps.old + length list.now }
     ensures later { steps.old ≤ steps.new }

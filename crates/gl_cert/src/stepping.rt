@@ -1,4 +1,5 @@
 //! Keys that may be evaluated, and one level of evaluation over notes.
+ghost use Rattle.gl_calculus.specs.Evaluation.Evaluation.{program};
 ghost use Rattle.std.specs.Prelude.{◌≡◌, IsTrue, IfOk};
 ghost use Rattle.gl_calculus.specs.Computation.Query.{found};
 ghost use Rattle.gl_calculus.specs.Evaluation.Key.{same_key};
@@ -8,7 +9,7 @@ ghost use Rattle.gl_calculus.specs.Explanation.Certificate.{is_proper};
 ghost use Rattle.gl_calculus.specs.Explanation.Walk.{noted};
 ghost use Rattle.gl_cells.specs.Sheet.{sheet};
 ghost use Rattle.gl_demand.specs.{Sound.IsSoundFound, Steps.one_more, View.key_tree};
-ghost use Rattle.gl_demand.specs.{View.found_tree, Evaluators.program_of};
+ghost use Rattle.gl_demand.specs.{View.found_tree, Evaluators.world_of};
 ghost use Rattle.gl_cert.specs.Notes.{claims};
 
 use crate::Notes;
@@ -36,7 +37,7 @@ pub fn level<L: Watch>(
     requires sound { IsTrue (is_sound_key (key_tree key.now)) }
     requires proper { IsProperKey (sheet evaluator.now.cells.now) (key_tree key.now) }
     ensures found { IfOk result (λ f. found_tree f ≡ found (noted same_key (claims notes.now))
-        (program_of evaluator.now (key_tree key.now))) }
+        (program (world_of evaluator.now) (key_tree key.now))) }
     ensures sound { IfOk result (λ f. IsSoundFound (key_tree key.now) (found_tree f)) }
     ensures counted { steps.new ≡ one_more steps.old }
 {

@@ -1,4 +1,5 @@
 //! Which notes of a certificate follow from those before them.
+ghost use Rattle.gl_calculus.specs.Evaluation.Evaluation.{program};
 ghost use Rattle.std.specs.Prelude.{◌≡◌, ◌≤◌, ◌<◌, ◌+◌, ◌^◌, [], ◌∷◌, ◌++◌, true, None, length};
 ghost use Rattle.std.specs.Prelude.{map, IsTrue, IfOk};
 ghost use Rattle.gl_calculus.specs.Computation.Query.{Ready};
@@ -10,7 +11,7 @@ ghost use Rattle.gl_calculus.specs.Explanation.Certificate.{is_proper};
 ghost use Rattle.gl_cells.specs.Sheet.{sheet};
 ghost use Rattle.gl_demand.specs.View.{key_tree, outcome_tree, found_tree};
 ghost use Rattle.gl_demand.specs.Sound.{IsSoundFound, AreSoundKeys};
-ghost use Rattle.gl_demand.specs.{Evaluators.program_of};
+ghost use Rattle.gl_demand.specs.{Evaluators.world_of};
 ghost use Rattle.gl_cert.specs.{Notes.claims, Claims.claim_trees};
 
 use crate::Notes;
@@ -70,7 +71,7 @@ fn note_follows<L: Watch>(
     ensures follows { IfOk result (λ b.
         b
         ≡ follows same_key same_outcome (is_proper (sheet evaluator.now.cells.now))
-        (program_of evaluator.now) (claims notes.old)
+        (program (world_of evaluator.now)) (claims notes.old)
         (key_tree key.now, outcome_tree outcome.now)) }
     ensures noted { IfOk result (λ b. b ≡ true → claims notes.new
         ≡ claims notes.old ++ (key_tree key.now, outcome_tree outcome.now) ∷ []) }
@@ -102,7 +103,7 @@ pub fn first_stray<L: Watch>(
     requires none { claims notes.old ≡ [] }
     ensures stray { IfOk result (λ r. r
         ≡ first_stray same_key same_outcome (is_proper (sheet evaluator.now.cells.now))
-        (program_of evaluator.now) [] (claim_trees list.now)) }
+        (program (world_of evaluator.now)) [] (claim_trees list.now)) }
     ensures noted { IfOk result (λ r. r ≡ None → claims notes.new ≡ claim_trees list.now) }
     ensures steps { steps.new ≤ steps.old + length list.now }
     ensures later { steps.old ≤ steps.new }

@@ -25,7 +25,7 @@ ghost use Rattle.gl_calculus.specs.Steps.Rule.{PicksBelow};
 ghost use Rattle.gl_order.specs.Rule.{rule_of};
 ghost use Rattle.gl_memo.specs.Notes.{notes_of};
 ghost use Rattle.gl_demand.specs.{View.key_tree, Sound.AreSoundKeys, Marks.mark_trees};
-ghost use Rattle.gl_demand.specs.{Evaluators.program_of};
+ghost use Rattle.gl_demand.specs.{Evaluators.world_of};
 ghost use Rattle.gl_calculus.specs.Steps.Allowance.{Allows, HasReads};
 ghost use Rattle.gl_core.specs.State.{state_of, seeds_of, notes_in, note_trees, is_noted};
 ghost use Rattle.gl_core.specs.State.{noted_after, HaveSoundParts, AreSoundNotes, IsFor};
@@ -186,16 +186,16 @@ impl Core {
             → Member k (map (K.Cell V.Top) places.now)
             → IsProperKey (sheet evaluator.now.cells.now) k }
         requires true_notes { AreTrue same_key
-            (program_of evaluator.now) results }
+            (program (world_of evaluator.now)) results }
         ensures seeds { IfOk result (λ core. seeds_of core ≡ map (K.Cell V.Top) places.now) }
         ensures notes { IfOk result (λ core. notes_in core ≡ results) }
         ensures ordered { IfOk result (λ core. AreOrdered [] (notes_in core)) }
         ensures for_it { IfOk result (λ core.
-            IsFor (world (version_tree evaluator.now.version) (sheet evaluator.now.cells.now) evaluator.now.oracle.now) core) }
+            IsFor (world_of evaluator.now) core) }
         ensures work { IfErr result (λ e.
             e ≡ CoreFault.Work
             → MoreThan max_demanded
-            (Demanded (program_of evaluator.now) (map (K.Cell V.Top) places.now))) }
+            (Demanded (program (world_of evaluator.now)) (map (K.Cell V.Top) places.now))) }
     {
         let (mut ledger, before) = results.into_ledger();
         match resumed(evaluator.alloc, places, &before, &mut ledger) {

@@ -16,12 +16,13 @@ use Rattle.laws_calculus.proofs.Calculus.Proper.{asks_proper}
 use Rattle.gl_calculus.proofs.Tests.{key_equality}
 use Rattle.gl_calculus.specs.Explanation.Walk.{Claim, noted, Walked, Explained, Exhausted, IsWalk}
 use Rattle.gl_calculus.specs.Explanation.Certificate.{Certificate, Cert, Work, Aborts, work, aborts, cert, key_at, start, says, shown_by_key, shown_by_note, IsWalked, is_proper}
-use Rattle.gl_calculus.specs.Steps.Allowance.{AllowsNotes}
+use Rattle.gl_calculus.specs.Steps.Allowance.{Allows}
+use Rattle.gl_calculus.specs.Steps.Walk.{IsExplainedKey}
+use Rattle.laws_calculus.proofs.Calculus.Allowances.{no_steps}
 use Rattle.laws_calculus.proofs.Explanation.Explaining.{asks_test, root_proper, decides}
 use Rattle.laws_calculus.proofs.Explanation.Few.{walk_few}
 use Rattle.laws_calculus.proofs.Explanation.Walks as Wa
 use Rattle.gl_demand.specs.Sound.{IsSoundTable, AreSoundKeys}
-use Rattle.gl_calculus.specs.Steps.Demanded.{AllowsDemanded}
 use Rattle.gl_explain.specs.Walked.{IsExplained}
 use Rattle.gl_explain.specs.Walking.{HasEnded, IsFull}
 
@@ -80,14 +81,14 @@ module _ (W : World) (a : Addr) (root : Key) (decided : key_at W.sheet W.oracle 
     explains = cert {notes = t.notes} {loops = t.loops} {x = t.shown} (subst (λ x. IsWalked W a (Explained x t.loops)) (sym p) (subst (λ x. IsWalked W a (Explained done x)) (sym q) (from_start (Explained done up) h.walked)))
         (ap (λ x. says W.sheet W.oracle a x t.loops) p ∙ ap (says W.sheet W.oracle a done) q ∙ s);
     sound = λ c z. let d : t ≡ c = cc z in subst (λ c. AreSoundKeys (map (λ k. k.0) c.notes) × AreSoundKeys c.loops) d (subst (λ x. AreSoundKeys (map (λ k. k.0) x)) (sym p) f, subst AreSoundKeys (sym q) g);
-    allows = subst (λ x. AllowsNotes same_key (program W) x t.loops n m) (sym p) (subst (λ x. AllowsNotes same_key (program W) done x n m) (sym q) h.allows);
+    allows = subst (λ x. Allows W (IsExplainedKey W x t.loops) n m) (sym p) (subst (λ x. Allows W (IsExplainedKey W done x) n m) (sym q) h.allows);
   }
 
   pub explained_work : (n m : ℕ) → IsFull W root n m → IsExplained W a n m Work
   explained_work n m h = record {
     explains = work (from_start Exhausted h.walked);
     sound = λ c z. absurd (cc z);
-    allows = subst (λ o. AllowsDemanded (Demanded (program W) (start o)) (program W) (λ k. false) n m) (sym decided) h.allows;
+    allows = subst (λ o. Allows W (Demanded (program W) (start o)) n m) (sym decided) h.allows;
   }
 
 pub explained_plain : (W : World) (a : Addr) (n : ℕ) (t : Certificate) → key_at W.sheet W.oracle a ≡ None → t.notes ≡ [] → t.loops ≡ [] → says W.sheet W.oracle a [] [] ≡ Some t.shown → IsExplained W a n n (Cert t)
@@ -95,7 +96,7 @@ explained_plain W a n t e p q s = record {
   explains = cert {notes = t.notes} {loops = t.loops} {x = t.shown} (subst (λ x. IsWalked W a (Explained x t.loops)) (sym p) (subst (λ x. IsWalked W a (Explained [] x)) (sym q) walked))
       (ap (λ x. says W.sheet W.oracle a x t.loops) p ∙ ap (says W.sheet W.oracle a []) q ∙ s);
   sound = λ c z. let d : t ≡ c = cc z in subst (λ c. AreSoundKeys (map (λ k. k.0) c.notes) × AreSoundKeys c.loops) d (subst (λ x. AreSoundKeys (map (λ k. k.0) x)) (sym p) none, subst AreSoundKeys (sym q) none);
-  allows = subst (λ x. AllowsNotes same_key (program W) x t.loops n n) (sym p) (subst (λ x. AllowsNotes same_key (program W) [] x n n) (sym q) (record { counts = []; keys = refl; reads = tt; most = omega arith }));
+  allows = no_steps W (IsExplainedKey W t.notes t.loops) n;
 }
   where
     none : AreSoundKeys []

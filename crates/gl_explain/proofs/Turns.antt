@@ -1,7 +1,7 @@
 -- A turn of the walk, by what becomes of its notes and its stack.
 use Rattle.std.proofs.Common.{◌≡◌, ℕ, ◌+◌, ◌<◌, ◌≤◌, List, [], ◌∷◌, ◌++◌, length, true, false, None, IsTrue, refl, sym, ap, subst, ◌∙◌, arith}
 use Rattle.std.proofs.lemmas.List.{length-append, length-reverse}
-use Rattle.gl_calculus.specs.Computation.Lists.{has_member}
+use Rattle.gl_calculus.specs.Computation.Lists.{Member, AreDistinct, has_member}
 use Rattle.gl_calculus.specs.Computation.Query.{Ready, Need, found}
 use Rattle.gl_calculus.specs.Grid.Limits.{max_demanded}
 use Rattle.gl_calculus.specs.Evaluation.Key.{Key, Outcome, same_key}
@@ -22,6 +22,8 @@ use Rattle.laws_calculus.proofs.Explanation.Going as Go
 use Rattle.laws_calculus.proofs.Explanation.Spending as Sp
 use Rattle.laws_calculus.proofs.Explanation.Walks as Wa
 use Rattle.gl_demand.specs.Marks.{PlainMark}
+use Rattle.gl_calculus.specs.Steps.Counted.{Counted, counted_keys, AreReads, sum_reads}
+use Rattle.gl_calculus.specs.Steps.Allowance.{Allows}
 use Rattle.gl_explain.specs.Walking.{IsWalking, HasEnded, IsTurned, left}
 use Rattle.gl_explain.specs.Putting.{IsTakenOff, IsPutOn, there, full, on}
 use Rattle.gl_explain.specs.declared.turning.Turned.{Turned}
@@ -31,8 +33,15 @@ module _ (W : World) (root : Key) where
   abbrev Walking : ℕ → ℕ → List (Claim Key Outcome) → List Key → Type 0
   Walking n m done up = IsWalking W root n m done up
 
+  -- what some keys allow, told by parts
+  allowed : {kind : Key → Type 0} {n m : ℕ} →
+      (ks : List Key) × AreDistinct ks × (length ks ≤ max_demanded) × ((k : Key) → Member k ks → kind k) ×
+      ((cs : List (Counted Key)) → counted_keys cs ≡ ks → AreReads same_key (program W) cs → m ≤ n + sum_reads cs) →
+      n ≤ m → Allows W kind n m
+  allowed (ks, d, few, each, most) h = record { keys = ks; distinct = d; few = few; each = each; most = most; later = h }
+
   pub begin_walk : (n : ℕ) → is_proper W.sheet root ≡ true → Walking n n [] (root ∷ [])
-  begin_walk n f = record { fine = f; so_far = Go.begins same_key same_outcome (is_proper W.sheet) max_demanded (program W) key_equality outcome_equality (λ k. asks_test W.sheet (asks_proper W.sheet W.oracle W.version k)) root f n (omega arith) }
+  begin_walk n f = record { fine = f; so_far = Go.begins same_key same_outcome (is_proper W.sheet) max_demanded (program W) key_equality outcome_equality (λ k. asks_test W.sheet (asks_proper W.sheet W.oracle W.version k)) root f n (omega arith); later = omega arith }
 
   pub top_free : (n m : ℕ) (done : List (Claim Key Outcome)) (us : List Key) (k : Key) → Walking n m done (us ++ k ∷ []) → noted same_key done k ≡ None
   top_free n m done us k h = Go.top_unnoted same_key same_outcome (is_proper W.sheet) max_demanded (program W) key_equality outcome_equality (λ k. asks_test W.sheet (asks_proper W.sheet W.oracle W.version k)) root h.fine n m done us k h.so_far
@@ -48,20 +57,20 @@ module _ (W : World) (root : Key) where
   pub end_empty : (n m : ℕ) (done : List (Claim Key Outcome)) → Walking n m done [] → HasEnded W root n m done []
   end_empty n m done h =
       let e = Go.emptied same_key same_outcome (is_proper W.sheet) max_demanded (program W) key_equality outcome_equality (λ k. asks_test W.sheet (asks_proper W.sheet W.oracle W.version k)) root h.fine n m done h.so_far in
-      record { walked = e; allows = Sp.emptied_spent same_key same_outcome (is_proper W.sheet) max_demanded (program W) key_equality outcome_equality (λ k. asks_test W.sheet (asks_proper W.sheet W.oracle W.version k)) root h.fine n m done h.so_far (ends_sound h.fine done [] e) }
+      record { walked = e; allows = allowed (Sp.emptied_spent same_key same_outcome (is_proper W.sheet) max_demanded (program W) key_equality outcome_equality (λ k. asks_test W.sheet (asks_proper W.sheet W.oracle W.version k)) root h.fine n m done h.so_far (ends_sound h.fine done [] e)) h.later }
 
   -- a turn where the top has an outcome
   pub off_turned : (n m l : ℕ) (done more : List (Claim Key Outcome)) (up us : List Key) (o : Outcome) (t : Turned) → Walking n m done up → IsTakenOff o done up t more us →
-      ((k : Key) (vs : List Key) → up ≡ vs ++ k ∷ [] → found (noted same_key done) (program W k) ≡ Ready o) → l ≤ m + 1 → IsTurned W root n l more us t
+      ((k : Key) (vs : List Key) → up ≡ vs ++ k ∷ [] → found (noted same_key done) (program W k) ≡ Ready o) → (m ≤ l) × (l ≤ m + 1) → IsTurned W root n l more us t
   off_turned n m l done more up us o t h x f b =
       subst (IsTurned W root n l more us) (sym x.goes_on)
       (subst (λ d. Walking n l d us) (sym x.noted)
       (let g = subst (Walking n m done) x.off h in
-      record { fine = g.fine; so_far = Go.taken_off same_key same_outcome (is_proper W.sheet) max_demanded (program W) key_equality outcome_equality (λ k. asks_test W.sheet (asks_proper W.sheet W.oracle W.version k)) root g.fine n m l done us x.top o g.so_far (f x.top us x.off) b }))
+      record { fine = g.fine; so_far = Go.taken_off same_key same_outcome (is_proper W.sheet) max_demanded (program W) key_equality outcome_equality (λ k. asks_test W.sheet (asks_proper W.sheet W.oracle W.version k)) root g.fine n m l done us x.top o g.so_far (f x.top us x.off) b.1; later = omega (arith, g.later, b.0) }))
 
   -- a turn where it lacks a key
   pub on_turned : (n m l : ℕ) (done : List (Claim Key Outcome)) (up us vs : List Key) (k j : Key) (a : PlainMark) (ms ns : List PlainMark) (t : Turned) → Walking n m done up → up ≡ us ++ k ∷ [] → IsPutOn j a done up ms t vs ns →
-      found (noted same_key done) (program W k) ≡ Need j → l ≤ m + 1 → IsTurned W root n l done vs t
+      found (noted same_key done) (program W k) ≡ Need j → (m ≤ l) × (l ≤ m + 1) → IsTurned W root n l done vs t
   on_turned n m l done up us vs k j a ms ns t h e p f b = by t vs ns p
     where
       g : Walking n m done (us ++ k ∷ [])
@@ -72,20 +81,19 @@ module _ (W : World) (root : Key) where
           let i' = subst (λ z. has_member same_key j z ≡ true) e i in
           let c = Go.circled same_key same_outcome (is_proper W.sheet) max_demanded (program W) key_equality outcome_equality (λ k. asks_test W.sheet (asks_proper W.sheet W.oracle W.version k)) root g.fine n m done us k j g.so_far f i' in
           subst (HasEnded W root n l done) (sym e)
-          (record { walked = c; allows = Sp.circled_spent same_key same_outcome (is_proper W.sheet) max_demanded (program W) key_equality outcome_equality (λ k. asks_test W.sheet (asks_proper W.sheet W.oracle W.version k)) root g.fine n m l done us k g.so_far (ends_sound g.fine done (us ++ k ∷ []) c) b })
+          (record { walked = c; allows = allowed (Sp.circled_spent same_key same_outcome (is_proper W.sheet) max_demanded (program W) key_equality outcome_equality (λ k. asks_test W.sheet (asks_proper W.sheet W.oracle W.version k)) root g.fine n m l done us k g.so_far (ends_sound g.fine done (us ++ k ∷ []) c) b.1) (omega (arith, g.later, b.0)) })
       by _ _ _ (full i c) =
           let i' = subst (λ z. has_member same_key j z ≡ false) e i in
           let c' = subst (λ z. length done + length z ≡ max_demanded) e c in
-          let (ks, d, q, each, most) = Sp.exhausted_spent same_key same_outcome (is_proper W.sheet) max_demanded (program W) key_equality outcome_equality (λ k. asks_test W.sheet (asks_proper W.sheet W.oracle W.version k)) root g.fine n m l done us k g.so_far c' b in
           record {
             walked = Go.exhausted same_key same_outcome (is_proper W.sheet) max_demanded (program W) key_equality outcome_equality (λ k. asks_test W.sheet (asks_proper W.sheet W.oracle W.version k)) root g.fine n m done us k j g.so_far f i' c';
-            allows = record { keys = ks; distinct = d; few = q; each = λ x y. (each x y, refl); most = most };
+            allows = allowed (Sp.exhausted_spent same_key same_outcome (is_proper W.sheet) max_demanded (program W) key_equality outcome_equality (λ k. asks_test W.sheet (asks_proper W.sheet W.oracle W.version k)) root g.fine n m l done us k g.so_far b.1) (omega (arith, g.later, b.0));
           }
       by _ _ _ (on i c) =
           let i' = subst (λ z. has_member same_key j z ≡ false) e i in
           let c' : length done + length (us ++ k ∷ []) ≡ max_demanded → ⊥ = λ z. c (ap (λ y. length done + length y) e ∙ z) in
           subst (λ z. Walking n l done (z ++ j ∷ [])) (sym e)
-          (record { fine = g.fine; so_far = Go.put_on same_key same_outcome (is_proper W.sheet) max_demanded (program W) key_equality outcome_equality (λ k. asks_test W.sheet (asks_proper W.sheet W.oracle W.version k)) root g.fine n m l done us k j g.so_far f i' c' b })
+          (record { fine = g.fine; so_far = Go.put_on same_key same_outcome (is_proper W.sheet) max_demanded (program W) key_equality outcome_equality (λ k. asks_test W.sheet (asks_proper W.sheet W.oracle W.version k)) root g.fine n m l done us k j g.so_far f i' c' b.1; later = omega (arith, g.later, b.0) })
 
   walking_room : (n m : ℕ) (done : List (Claim Key Outcome)) (up : List Key) → Walking n m done up → length done + length up ≤ max_demanded
   walking_room n m done up h = omega (arith, h.so_far.room, ap length h.so_far.order, ap length h.so_far.stacked, length-reverse h.so_far.notes, length-reverse h.so_far.stack)

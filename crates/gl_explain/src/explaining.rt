@@ -1,4 +1,5 @@
 //! The explanation of an address.
+ghost use Rattle.gl_demand.specs.Evaluators.{world_of};
 ghost use Rattle.gl_calculus.specs.Evaluation.World.{world};
 ghost use Rattle.std.specs.Prelude.{◌≡◌, ◌≤◌, ℕ, Some, None, map, IfOk};
 ghost use Rattle.gl_calculus.specs.Calculation.Calculation.{IsAnswer};
@@ -67,7 +68,7 @@ fn decided<L: Watch>(
     requires { key_at (sheet evaluator.now.cells.now) evaluator.now.oracle.now a ≡ Some
         (key_tree root.now) }
     ensures explained { IfOk result (λ x.
-        IsExplained (world (version_tree evaluator.now.version) (sheet evaluator.now.cells.now) evaluator.now.oracle.now) a steps.old steps.new (explained_tree x)) }
+        IsExplained (world_of evaluator.now) a steps.old steps.new (explained_tree x)) }
     ensures later { steps.old ≤ steps.new }
 {
     match walk(evaluator, root, steps) {
@@ -103,7 +104,7 @@ fn explained<L: Watch>(
     steps: &mut Steps<L>,
 ) -> Result<Explained, NoMemory>
     ensures explained { IfOk result (λ x.
-        IsExplained (world (version_tree evaluator.now.version) (sheet evaluator.now.cells.now) evaluator.now.oracle.now) a steps.old steps.new (explained_tree x)) }
+        IsExplained (world_of evaluator.now) a steps.old steps.new (explained_tree x)) }
     ensures later { steps.old ≤ steps.new }
 {
     match key_at(evaluator.cells, evaluator.oracle, a) {

@@ -1,14 +1,13 @@
 //! What the top of a stack comes to over the notes, by what it was reading or by an evaluation.
-ghost use Rattle.gl_calculus.specs.Evaluation.World.{world};
+ghost use Rattle.gl_calculus.specs.Evaluation.Evaluation.{program};
 ghost use Rattle.std.specs.Prelude.{◌≡◌, ◌≤◌, ◌+◌, IsTrue, IfOk};
 ghost use Rattle.gl_calculus.specs.Computation.Query.{Need, found};
 ghost use Rattle.gl_calculus.specs.Evaluation.Key.{same_key};
 ghost use Rattle.gl_calculus.specs.Evaluation.Sound.{is_sound_key};
 ghost use Rattle.gl_calculus.specs.Evaluation.Sound.{IsProperKey};
 ghost use Rattle.gl_calculus.specs.Explanation.Walk.{noted};
-ghost use Rattle.gl_ast.specs.View.{version_tree};
 ghost use Rattle.gl_cells.specs.Sheet.{sheet};
-ghost use Rattle.gl_demand.specs.{Reading.ahead_tree, Sound.IsSoundFound, Evaluators.program_of};
+ghost use Rattle.gl_demand.specs.{Reading.ahead_tree, Sound.IsSoundFound, Evaluators.world_of};
 ghost use Rattle.gl_demand.specs.{View.key_tree, View.found_tree, Marks.mark_tree};
 ghost use Rattle.gl_cert.specs.Notes.{claims};
 ghost use Rattle.gl_explain.specs.Marks.{reached_tree, IsMark, IsMarked};
@@ -64,10 +63,10 @@ pub fn read_on<L: Watch>(
 ) -> Result<Reached, NoMemory>
     requires sound { IsTrue (is_sound_key (key_tree key.now)) }
     requires proper { IsProperKey (sheet evaluator.now.cells.now) (key_tree key.now) }
-    requires mark { IsMark (world (version_tree evaluator.now.version) (sheet evaluator.now.cells.now) evaluator.now.oracle.now) (claims notes.now) (key_tree key.now) (mark_tree mark) }
+    requires mark { IsMark (world_of evaluator.now) (claims notes.now) (key_tree key.now) (mark_tree mark) }
     ensures found { IfOk result (λ x. reached_tree x ≡ found (noted same_key (claims notes.now))
-        (program_of evaluator.now (key_tree key.now))) }
-    ensures mark { IfOk result (IsMarked (IsMark (world (version_tree evaluator.now.version) (sheet evaluator.now.cells.now) evaluator.now.oracle.now) (claims notes.now)
+        (program (world_of evaluator.now) (key_tree key.now))) }
+    ensures mark { IfOk result (IsMarked (IsMark (world_of evaluator.now) (claims notes.now)
         (key_tree key.now))) }
     ensures sound { IfOk result (λ x. IsSoundFound (key_tree key.now) (reached_tree x)) }
     ensures steps { steps.new ≤ steps.old + 1 }

@@ -1,5 +1,5 @@
 //! One turn of a walk.
-ghost use Rattle.gl_calculus.specs.Evaluation.World.{world};
+ghost use Rattle.gl_demand.specs.Evaluators.{world_of};
 ghost use Rattle.std.specs.Prelude.{◌≡◌, ◌≤◌, ◌<◌, ◌++◌, ◌∷◌, ℕ, [], None, map, length, IsTrue};
 ghost use Rattle.std.specs.Prelude.{IfOk, IfSome, IfNone};
 ghost use Rattle.gl_calculus.specs.Computation.Query.{Ready};
@@ -7,8 +7,6 @@ ghost use Rattle.gl_calculus.specs.Evaluation.Key.{same_key};
 ghost use Rattle.gl_calculus.specs.Evaluation.Sound.{is_sound_key};
 ghost use Rattle.gl_calculus.specs.Evaluation.Key as K;
 ghost use Rattle.gl_calculus.specs.Explanation.Walk.{noted};
-ghost use Rattle.gl_ast.specs.View.{version_tree};
-ghost use Rattle.gl_cells.specs.Sheet.{sheet};
 ghost use Rattle.gl_demand.specs.{Sound.AreSoundKeys, Sound.IsSoundFound, View.key_tree};
 ghost use Rattle.gl_demand.specs.{View.outcome_tree, Marks.mark_tree, Marks.mark_trees};
 ghost use Rattle.gl_cert.specs.Notes.{claims};
@@ -107,21 +105,21 @@ pub fn turn<L: Watch>(
 ) -> Result<Turned, NoMemory>
     requires walking { (root : K.Key)
         × (n : ℕ)
-        × IsWalking (world (version_tree evaluator.now.version) (sheet evaluator.now.cells.now) evaluator.now.oracle.now) root n steps.old (claims notes.old) (map key_tree stack.old.keys) }
+        × IsWalking (world_of evaluator.now) root n steps.old (claims notes.old) (map key_tree stack.old.keys) }
     requires sound { AreSoundKeys (map key_tree stack.old.keys) }
-    requires marks { AreMarks (world (version_tree evaluator.now.version) (sheet evaluator.now.cells.now) evaluator.now.oracle.now) (claims notes.old)
+    requires marks { AreMarks (world_of evaluator.now) (claims notes.old)
         (map key_tree stack.old.keys) (mark_trees marks.old.items) }
     ensures turned { IfOk result (λ t.
         (root : K.Key) (n : ℕ)
-        → IsWalking (world (version_tree evaluator.now.version) (sheet evaluator.now.cells.now) evaluator.now.oracle.now) root n steps.old (claims notes.old) (map key_tree stack.old.keys)
-        → IsTurned (world (version_tree evaluator.now.version) (sheet evaluator.now.cells.now) evaluator.now.oracle.now)
+        → IsWalking (world_of evaluator.now) root n steps.old (claims notes.old) (map key_tree stack.old.keys)
+        → IsTurned (world_of evaluator.now)
         root n steps.new (claims notes.new) (map key_tree stack.new.keys) t) }
     ensures falls { IfOk result (λ t. t ≡ On → left (claims notes.new) (map key_tree stack.new.keys)
         < left (claims notes.old) (map key_tree stack.old.keys)) }
     ensures sound { IfOk result (λ _. AreSoundKeys (map key_tree stack.new.keys)) }
     ensures marks { IfOk result (λ t.
         t ≡ On
-        → AreMarks (world (version_tree evaluator.now.version) (sheet evaluator.now.cells.now) evaluator.now.oracle.now)
+        → AreMarks (world_of evaluator.now)
         (claims notes.new) (map key_tree stack.new.keys) (mark_trees marks.new.items)) }
     ensures later { steps.old ≤ steps.new }
 {

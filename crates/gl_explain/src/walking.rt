@@ -1,9 +1,8 @@
 //! The walk from a key.
-ghost use Rattle.gl_calculus.specs.Evaluation.World.{world};
+ghost use Rattle.gl_demand.specs.Evaluators.{world_of};
 ghost use Rattle.std.specs.Prelude.{◌≡◌, ◌≤◌, [], ◌∷◌, map, true, IsTrue, IfOk};
 ghost use Rattle.gl_calculus.specs.Evaluation.Sound.{is_sound_key};
 ghost use Rattle.gl_calculus.specs.Explanation.Certificate.{is_proper};
-ghost use Rattle.gl_ast.specs.View.{version_tree};
 ghost use Rattle.gl_cells.specs.Sheet.{sheet};
 ghost use Rattle.gl_demand.specs.{View.key_tree, Marks.mark_trees};
 ghost use Rattle.gl_machine.specs.Ahead.Reading.{Nothing};
@@ -56,7 +55,7 @@ pub fn walk<L: Watch>(
     requires sound { IsTrue (is_sound_key (key_tree root.now)) }
     requires proper { is_proper (sheet evaluator.now.cells.now) (key_tree root.now) ≡ true }
     ensures found { IfOk result (λ x.
-        IsFound (world (version_tree evaluator.now.version) (sheet evaluator.now.cells.now) evaluator.now.oracle.now) (key_tree root.now) steps.old steps.new x) }
+        IsFound (world_of evaluator.now) (key_tree root.now) steps.old steps.new x) }
     ensures later { steps.old ≤ steps.new }
 {
     let mut stack = stack_of(evaluator.alloc, root)?;

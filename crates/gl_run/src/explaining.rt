@@ -1,4 +1,5 @@
 //! Why an address shows what it shows.
+ghost use Rattle.gl_demand.specs.Evaluators.{world_of};
 ghost use Rattle.gl_calculus.specs.Evaluation.World.{world};
 ghost use Rattle.std.specs.Prelude.{◌≡◌, ◌≤◌, ◌+◌, ℕ, Some, length, map, IfOk};
 ghost use Rattle.gl_calculus.specs.Calculation.Calculation.{IsAnswer};
@@ -63,7 +64,7 @@ fn explain_by<L: Watch>(
         × IsAnswer (version_tree evaluator.now.version) (sheet evaluator.now.cells.now)
         (A.Settled evaluator.now.oracle.now rounds) }
     ensures { IfOk result (λ reply.
-        IsExplanation (world (version_tree evaluator.now.version) (sheet evaluator.now.cells.now) evaluator.now.oracle.now) a steps.old steps.new reply.items) }
+        IsExplanation (world_of evaluator.now) a steps.old steps.new reply.items) }
 {
     match certificate(
         evaluator.alloc,
@@ -92,7 +93,7 @@ fn explain_checked<L: Watch>(
     ensures reply { IfOk result (λ reply.
         reply.items
         ≡ explanation_text
-        (verdict (world (version_tree evaluator.now.version) (sheet evaluator.now.cells.now) evaluator.now.oracle.now) a (cert_tree cert.now)) (cert_tree cert.now)) }
+        (verdict (world_of evaluator.now) a (cert_tree cert.now)) (cert_tree cert.now)) }
     ensures later { steps.old ≤ steps.new }
     ensures steps { steps.new ≤ steps.old
         + length (cert_tree cert.now).notes + length (cert_tree cert.now).loops }

@@ -1,8 +1,9 @@
 //! Results of many keys, which stay, go and are given back.
+ghost use Rattle.gl_calculus.specs.Evaluation.Evaluation.{program};
 ghost use Rattle.std.specs.Prelude.{◌≤◌, IfOk};
 ghost use Rattle.gl_machine.specs.Remembered.{AreTrue};
 ghost use Rattle.gl_calculus.specs.Evaluation.Key.{same_key};
-ghost use Rattle.gl_demand.specs.Evaluators.{program_of};
+ghost use Rattle.gl_demand.specs.Evaluators.{world_of};
 
 use crate::tests::large::chain;
 use crate::tests::results::kept_after;
@@ -70,8 +71,8 @@ const APART: &str = "D1:E9999";
 /// The results of the chain behind a run by the rule of a kind where nothing of it has changed.
 fn chain_again(at: &Evaluator<'_>, results: Results, kind: u8) -> Result<Results, Fail>
     requires kind { kind ≤ 2 }
-    requires true_notes { AreTrue same_key (program_of at.now) results }
-    ensures { IfOk result (AreTrue same_key (program_of at.now)) }
+    requires true_notes { AreTrue same_key (program (world_of at.now)) results }
+    ensures { IfOk result (AreTrue same_key (program (world_of at.now))) }
 {
     let count = results.len();
     let kept = kept_after(at, results, APART)?;

@@ -1,12 +1,10 @@
 //! Notes that a run leaves, and the next run begins with.
-ghost use Rattle.gl_calculus.specs.Evaluation.World.{world};
+ghost use Rattle.gl_calculus.specs.Evaluation.Evaluation.{program};
 ghost use Rattle.std.specs.Prelude.{IfOk};
 ghost use Rattle.gl_machine.specs.Remembered.{AreTrue};
 ghost use Rattle.gl_calculus.specs.Evaluation.Key.{same_key};
-ghost use Rattle.gl_ast.specs.View.{version_tree};
-ghost use Rattle.gl_cells.specs.Sheet.{sheet};
 ghost use Rattle.gl_memo.specs.Notes.{notes_of};
-ghost use Rattle.gl_demand.specs.Evaluators.{program_of};
+ghost use Rattle.gl_demand.specs.Evaluators.{world_of};
 ghost use Rattle.gl_core.specs.State.{note_trees, HaveSoundParts, IsFor};
 
 use crate::tests::runs::{Sight, fresh, run, seen_as, started};
@@ -24,8 +22,8 @@ fn notes_after(
     core: Core,
     steps: &mut Steps<Silent>,
 ) -> Result<Memo<Key, Outcome, Range>, Fail>
-    requires { IsFor (world (version_tree at.now.version) (sheet at.now.cells.now) at.now.oracle.now) core }
-    ensures true_notes { IfOk result (λ m. AreTrue same_key (program_of at.now)
+    requires { IsFor (world_of at.now) core }
+    ensures true_notes { IfOk result (λ m. AreTrue same_key (program (world_of at.now))
         (note_trees (notes_of m))) }
     ensures sound_notes { IfOk result (λ m. HaveSoundParts (note_trees (notes_of m))) }
 {

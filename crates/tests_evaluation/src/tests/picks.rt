@@ -1,8 +1,6 @@
 //! Single picks, and how often a run asks its rule.
-ghost use Rattle.gl_calculus.specs.Evaluation.World.{world};
+ghost use Rattle.gl_demand.specs.Evaluators.{world_of};
 ghost use Rattle.std.specs.Prelude.{◌≤◌, ◌<◌};
-ghost use Rattle.gl_ast.specs.View.{version_tree};
-ghost use Rattle.gl_cells.specs.Sheet.{sheet};
 ghost use Rattle.gl_core.specs.State.{IsFor};
 
 use crate::tests::runs::fresh;
@@ -22,8 +20,8 @@ fn pick_first(
     core: &mut Core,
     steps: &mut Steps<Silent>,
 ) -> Result<(u64, Picked), Fail>
-    requires { IsFor (world (version_tree at.now.version) (sheet at.now.cells.now) at.now.oracle.now) core.old }
-    ensures { IsFor (world (version_tree at.now.version) (sheet at.now.cells.now) at.now.oracle.now) core.new }
+    requires { IsFor (world_of at.now) core.old }
+    ensures { IsFor (world_of at.now) core.new }
 {
     let n = core.idle();
     if n == 0 {

@@ -1,8 +1,9 @@
 //! Results that are kept for the next run, by each pick rule.
+ghost use Rattle.gl_calculus.specs.Evaluation.Evaluation.{program};
 ghost use Rattle.std.specs.Prelude.{◌≤◌, IfOk};
 ghost use Rattle.gl_machine.specs.Remembered.{AreTrue};
 ghost use Rattle.gl_calculus.specs.Evaluation.Key.{same_key};
-ghost use Rattle.gl_demand.specs.Evaluators.{program_of};
+ghost use Rattle.gl_demand.specs.Evaluators.{world_of};
 
 use crate::tests::resumed::{Ran, run_with, seen_of};
 use crate::tests::runs::{Sight, fresh, outcome_seen, run, seen_as};
@@ -74,8 +75,8 @@ fn a_run_without_results_is_one_from_the_start(rt: HostRuntime) -> Result<(), Fa
 
 /// The results that stay where the range has changed.
 pub fn kept_after(at: &Evaluator<'_>, results: Results, place: &str) -> Result<Results, Fail>
-    requires { AreTrue same_key (program_of at.now) results }
-    ensures { IfOk result (AreTrue same_key (program_of at.now)) }
+    requires { AreTrue same_key (program (world_of at.now)) results }
+    ensures { IfOk result (AreTrue same_key (program (world_of at.now))) }
 {
     let mut changes = Changes::new(at.alloc);
     changes.add(&[range(place)?])?;
@@ -92,7 +93,7 @@ fn results_behind(
     kind: u8,
 ) -> Result<Results, Fail>
     requires { kind ≤ 2 }
-    ensures { IfOk result (AreTrue same_key (program_of at.now)) }
+    ensures { IfOk result (AreTrue same_key (program (world_of at.now))) }
 {
     let ran = run_with(at, names, Results::new(at.alloc), kind)?;
     kept_after(at, ran.results, place)

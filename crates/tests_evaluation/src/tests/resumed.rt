@@ -1,13 +1,11 @@
 //! Runs that begin with the results of an earlier one, over one sheet.
-ghost use Rattle.gl_calculus.specs.Evaluation.World.{world};
+ghost use Rattle.gl_calculus.specs.Evaluation.Evaluation.{program};
 ghost use Rattle.std.specs.Prelude.{◌≤◌, [], IfOk};
 ghost use Rattle.gl_machine.specs.InOrder.{AreOrdered};
 ghost use Rattle.gl_machine.specs.Quiet.{IsQuiet};
 ghost use Rattle.gl_machine.specs.Remembered.{AreTrue};
 ghost use Rattle.gl_calculus.specs.Evaluation.Key.{same_key};
-ghost use Rattle.gl_ast.specs.View.{version_tree};
-ghost use Rattle.gl_cells.specs.Sheet.{sheet};
-ghost use Rattle.gl_demand.specs.Evaluators.{program_of};
+ghost use Rattle.gl_demand.specs.Evaluators.{world_of};
 ghost use Rattle.gl_core.specs.State.{state_of, seeds_of, notes_in, IsFor};
 
 use crate::tests::runs::{Sight, are_seeds, run, seen_as};
@@ -74,9 +72,9 @@ fn numbers_of(alloc: Global, counts: &Counts) -> Result<Vec<u64>, Fail> {
 
 /// The core of these cells, with results that are true.
 pub fn resumed(at: &Evaluator<'_>, places: &[Addr], results: Results) -> Result<Core, Fail>
-    requires { AreTrue same_key (program_of at.now) results }
+    requires { AreTrue same_key (program (world_of at.now)) results }
     ensures for_it { IfOk result (λ core.
-        IsFor (world (version_tree at.now.version) (sheet at.now.cells.now) at.now.oracle.now) core) }
+        IsFor (world_of at.now) core) }
     ensures ordered { IfOk result (λ core. AreOrdered [] (notes_in core)) }
 {
     if places.len() > MAX_DEMANDED {
@@ -104,9 +102,9 @@ pub fn seen_of(alloc: Global, quiet: &Quiet, count: usize) -> Result<Vec<Sight>,
 /// The results of a run: they are true.
 fn results_of(at: &Evaluator<'_>, quiet: Quiet) -> Results
     requires ordered { AreOrdered [] (notes_in quiet) }
-    requires quiet { IsQuiet same_key (program_of at.now) (seeds_of quiet) (state_of quiet) }
-    requires for_it { IsFor (world (version_tree at.now.version) (sheet at.now.cells.now) at.now.oracle.now) quiet }
-    ensures { AreTrue same_key (program_of at.now) result }
+    requires quiet { IsQuiet same_key (program (world_of at.now)) (seeds_of quiet) (state_of quiet) }
+    requires for_it { IsFor (world_of at.now) quiet }
+    ensures { AreTrue same_key (program (world_of at.now)) result }
 {
     quiet.into_results()
 }
@@ -114,8 +112,8 @@ fn results_of(at: &Evaluator<'_>, quiet: Quiet) -> Results
 /// Runs these cells by the rule of a kind, beginning with results that are true.
 pub fn run_with(at: &Evaluator<'_>, names: &[&str], results: Results, kind: u8) -> Result<Ran, Fail>
     requires kind { kind ≤ 2 }
-    requires true_notes { AreTrue same_key (program_of at.now) results }
-    ensures { IfOk result (λ r. AreTrue same_key (program_of at.now) r.results) }
+    requires true_notes { AreTrue same_key (program (world_of at.now)) results }
+    ensures { IfOk result (λ r. AreTrue same_key (program (world_of at.now)) r.results) }
 {
     let core = resumed(at, &places_of(at.alloc, names)?, results)?;
     let mut steps = Steps::new(no_counts(at.alloc, names)?);
@@ -143,8 +141,8 @@ pub fn by_results(
     first: Sight,
 ) -> Result<Results, Fail>
     requires kind { kind ≤ 2 }
-    requires true_notes { AreTrue same_key (program_of at.now) results }
-    ensures { IfOk result (AreTrue same_key (program_of at.now)) }
+    requires true_notes { AreTrue same_key (program (world_of at.now)) results }
+    ensures { IfOk result (AreTrue same_key (program (world_of at.now))) }
 {
     let before = results.len();
     let ran = run_with(at, names, results, kind)?;

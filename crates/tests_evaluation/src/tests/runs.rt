@@ -1,5 +1,5 @@
 //! Runs of a core over a sheet, by each pick rule.
-ghost use Rattle.gl_calculus.specs.Evaluation.World.{world};
+ghost use Rattle.gl_calculus.specs.Evaluation.Evaluation.{program};
 ghost use Rattle.std.specs.Prelude.{◌≡◌, ◌≤◌, [], IfOk, IsTrue, map};
 ghost use Rattle.gl_calculus.specs.Computation.Lists.{Member, AreDistinct};
 ghost use Rattle.gl_machine.specs.InOrder.{AreOrdered};
@@ -8,10 +8,9 @@ ghost use Rattle.gl_machine.specs.Remembered.{AreTrue};
 ghost use Rattle.gl_calculus.specs.Evaluation.Key.{same_key};
 ghost use Rattle.gl_calculus.specs.Evaluation.Sound.{IsProperKey};
 ghost use Rattle.gl_calculus.specs.Evaluation.Key as K;
-ghost use Rattle.gl_ast.specs.View.{version_tree};
 ghost use Rattle.gl_cells.specs.Sheet.{sheet};
 ghost use Rattle.gl_memo.specs.Notes.{notes_of};
-ghost use Rattle.gl_demand.specs.{View.key_tree, Sound.AreSoundKeys, Evaluators.program_of};
+ghost use Rattle.gl_demand.specs.{View.key_tree, Sound.AreSoundKeys, Evaluators.world_of};
 ghost use Rattle.gl_core.specs.State.{state_of, seeds_of, notes_in, note_trees, HaveSoundParts};
 ghost use Rattle.gl_core.specs.State.{IsFor};
 
@@ -99,11 +98,11 @@ pub fn started(
     seeds: Vec<Key>,
     kept: Memo<Key, Outcome, Range>,
 ) -> Result<Core, Fail>
-    requires true_notes { AreTrue same_key (program_of at.now)
+    requires true_notes { AreTrue same_key (program (world_of at.now))
         (note_trees (notes_of kept)) }
     requires sound_notes { HaveSoundParts (note_trees (notes_of kept)) }
     ensures { IfOk result (λ core.
-        IsFor (world (version_tree at.now.version) (sheet at.now.cells.now) at.now.oracle.now) core) }
+        IsFor (world_of at.now) core) }
 {
     if seeds.len() > MAX_DEMANDED {
         return Err("too many seeds".into());
@@ -120,7 +119,7 @@ pub fn started(
 /// The core of these cells, without notes.
 pub fn fresh(at: &Evaluator<'_>, names: &[&str]) -> Result<Core, Fail>
     ensures { IfOk result (λ core.
-        IsFor (world (version_tree at.now.version) (sheet at.now.cells.now) at.now.oracle.now) core) }
+        IsFor (world_of at.now) core) }
 {
     let seeds = cells_at(at.alloc, names)?;
     started(at, seeds, Memo::new(at.alloc))
@@ -134,12 +133,12 @@ pub fn run<L: Watch>(
     steps: &mut Steps<L>,
 ) -> Result<Quiet, CoreFault>
     requires kind { kind ≤ 2 }
-    requires for_it { IsFor (world (version_tree at.now.version) (sheet at.now.cells.now) at.now.oracle.now) core }
+    requires for_it { IsFor (world_of at.now) core }
     ensures quiet { IfOk result (λ q.
-        IsQuiet same_key (program_of at.now) (seeds_of core) (state_of q)) }
+        IsQuiet same_key (program (world_of at.now)) (seeds_of core) (state_of q)) }
     ensures seeds { IfOk result (λ q. seeds_of q ≡ seeds_of core) }
     ensures stays { IfOk result (λ q.
-        IsFor (world (version_tree at.now.version) (sheet at.now.cells.now) at.now.oracle.now) q) }
+        IsFor (world_of at.now) q) }
     ensures ordered { IfOk result (λ q.
         AreOrdered [] (notes_in core) → AreOrdered [] (notes_in q)) }
 {

@@ -1,8 +1,9 @@
 //! Results that are tidied between runs, each of which leaves keys behind.
+ghost use Rattle.gl_calculus.specs.Evaluation.Evaluation.{program};
 ghost use Rattle.std.specs.Prelude.{◌≤◌, IfOk};
 ghost use Rattle.gl_machine.specs.Remembered.{AreTrue};
 ghost use Rattle.gl_calculus.specs.Evaluation.Key.{same_key};
-ghost use Rattle.gl_demand.specs.Evaluators.{program_of};
+ghost use Rattle.gl_demand.specs.Evaluators.{world_of};
 
 use crate::tests::results::{kept_after, outcome_of};
 use crate::tests::resumed::{by_results, run_with};
@@ -53,8 +54,8 @@ fn shape(results: &Results, name: &str) -> Result<Shape, Fail> {
 /// The results say the same of a row and the chain before and behind tidying: of the chain, its
 /// copy, the settling of that, and the cell.
 fn tidied(at: &Evaluator<'_>, results: Results, name: &str, row: u16) -> Result<Results, Fail>
-    requires { AreTrue same_key (program_of at.now) results }
-    ensures { IfOk result (AreTrue same_key (program_of at.now)) }
+    requires { AreTrue same_key (program (world_of at.now)) results }
+    ensures { IfOk result (AreTrue same_key (program (world_of at.now))) }
 {
     let want = (
         60,
@@ -75,9 +76,9 @@ fn tidied(at: &Evaluator<'_>, results: Results, name: &str, row: u16) -> Result<
 /// The results of the copy in a row, behind those of the row before, whose formula is as good as
 /// gone: as many however often they are tidied, and a run goes by them alone.
 fn next(at: &Evaluator<'_>, results: Results, row: u16, kind: u8) -> Result<Results, Fail>
-    requires true_notes { AreTrue same_key (program_of at.now) results }
+    requires true_notes { AreTrue same_key (program (world_of at.now)) results }
     requires kind { kind ≤ 2 }
-    ensures { IfOk result (AreTrue same_key (program_of at.now)) }
+    ensures { IfOk result (AreTrue same_key (program (world_of at.now))) }
 {
     let above = row.saturating_sub(1).max(1);
     let gone = format!(in at.alloc; "D{above}:D{above}")?;

@@ -17,6 +17,7 @@ use Rattle.gl_calc.specs.Round.{Stops}
 use Rattle.gl_calc.proofs.Formulas.{formulas_in_order, keys_distinct, keys_proper}
 use Rattle.gl_calc.proofs.Finished.{none_taken}
 use Rattle.gl_calc.proofs.starting.evaluated.Goals as goal
+use Rattle.gl_demand.specs.Evaluators.{world_of}
 
 pub resume-requires-clause-few : goal.resume-requires-clause-few
 resume-requires-clause-few g c = let l = ap length c.requires.all in omega (arith, l, c.requires.few)
@@ -32,11 +33,11 @@ run-requires-clause-started g c = record { seeds = c.in-Ok.ensures.seeds ∙ ap 
 
 pub returns-in-Ok-clause-steps : goal.returns-in-Ok-clause-steps
 returns-in-Ok-clause-steps g c =
-    subst (λ ns. IfOk c.run.result (λ q. (b : Table × List Addr) (i : ℕ) → AreKept b c.args.evaluator.now.oracle.now ns → Finishes (world (version_tree c.args.evaluator.now.version) (sheet c.args.evaluator.now.cells.now) c.args.evaluator.now.oracle.now) b i c.args.steps.now c.run.new.steps)) c.in-Ok.ensures.notes c.run.ensures.steps
+    subst (λ ns. IfOk c.run.result (λ q. (b : Table × List Addr) (i : ℕ) → AreKept b c.args.evaluator.now.oracle.now ns → Finishes (world_of c.args.evaluator.now) b i c.args.steps.now c.run.new.steps)) c.in-Ok.ensures.notes c.run.ensures.steps
 
 pub returns-in-Ok-clause-stops : goal.returns-in-Ok-clause-stops
 returns-in-Ok-clause-stops g c =
-    subst (λ ns. IfErr c.run.result (λ e. (b : Table × List Addr) → AreKept b c.args.evaluator.now.oracle.now ns → Stops (world (version_tree c.args.evaluator.now.version) (sheet c.args.evaluator.now.cells.now) c.args.evaluator.now.oracle.now) b e c.args.steps.now c.run.new.steps)) c.in-Ok.ensures.notes c.run.ensures.stops
+    subst (λ ns. IfErr c.run.result (λ e. (b : Table × List Addr) → AreKept b c.args.evaluator.now.oracle.now ns → Stops (world_of c.args.evaluator.now) b e c.args.steps.now c.run.new.steps)) c.in-Ok.ensures.notes c.run.ensures.stops
 
 pub returns-in-Err-Work-clause-stops : goal.returns-in-Err-Work-clause-stops
 returns-in-Err-Work-clause-stops g c = λ b k.

@@ -3,6 +3,7 @@ use Rattle.gl_cells.specs.Sheet.{sheet}
 use Rattle.gl_calc.proofs.Finished.{quiet_round, few_demanded, still_started, finishes, stops_work}
 use Rattle.gl_calc.proofs.starting.run.Goals as goal
 use Rattle.gl_calculus.specs.Evaluation.World.{world}
+use Rattle.gl_demand.specs.Evaluators.{world_of}
 
 pub returns-in-Ok-clause-evaluated : goal.returns-in-Ok-clause-evaluated
 returns-in-Ok-clause-evaluated g c =
@@ -20,7 +21,7 @@ returns-in-Ok-clause-evaluated g c =
     }
 
 pub returns-in-Ok-clause-steps : goal.returns-in-Ok-clause-steps
-returns-in-Ok-clause-steps g c = finishes (world (version_tree c.args.evaluator.now.version) (sheet c.args.evaluator.now.cells.now) c.args.evaluator.now.oracle.now) c.args.core c.requires.started c.args.steps.now c.run_all.new.steps c.in-Ok.quiet c.in-Ok.ensures.quiet c.in-Ok.ensures.stays c.in-Ok.ensures.most c.in-Ok.ensures.least
+returns-in-Ok-clause-steps g c = finishes (world_of c.args.evaluator.now) c.args.core c.requires.started c.args.steps.now c.run_all.new.steps c.in-Ok.quiet c.in-Ok.ensures.quiet c.in-Ok.ensures.stays c.in-Ok.ensures.most c.in-Ok.ensures.least
 
 pub returns-in-Err-Work-clause-stops : goal.returns-in-Err-Work-clause-stops
-returns-in-Err-Work-clause-stops g c = stops_work (world (version_tree c.args.evaluator.now.version) (sheet c.args.evaluator.now.cells.now) c.args.evaluator.now.oracle.now) c.args.core c.requires.started c.args.steps.now c.run_all.new.steps (c.in-Err-Work.ensures.work c.in-Err-Work.field-0-is) (c.in-Err-Work.ensures.most_work c.in-Err-Work.field-0-is)
+returns-in-Err-Work-clause-stops g c = stops_work (world_of c.args.evaluator.now) c.args.core c.requires.started c.args.steps.now c.run_all.new.steps (c.in-Err-Work.ensures.work c.in-Err-Work.field-0-is) (c.in-Err-Work.ensures.most_work c.in-Err-Work.field-0-is)

@@ -13,6 +13,7 @@ use Rattle.gl_demand.specs.Marks.{mark_tree}
 use Rattle.gl_explain.specs.Marks.{IsMark}
 use Rattle.gl_explain.proofs.Marks.{marked_still, mark_onward}
 use Rattle.gl_explain.proofs.reading.read_on.Goals as goal
+use Rattle.gl_demand.specs.Evaluators.{world_of}
 
 pub returns-in-Ok-Some-clause-mark : goal.returns-in-Ok-Some-clause-mark
 returns-in-Ok-Some-clause-mark g c =
@@ -28,5 +29,5 @@ returns-in-Ok-Some-clause-mark g c =
 
 pub returns-in-Ok-clause-mark : goal.returns-in-Ok-clause-mark
 returns-in-Ok-clause-mark g c =
-    let is = IsMark (world (version_tree c.args.evaluator.now.version) (sheet c.args.evaluator.now.cells.now) c.args.evaluator.now.oracle.now) (claims c.args.notes.now) (key_tree c.args.key.now) in
+    let is = IsMark (world_of c.args.evaluator.now) (claims c.args.notes.now) (key_tree c.args.key.now) in
     marked_still (λ m. m ≡ (ahead_tree c.in-Ok.turn.ahead, 0)) is (λ m e. subst is (sym e) c.in-Ok.ensures.ahead) c.by_turn.result c.by_turn.ensures.mark

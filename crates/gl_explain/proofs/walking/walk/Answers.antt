@@ -12,6 +12,7 @@ use Rattle.gl_explain.proofs.Marks.{nothing_marks}
 use Rattle.gl_explain.proofs.Turns.{begin_walk}
 use Rattle.gl_explain.proofs.walking.walk.Goals as goal
 use Rattle.gl_calculus.specs.Evaluation.World.{world}
+use Rattle.gl_demand.specs.Evaluators.{world_of}
 
 pub turns-init : goal.turns-init
 turns-init g c =
@@ -36,7 +37,7 @@ turns-smaller g c = c.in-Ok-On.ensures.falls c.in-Ok-On.field-0-is
 
 pub turns-preserved : goal.turns-preserved
 turns-preserved g c = record {
-  walking = subst (IsTurned (world (version_tree c.args.evaluator.now.version) (sheet c.args.evaluator.now.cells.now) c.args.evaluator.now.oracle.now) (key_tree c.args.root.now) c.args.steps.now c.turn.new.steps (claims c.turn.new.notes) (map key_tree c.turn.new.stack.keys)) c.in-Ok-On.field-0-is (c.in-Ok-On.ensures.turned (key_tree c.args.root.now) c.args.steps.now c.turns.invariant.walking);
+  walking = subst (IsTurned (world_of c.args.evaluator.now) (key_tree c.args.root.now) c.args.steps.now c.turn.new.steps (claims c.turn.new.notes) (map key_tree c.turn.new.stack.keys)) c.in-Ok-On.field-0-is (c.in-Ok-On.ensures.turned (key_tree c.args.root.now) c.args.steps.now c.turns.invariant.walking);
   sound = c.in-Ok-On.ensures.sound;
   marks = c.in-Ok-On.ensures.marks c.in-Ok-On.field-0-is;
   later = omega (arith, c.turns.invariant.later, c.turn.ensures.later);
@@ -44,10 +45,10 @@ turns-preserved g c = record {
 
 pub returns-in-Ok-Ended-clause-found : goal.returns-in-Ok-Ended-clause-found
 returns-in-Ok-Ended-clause-found g c = (
-  subst (IsTurned (world (version_tree c.args.evaluator.now.version) (sheet c.args.evaluator.now.cells.now) c.args.evaluator.now.oracle.now) (key_tree c.args.root.now) c.args.steps.now c.turn.new.steps (claims c.turn.new.notes) (map key_tree c.turn.new.stack.keys)) c.in-Ok-Ended.field-0-is (c.in-Ok-Ended.ensures.turned (key_tree c.args.root.now) c.args.steps.now c.turns.invariant.walking),
+  subst (IsTurned (world_of c.args.evaluator.now) (key_tree c.args.root.now) c.args.steps.now c.turn.new.steps (claims c.turn.new.notes) (map key_tree c.turn.new.stack.keys)) c.in-Ok-Ended.field-0-is (c.in-Ok-Ended.ensures.turned (key_tree c.args.root.now) c.args.steps.now c.turns.invariant.walking),
   c.in-Ok-Ended.ensures.sound,
 )
 
 pub returns-in-Ok-Full-clause-found : goal.returns-in-Ok-Full-clause-found
 returns-in-Ok-Full-clause-found g c =
-    subst (IsTurned (world (version_tree c.args.evaluator.now.version) (sheet c.args.evaluator.now.cells.now) c.args.evaluator.now.oracle.now) (key_tree c.args.root.now) c.args.steps.now c.turn.new.steps (claims c.turn.new.notes) (map key_tree c.turn.new.stack.keys)) c.in-Ok-Full.field-0-is (c.in-Ok-Full.ensures.turned (key_tree c.args.root.now) c.args.steps.now c.turns.invariant.walking)
+    subst (IsTurned (world_of c.args.evaluator.now) (key_tree c.args.root.now) c.args.steps.now c.turn.new.steps (claims c.turn.new.notes) (map key_tree c.turn.new.stack.keys)) c.in-Ok-Full.field-0-is (c.in-Ok-Full.ensures.turned (key_tree c.args.root.now) c.args.steps.now c.turns.invariant.walking)
