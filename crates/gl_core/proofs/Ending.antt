@@ -156,7 +156,7 @@ counts_on n = by (nat_lt n 18446744073709551615)
     by true = omega arith
     by false = omega arith
 
-counted_later : (noted : K.Key → Bool) (v : Option K.Key) (n m : ℕ) → AtMostCounted noted v n m → n ≤ m
+pub counted_later : (noted : K.Key → Bool) (v : Option K.Key) (n m : ℕ) → AtMostCounted noted v n m → n ≤ m
 counted_later noted v n m (inl e) = omega (arith, e)
 counted_later noted None n m (inr e) = omega (arith, e)
 counted_later noted (Some k) n m (inr e) = by (noted k) e

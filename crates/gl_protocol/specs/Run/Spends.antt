@@ -38,7 +38,7 @@ pub record Explaining (W : World) (a : Addr) (n m : ℕ) : Type 0 where
   pub found : ℕ
   pub walk : AllowsWalk W a (Cert certificate) n found
   pub check : m ≤ found + length certificate.notes + length certificate.loops
-  pub later : n ≤ m
+  pub later : found ≤ m
 
 -- What a request takes behind its calculation, by the answer: `explain` an explanation where that settled, and all else nothing.
 abbrev pub Follows : Version → Cells → Request → Answer → ℕ → ℕ → Type 0

@@ -5,12 +5,10 @@ use Rattle.gl_calculus.specs.Values.Value.{Top}
 use Rattle.gl_calculus.specs.Formulas.Formula.{formula_addresses}
 use Rattle.gl_calculus.specs.Grid.Limits.{max_demanded}
 use Rattle.gl_calculus.specs.Evaluation.Key.{Cell}
-use Rattle.gl_calculus.specs.Evaluation.World.{world}
 use Rattle.gl_calculus.specs.Evaluation.Evaluation.{program}
 use Rattle.gl_calculus.specs.Grid.Grid.{Addr}
 use Rattle.gl_calculus.specs.Calculation.Memory.{Table}
 use Rattle.gl_calculus.specs.Steps.Costs.{Finishes}
-use Rattle.gl_ast.specs.View.{version_tree}
 use Rattle.gl_cells.specs.Sheet.{sheet}
 use Rattle.gl_calc.specs.Kept.{AreKept}
 use Rattle.gl_calc.specs.Round.{Stops}
@@ -41,7 +39,5 @@ returns-in-Ok-clause-stops g c =
 
 pub returns-in-Err-Work-clause-stops : goal.returns-in-Err-Work-clause-stops
 returns-in-Err-Work-clause-stops g c = λ b k.
-    let V = version_tree c.args.evaluator.now.version in
-    let S = sheet c.args.evaluator.now.cells.now in
-    let w = c.args.evaluator.now.oracle.now in
-    (subst (λ ps. MoreThan max_demanded (Demanded (program (world V S w)) (map (Cell Top) ps))) c.requires.all (c.in-Err-Work.ensures.work c.in-Err-Work.field-0-is), none_taken (world V S w) b c.args.steps.now)
+    let W = world_of c.args.evaluator.now in
+    (subst (λ ps. MoreThan max_demanded (Demanded (program W) (map (Cell Top) ps))) c.requires.all (c.in-Err-Work.ensures.work c.in-Err-Work.field-0-is), none_taken W b c.args.steps.now)

@@ -1,23 +1,18 @@
-use Rattle.gl_ast.specs.View.{version_tree}
-use Rattle.gl_cells.specs.Sheet.{sheet}
 use Rattle.gl_calc.proofs.Finished.{quiet_round, few_demanded, still_started, finishes, stops_work}
 use Rattle.gl_calc.proofs.starting.run.Goals as goal
-use Rattle.gl_calculus.specs.Evaluation.World.{world}
 use Rattle.gl_demand.specs.Evaluators.{world_of}
 
 pub returns-in-Ok-clause-evaluated : goal.returns-in-Ok-clause-evaluated
 returns-in-Ok-clause-evaluated g c =
-    let V = version_tree c.args.evaluator.now.version in
-    let S = sheet c.args.evaluator.now.cells.now in
-    let w = c.args.evaluator.now.oracle.now in
+    let W = world_of c.args.evaluator.now in
     let core = c.args.core in
     let h = c.requires.started in
     let n = c.args.steps.now in
     let m = c.run_all.new.steps in
     record {
-      round = quiet_round (world V S w) core h n m c.in-Ok.quiet c.in-Ok.ensures.quiet;
-      finished = few_demanded (world V S w) core h n m c.in-Ok.ensures.no_work;
-      started = still_started (world V S w) core h n m c.in-Ok.quiet c.in-Ok.ensures.seeds c.in-Ok.ensures.stays (c.in-Ok.ensures.ordered h.ordered);
+      round = quiet_round W core h n m c.in-Ok.quiet c.in-Ok.ensures.quiet;
+      finished = few_demanded W core h n m c.in-Ok.ensures.no_work;
+      started = still_started W core h n m c.in-Ok.quiet c.in-Ok.ensures.seeds c.in-Ok.ensures.stays (c.in-Ok.ensures.ordered h.ordered);
     }
 
 pub returns-in-Ok-clause-steps : goal.returns-in-Ok-clause-steps

@@ -1,9 +1,6 @@
 use Rattle.std.proofs.Common.{◌≡◌, sym, subst}
 use Rattle.gl_calculus.specs.Evaluation.Key.{same_key}
 use Rattle.gl_calculus.specs.Explanation.Walk.{noted}
-use Rattle.gl_calculus.specs.Evaluation.World.{world}
-use Rattle.gl_ast.specs.View.{version_tree}
-use Rattle.gl_cells.specs.Sheet.{sheet}
 use Rattle.gl_machine.specs.Ahead.Reading.{keys_from}
 use Rattle.gl_demand.specs.Lacking.{IsNext}
 use Rattle.gl_demand.specs.Reading.{ahead_tree}
@@ -17,15 +14,13 @@ use Rattle.gl_demand.specs.Evaluators.{world_of}
 
 pub returns-in-Ok-Some-clause-mark : goal.returns-in-Ok-Some-clause-mark
 returns-in-Ok-Some-clause-mark g c =
-    let v = version_tree c.args.evaluator.now.version in
-    let S = sheet c.args.evaluator.now.cells.now in
-    let w = c.args.evaluator.now.oracle.now in
+    let W = world_of c.args.evaluator.now in
     let done = claims c.args.notes.now in
     let k = key_tree c.args.key.now in
     let m = mark_tree c.args.mark in
     let x = c.in-Ok-Some.lacked in
-    let is = subst (IsNext (noted same_key done) (keys_from S w m.0) m.1) c.in-Ok-Some.field-0-is c.in-Ok-Some.ensures in
-    marked_still (λ n. n ≡ (ahead_tree c.args.mark.ahead, x.place)) (IsMark (world v S w) done k) (λ n e. subst (IsMark (world v S w) done k) (sym e) (mark_onward (world v S w) done k m x.place is.1 c.requires.mark)) c.by_mark.result c.by_mark.ensures.mark
+    let is = subst (IsNext (noted same_key done) (keys_from W.sheet W.oracle m.0) m.1) c.in-Ok-Some.field-0-is c.in-Ok-Some.ensures in
+    marked_still (λ n. n ≡ (ahead_tree c.args.mark.ahead, x.place)) (IsMark W done k) (λ n e. subst (IsMark W done k) (sym e) (mark_onward W done k m x.place is.1 c.requires.mark)) c.by_mark.result c.by_mark.ensures.mark
 
 pub returns-in-Ok-clause-mark : goal.returns-in-Ok-clause-mark
 returns-in-Ok-clause-mark g c =

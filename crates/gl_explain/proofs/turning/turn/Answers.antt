@@ -1,14 +1,11 @@
 use Rattle.std.proofs.Common.{◌≡◌, ℕ, ◌≤◌, ◌+◌, ◌<◌, None, map, IsTrue, ap, sym, subst, ◌∙◌}
 use Rattle.std.proofs.lemmas.Result.{IfOk-weaker}
 use Rattle.gl_calculus.specs.Computation.Query.{Ready, Need, found}
-use Rattle.gl_calculus.specs.Evaluation.World.{world}
 use Rattle.gl_calculus.specs.Evaluation.Evaluation.{program}
 use Rattle.gl_calculus.specs.Evaluation.Key as K
 use Rattle.gl_calculus.specs.Evaluation.Key.{same_key}
 use Rattle.gl_calculus.specs.Evaluation.Sound.{is_sound_key}
 use Rattle.gl_calculus.specs.Explanation.Walk.{noted}
-use Rattle.gl_ast.specs.View.{version_tree}
-use Rattle.gl_cells.specs.Sheet.{sheet}
 use Rattle.gl_demand.specs.Sound.{AreSoundKeys, IsSoundFound}
 use Rattle.gl_demand.specs.View.{key_tree, outcome_tree}
 use Rattle.gl_cert.specs.Notes.{claims}
@@ -21,15 +18,14 @@ use Rattle.gl_explain.proofs.Tops.{trees_top, top_sound, below_sound, one_top}
 use Rattle.gl_explain.proofs.Turns.{top_free, top_proper, off_turned, on_turned, end_empty, put_falls, put_sound}
 use Rattle.gl_explain.proofs.Marks.{some_mark, below_marked, off_marks, on_marks}
 use Rattle.gl_explain.proofs.turning.turn.Goals as goal
+use Rattle.gl_demand.specs.Evaluators.{world_of}
 
 pub read_on-requires-clause-sound : goal.read_on-requires-clause-sound
 read_on-requires-clause-sound g c = top_sound c.args.stack.now.keys c.in-Some.key.now c.requires.sound c.in-Some.ensures.some
 
 pub read_on-requires-clause-proper : goal.read_on-requires-clause-proper
 read_on-requires-clause-proper g c =
-    let v = version_tree c.args.evaluator.now.version in
-    let S = sheet c.args.evaluator.now.cells.now in
-    let w = c.args.evaluator.now.oracle.now in
+    let W = world_of c.args.evaluator.now in
     let done = claims c.args.notes.now in
     let up = map key_tree c.args.stack.now.keys in
     let m = c.args.steps.now in
@@ -38,39 +34,33 @@ read_on-requires-clause-proper g c =
     let us = map key_tree below in
     let e = trees_top c.args.stack.now.keys below k d in
     let (root, n, h) = c.requires.walking in
-    top_proper (world v S w) root n m done us (key_tree k) (subst (IsWalking (world v S w) root n m done) e h)
+    top_proper W root n m done us (key_tree k) (subst (IsWalking W root n m done) e h)
 
 pub take_mark-mark-requires : goal.take_mark-mark-requires
 take_mark-mark-requires g c =
-    let v = version_tree c.args.evaluator.now.version in
-    let S = sheet c.args.evaluator.now.cells.now in
-    let w = c.args.evaluator.now.oracle.now in
+    let W = world_of c.args.evaluator.now in
     let done = claims c.args.notes.now in
     let up = map key_tree c.args.stack.now.keys in
     let k = c.in-Some.key.now in
     let (below, d) = c.in-Some.ensures.some in
     let us = map key_tree below in
     let e = trees_top c.args.stack.now.keys below k d in
-    some_mark (IsMark (world v S w) done) up us (key_tree k) c.args.marks.now.items e c.requires.marks
+    some_mark (IsMark W done) up us (key_tree k) c.args.marks.now.items e c.requires.marks
 
 pub read_on-requires-clause-mark : goal.read_on-requires-clause-mark
 read_on-requires-clause-mark g c =
-    let v = version_tree c.args.evaluator.now.version in
-    let S = sheet c.args.evaluator.now.cells.now in
-    let w = c.args.evaluator.now.oracle.now in
+    let W = world_of c.args.evaluator.now in
     let done = claims c.args.notes.now in
     let up = map key_tree c.args.stack.now.keys in
     let k = c.in-Some.key.now in
     let (below, d) = c.in-Some.ensures.some in
     let us = map key_tree below in
     let e = trees_top c.args.stack.now.keys below k d in
-    (below_marked (IsMark (world v S w) done) up us (key_tree k) (mark_trees c.args.marks.now.items) (mark_trees c.take_mark-mark.new.marks.items) (mark_tree c.take_mark-mark.result) e c.take_mark-mark.ensures c.requires.marks).1
+    (below_marked (IsMark W done) up us (key_tree k) (mark_trees c.args.marks.now.items) (mark_trees c.take_mark-mark.new.marks.items) (mark_tree c.take_mark-mark.result) e c.take_mark-mark.ensures c.requires.marks).1
 
 pub take_off-requires-clause-top : goal.take_off-requires-clause-top
 take_off-requires-clause-top g c = λ j t.
-    let v = version_tree c.args.evaluator.now.version in
-    let S = sheet c.args.evaluator.now.cells.now in
-    let w = c.args.evaluator.now.oracle.now in
+    let W = world_of c.args.evaluator.now in
     let done = claims c.args.notes.now in
     let up = map key_tree c.args.stack.now.keys in
     let m = c.args.steps.now in
@@ -82,13 +72,11 @@ take_off-requires-clause-top g c = λ j t.
     let o = outcome_tree c.in-Ok-Ready.outcome in
     let f : IsSoundFound (key_tree k) (Ready o) = subst (λ f. IsSoundFound (key_tree k) (reached_tree f)) c.in-Ok-Ready.field-0-is c.in-Ok-Ready.ensures.sound in
     subst (λ x. (noted same_key done (key_tree x) ≡ None) × IsTrue (is_sound_key (key_tree x)) × IsSoundFound (key_tree x) (Ready o)) (one_top c.args.stack.now.keys k j (below, d) t)
-    (top_free (world v S w) root n m done us (key_tree k) (subst (IsWalking (world v S w) root n m done) e h), top_sound c.args.stack.now.keys k c.requires.sound (below, d), f)
+    (top_free W root n m done us (key_tree k) (subst (IsWalking W root n m done) e h), top_sound c.args.stack.now.keys k c.requires.sound (below, d), f)
 
 pub returns-in-Ok-Ready-clause-turned : goal.returns-in-Ok-Ready-clause-turned
 returns-in-Ok-Ready-clause-turned g c =
-    let v = version_tree c.args.evaluator.now.version in
-    let S = sheet c.args.evaluator.now.cells.now in
-    let w = c.args.evaluator.now.oracle.now in
+    let W = world_of c.args.evaluator.now in
     let done = claims c.args.notes.now in
     let up = map key_tree c.args.stack.now.keys in
     let m = c.args.steps.now in
@@ -100,10 +88,10 @@ returns-in-Ok-Ready-clause-turned g c =
     let more = claims c.take_off.new.notes in
     let vs = map key_tree c.take_off.new.stack.keys in
     let l = c.read_on.new.steps in
-    let le : l ≤ m + 1 = c.read_on.ensures.steps in
-    let f : found (noted same_key done) (program (world v S w) (key_tree k)) ≡ Ready o = sym c.in-Ok-Ready.ensures.found ∙ ap reached_tree c.in-Ok-Ready.field-0-is in
-    IfOk-weaker c.take_off.result (λ t. IsTakenOff o done up t more vs) (λ t. (root : K.Key) (n : ℕ) → IsWalking (world v S w) root n m done up → IsTurned (world v S w) root n l more vs t)
-    (λ t x root n h. off_turned (world v S w) root n m l done more up vs o t h x (λ j us' q. subst (λ y. found (noted same_key done) (program (world v S w) y) ≡ Ready o) (one_top up (key_tree k) j (us, e) (us', q)) f) le)
+    let le : (m ≤ l) × (l ≤ m + 1) = (c.read_on.ensures.later, c.read_on.ensures.steps) in
+    let f : found (noted same_key done) (program W (key_tree k)) ≡ Ready o = sym c.in-Ok-Ready.ensures.found ∙ ap reached_tree c.in-Ok-Ready.field-0-is in
+    IfOk-weaker c.take_off.result (λ t. IsTakenOff o done up t more vs) (λ t. (root : K.Key) (n : ℕ) → IsWalking W root n m done up → IsTurned W root n l more vs t)
+    (λ t x root n h. off_turned W root n m l done more up vs o t h x (λ j us' q. subst (λ y. found (noted same_key done) (program W y) ≡ Ready o) (one_top up (key_tree k) j (us, e) (us', q)) f) le)
     c.take_off.ensures.taken
 
 pub returns-in-Ok-Ready-clause-sound : goal.returns-in-Ok-Ready-clause-sound
@@ -117,9 +105,7 @@ returns-in-Ok-Ready-clause-sound g c =
 
 pub returns-in-Ok-Ready-clause-marks : goal.returns-in-Ok-Ready-clause-marks
 returns-in-Ok-Ready-clause-marks g c =
-    let v = version_tree c.args.evaluator.now.version in
-    let S = sheet c.args.evaluator.now.cells.now in
-    let w = c.args.evaluator.now.oracle.now in
+    let W = world_of c.args.evaluator.now in
     let done = claims c.args.notes.now in
     let up = map key_tree c.args.stack.now.keys in
     let k = c.in-Some.key.now in
@@ -130,14 +116,12 @@ returns-in-Ok-Ready-clause-marks g c =
     let more = claims c.take_off.new.notes in
     let vs = map key_tree c.take_off.new.stack.keys in
     let ns = mark_trees c.take_mark-mark.new.marks.items in
-    let h = (below_marked (IsMark (world v S w) done) up us (key_tree k) (mark_trees c.args.marks.now.items) ns (mark_tree c.take_mark-mark.result) e c.take_mark-mark.ensures c.requires.marks).0 in
-    IfOk-weaker c.take_off.result (λ t. IsTakenOff o done up t more vs) (λ t. t ≡ On → AreMarks (world v S w) more vs ns) (λ t x q. off_marks (world v S w) o done more up us vs (key_tree k) t ns x e h) c.take_off.ensures.taken
+    let h = (below_marked (IsMark W done) up us (key_tree k) (mark_trees c.args.marks.now.items) ns (mark_tree c.take_mark-mark.result) e c.take_mark-mark.ensures c.requires.marks).0 in
+    IfOk-weaker c.take_off.result (λ t. IsTakenOff o done up t more vs) (λ t. t ≡ On → AreMarks W more vs ns) (λ t x q. off_marks W o done more up us vs (key_tree k) t ns x e h) c.take_off.ensures.taken
 
 pub returns-in-Ok-Need-clause-turned : goal.returns-in-Ok-Need-clause-turned
 returns-in-Ok-Need-clause-turned g c =
-    let v = version_tree c.args.evaluator.now.version in
-    let S = sheet c.args.evaluator.now.cells.now in
-    let w = c.args.evaluator.now.oracle.now in
+    let W = world_of c.args.evaluator.now in
     let done = claims c.args.notes.now in
     let up = map key_tree c.args.stack.now.keys in
     let m = c.args.steps.now in
@@ -151,17 +135,15 @@ returns-in-Ok-Need-clause-turned g c =
     let ms = mark_trees c.take_mark-mark.new.marks.items in
     let ns = mark_trees c.put_on.new.marks.items in
     let l = c.read_on.new.steps in
-    let le : l ≤ m + 1 = c.read_on.ensures.steps in
-    let f : found (noted same_key done) (program (world v S w) (key_tree k)) ≡ Need j = sym c.in-Ok-Need.ensures.found ∙ ap reached_tree c.in-Ok-Need.field-0-is in
-    IfOk-weaker c.put_on.result (λ t. IsPutOn j a done up ms t vs ns) (λ t. (root : K.Key) (n : ℕ) → IsWalking (world v S w) root n m done up → IsTurned (world v S w) root n l done vs t)
-    (λ t x root n h. on_turned (world v S w) root n m l done up us vs (key_tree k) j a ms ns t h e x f le)
+    let le : (m ≤ l) × (l ≤ m + 1) = (c.read_on.ensures.later, c.read_on.ensures.steps) in
+    let f : found (noted same_key done) (program W (key_tree k)) ≡ Need j = sym c.in-Ok-Need.ensures.found ∙ ap reached_tree c.in-Ok-Need.field-0-is in
+    IfOk-weaker c.put_on.result (λ t. IsPutOn j a done up ms t vs ns) (λ t. (root : K.Key) (n : ℕ) → IsWalking W root n m done up → IsTurned W root n l done vs t)
+    (λ t x root n h. on_turned W root n m l done up us vs (key_tree k) j a ms ns t h e x f le)
     c.put_on.ensures.put
 
 pub returns-in-Ok-Need-clause-falls : goal.returns-in-Ok-Need-clause-falls
 returns-in-Ok-Need-clause-falls g c =
-    let v = version_tree c.args.evaluator.now.version in
-    let S = sheet c.args.evaluator.now.cells.now in
-    let w = c.args.evaluator.now.oracle.now in
+    let W = world_of c.args.evaluator.now in
     let done = claims c.args.notes.now in
     let up = map key_tree c.args.stack.now.keys in
     let j = key_tree c.in-Ok-Need.key in
@@ -170,7 +152,7 @@ returns-in-Ok-Need-clause-falls g c =
     let ms = mark_trees c.take_mark-mark.new.marks.items in
     let ns = mark_trees c.put_on.new.marks.items in
     let (root, n, h) = c.requires.walking in
-    IfOk-weaker c.put_on.result (λ t. IsPutOn j a done up ms t vs ns) (λ t. t ≡ On → left done vs < left done up) (λ t x. put_falls (world v S w) root n c.args.steps.now done up vs j a ms ns t h x) c.put_on.ensures.put
+    IfOk-weaker c.put_on.result (λ t. IsPutOn j a done up ms t vs ns) (λ t. t ≡ On → left done vs < left done up) (λ t x. put_falls W root n c.args.steps.now done up vs j a ms ns t h x) c.put_on.ensures.put
 
 pub returns-in-Ok-Need-clause-sound : goal.returns-in-Ok-Need-clause-sound
 returns-in-Ok-Need-clause-sound g c =
@@ -186,9 +168,7 @@ returns-in-Ok-Need-clause-sound g c =
 
 pub returns-in-Ok-Need-clause-marks : goal.returns-in-Ok-Need-clause-marks
 returns-in-Ok-Need-clause-marks g c =
-    let v = version_tree c.args.evaluator.now.version in
-    let S = sheet c.args.evaluator.now.cells.now in
-    let w = c.args.evaluator.now.oracle.now in
+    let W = world_of c.args.evaluator.now in
     let done = claims c.args.notes.now in
     let up = map key_tree c.args.stack.now.keys in
     let k = c.in-Some.key.now in
@@ -200,16 +180,14 @@ returns-in-Ok-Need-clause-marks g c =
     let a = mark_tree c.in-Ok-Need.mark in
     let ms = mark_trees c.take_mark-mark.new.marks.items in
     let ns = mark_trees c.put_on.new.marks.items in
-    let h = (below_marked (IsMark (world v S w) done) up us (key_tree k) (mark_trees c.args.marks.now.items) ms (mark_tree c.take_mark-mark.result) e c.take_mark-mark.ensures c.requires.marks).0 in
-    let i : IsMark (world v S w) done (key_tree k) a = subst (IsMarked (IsMark (world v S w) done (key_tree k))) c.in-Ok-Need.field-0-is c.in-Ok-Need.ensures.mark in
-    IfOk-weaker c.put_on.result (λ t. IsPutOn j a done up ms t vs ns) (λ t. t ≡ On → AreMarks (world v S w) done vs ns) (λ t x q. on_marks (world v S w) done up us vs (key_tree k) j a ms ns t x e h i q) c.put_on.ensures.put
+    let h = (below_marked (IsMark W done) up us (key_tree k) (mark_trees c.args.marks.now.items) ms (mark_tree c.take_mark-mark.result) e c.take_mark-mark.ensures c.requires.marks).0 in
+    let i : IsMark W done (key_tree k) a = subst (IsMarked (IsMark W done (key_tree k))) c.in-Ok-Need.field-0-is c.in-Ok-Need.ensures.mark in
+    IfOk-weaker c.put_on.result (λ t. IsPutOn j a done up ms t vs ns) (λ t. t ≡ On → AreMarks W done vs ns) (λ t x q. on_marks W done up us vs (key_tree k) j a ms ns t x e h i q) c.put_on.ensures.put
 
 pub returns-in-None-clause-turned : goal.returns-in-None-clause-turned
 returns-in-None-clause-turned g c = λ root n h.
-    let v = version_tree c.args.evaluator.now.version in
-    let S = sheet c.args.evaluator.now.cells.now in
-    let w = c.args.evaluator.now.oracle.now in
+    let W = world_of c.args.evaluator.now in
     let done = claims c.args.notes.now in
     let m = c.args.steps.now in
     let e = ap (map key_tree) c.in-None.ensures.none in
-    subst (HasEnded (world v S w) root n m done) (sym e) (end_empty (world v S w) root n m done (subst (IsWalking (world v S w) root n m done) e h))
+    subst (HasEnded W root n m done) (sym e) (end_empty W root n m done (subst (IsWalking W root n m done) e h))

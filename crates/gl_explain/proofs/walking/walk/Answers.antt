@@ -1,6 +1,4 @@
 use Rattle.std.proofs.Common.{map, [], ◌∷◌, sym, subst, arith}
-use Rattle.gl_ast.specs.View.{version_tree}
-use Rattle.gl_cells.specs.Sheet.{sheet}
 use Rattle.gl_demand.specs.Sound.{AreSoundKeys}
 use Rattle.gl_demand.specs.View.{key_tree}
 use Rattle.gl_cert.specs.Notes.{claims}
@@ -11,21 +9,18 @@ use Rattle.gl_explain.proofs.Tops.{one_sound}
 use Rattle.gl_explain.proofs.Marks.{nothing_marks}
 use Rattle.gl_explain.proofs.Turns.{begin_walk}
 use Rattle.gl_explain.proofs.walking.walk.Goals as goal
-use Rattle.gl_calculus.specs.Evaluation.World.{world}
 use Rattle.gl_demand.specs.Evaluators.{world_of}
 
 pub turns-init : goal.turns-init
 turns-init g c =
-    let v = version_tree c.args.evaluator.now.version in
-    let S = sheet c.args.evaluator.now.cells.now in
-    let w = c.args.evaluator.now.oracle.now in
+    let W = world_of c.args.evaluator.now in
     let r = key_tree c.args.root.now in
     let n = c.args.steps.now in
     record {
-      walking = subst (λ d. IsWalking (world v S w) r n n d (map key_tree c.in_ok-stack.stack.keys)) (sym c.new-notes.ensures) (subst (λ u. IsWalking (world v S w) r n n [] u) (sym c.in_ok-stack.ensures) (begin_walk (world v S w) r n c.requires.proper));
+      walking = subst (λ d. IsWalking W r n n d (map key_tree c.in_ok-stack.stack.keys)) (sym c.new-notes.ensures) (subst (λ u. IsWalking W r n n [] u) (sym c.in_ok-stack.ensures) (begin_walk W r n c.requires.proper));
       sound = subst AreSoundKeys (sym c.in_ok-stack.ensures) (one_sound r c.requires.sound);
-      marks = subst (λ u. AreMarks (world v S w) (claims c.new-notes.result) u (mark_trees c.in_ok-marks.marks.items)) (sym c.in_ok-stack.ensures)
-          (subst (AreMarks (world v S w) (claims c.new-notes.result) (r ∷ [])) (sym c.in_ok-marks.ensures) (nothing_marks (world v S w) (claims c.new-notes.result) r, tt));
+      marks = subst (λ u. AreMarks W (claims c.new-notes.result) u (mark_trees c.in_ok-marks.marks.items)) (sym c.in_ok-stack.ensures)
+          (subst (AreMarks W (claims c.new-notes.result) (r ∷ [])) (sym c.in_ok-marks.ensures) (nothing_marks W (claims c.new-notes.result) r, tt));
       later = omega arith;
     }
 

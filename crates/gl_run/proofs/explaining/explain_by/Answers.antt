@@ -3,15 +3,13 @@ use Rattle.std.proofs.lemmas.Result.{IfOk-weaker}
 use Rattle.gl_calculus.specs.Explanation.Certificate as E
 use Rattle.gl_calculus.specs.Explanation.Certificate.{Explains, verdict}
 use Rattle.gl_protocol.specs.Replies.Explanations.{explanation_text}
-use Rattle.gl_ast.specs.View.{version_tree}
-use Rattle.gl_cells.specs.Sheet.{sheet}
 use Rattle.gl_cert.specs.View.{cert_tree}
 use Rattle.gl_demand.specs.View.{budget_tree}
 use Rattle.gl_calculus.specs.Steps.Walk.{AllowsWalk}
-use Rattle.gl_calculus.specs.Evaluation.World.{world}
 use Rattle.gl_explain.specs.View.{explained_tree}
 use Rattle.gl_run.specs.Replies.{IsExplanation}
 use Rattle.gl_run.proofs.explaining.explain_by.Goals as goal
+use Rattle.gl_demand.specs.Evaluators.{world_of}
 
 pub unreachable-requires : goal.unreachable-requires
 unreachable-requires g c =
@@ -29,26 +27,24 @@ unreachable-requires-in-Ok-Aborts g c =
 
 pub returns-in-Ok-Cert : goal.returns-in-Ok-Cert
 returns-in-Ok-Cert g c =
-    let V = version_tree c.args.evaluator.now.version in
-    let S = sheet c.args.evaluator.now.cells.now in
-    let w = c.args.evaluator.now.oracle.now in
+    let W = world_of c.args.evaluator.now in
     let a = c.args.a in
     let t = cert_tree c.in-Ok-Cert.cert in
     let n = c.args.steps.now in
     let k = c.certificate.new.steps in
     let m = c.explain_checked.new.steps in
     let is : explained_tree c.in-Ok-Cert.field-0 ≡ E.Cert t = ap explained_tree c.in-Ok-Cert.field-0-is in
-    let P : Vec ℕ Global → Type 0 = λ reply. reply.items ≡ explanation_text (verdict (world V S w) a t) t in
-    let Q : Vec ℕ Global → Type 0 = λ reply. IsExplanation (world V S w) a n m reply.items in
+    let P : Vec ℕ Global → Type 0 = λ reply. reply.items ≡ explanation_text (verdict W a t) t in
+    let Q : Vec ℕ Global → Type 0 = λ reply. IsExplanation W a n m reply.items in
     IfOk-weaker c.explain_checked.result P Q
     (λ reply e. (
       record {
         certificate = t;
-        explains = subst (Explains (world V S w) a) is c.in-Ok-Cert.ensures.explained;
+        explains = subst (Explains W a) is c.in-Ok-Cert.ensures.explained;
         found = k;
-        walk = subst (λ x. AllowsWalk (world V S w) a x n k) is c.in-Ok-Cert.ensures.steps;
+        walk = subst (λ x. AllowsWalk W a x n k) is c.in-Ok-Cert.ensures.steps;
         check = c.explain_checked.ensures.steps;
-        later = omega (arith, c.certificate.ensures.later, c.explain_checked.ensures.later);
+        later = c.explain_checked.ensures.later;
       },
       e,
     ))

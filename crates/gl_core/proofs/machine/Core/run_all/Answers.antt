@@ -9,8 +9,8 @@ use Rattle.gl_ast.specs.View.{version_tree}
 use Rattle.gl_cells.specs.Sheet.{sheet}
 use Rattle.gl_core.specs.Held.{Held}
 use Rattle.gl_core.specs.State.{state_of, seeds_of, notes_in, is_noted, IsFor}
-use Rattle.gl_core.specs.Answers.{AllowsKnown}
-use Rattle.gl_core.proofs.Ending.{run_begun, run_goes, run_ends, run_full, full_allows, run_quiet, run_few, run_allows}
+use Rattle.gl_machine.specs.Machine.{idle_keys, nth}
+use Rattle.gl_core.proofs.Ending.{counted_later, run_begun, run_goes, run_ends, run_full, full_allows, run_quiet, run_few, run_allows}
 use Rattle.gl_core.proofs.machine.Core.run_all.Goals as goal
 
 pub picks-init : goal.picks-init
@@ -26,8 +26,23 @@ returns-then-n-eq0-clause-no_work g c = run_few (world (version_tree c.args.vers
 
 pub returns-then-n-eq0-clause-most : goal.returns-then-n-eq0-clause-most
 returns-then-n-eq0-clause-most g c =
-    subst (λ (x : Held). AllowsKnown (program (world (version_tree c.args.version) (sheet c.args.cells.now) c.args.w.now)) (is_noted (notes_in c.args.self)) (state_of x) c.args.steps.now c.picks.steps) (sym c.into_quiet.ensures)
-    (run_allows (world (version_tree c.args.version) (sheet c.args.cells.now) c.args.w.now) c.args.self c.picks.core c.args.steps.now c.picks.steps c.picks.invariant (sym c.idle-n.ensures ∙ c.if-n-eq0.true))
+    run_allows (world (version_tree c.args.version) (sheet c.args.cells.now) c.args.w.now) c.args.self c.picks.core c.args.steps.now c.picks.steps c.picks.invariant
+    (sym c.idle-n.ensures ∙ c.if-n-eq0.true)
+
+pub returns-then-n-eq0-clause-later : goal.returns-then-n-eq0-clause-later
+returns-then-n-eq0-clause-later g c = c.picks.invariant.later
+
+pub returns-in_default-clause-later : goal.returns-in_default-clause-later
+returns-in_default-clause-later g c =
+    let core = c.picks.core in
+    let l = counted_later (is_noted (notes_in core)) (nth (idle_keys (state_of core)) c.next-i.result) c.picks.steps c.pick.new.steps c.pick.ensures.counted in
+    omega (arith, c.picks.invariant.later, l)
+
+pub returns-then-is_full-clause-later : goal.returns-then-is_full-clause-later
+returns-then-is_full-clause-later g c =
+    let core = c.picks.core in
+    let l = counted_later (is_noted (notes_in core)) (nth (idle_keys (state_of core)) c.next-i.result) c.picks.steps c.pick.new.steps c.pick.ensures.counted in
+    omega (arith, c.picks.invariant.later, l)
 
 pub returns-then-is_full-clause-work : goal.returns-then-is_full-clause-work
 returns-then-is_full-clause-work g c e =
