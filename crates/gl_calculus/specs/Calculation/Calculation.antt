@@ -1,5 +1,7 @@
--- The whole calculation: round by round to an oracle that is its own next one, or to a spent budget; and what is shown then.
-use Rattle.std.specs.Prelude.{◌≡◌, ◌≢◌, ◌⊎◌, ◌↔◌, ℕ, suc, ◌+◌, Bool, true, false, List, [], ◌∷◌, length, map, Option, Some, None, is_some, Ok, IsFalse}
+-- The whole calculation: round by round to an oracle that is its own next one, or to a spent
+-- budget; and what is shown then.
+use Rattle.std.specs.Prelude.{◌≡◌, ◌≢◌, ◌⊎◌, ◌↔◌, ℕ, suc, ◌+◌, Bool, true, false, List, [], ◌∷◌}
+use Rattle.std.specs.Prelude.{length, map, Option, Some, None, is_some, Ok, IsFalse}
 use Rattle.std.specs.List.{AllByRecursion}
 use Rattle.gl_calculus.specs.Computation.Lists.{Member, MoreThan}
 use Rattle.gl_calculus.specs.Computation.Query.{Has, Loops, Gives}
@@ -9,8 +11,10 @@ use Rattle.gl_calculus.specs.Grid.Limits.{max_demanded, extra_rounds}
 use Rattle.gl_calculus.specs.Grid.Grid.{Addr, Size, grid}
 use Rattle.gl_calculus.specs.Values.Value.{Permit, Oracle, Scalar, Blank, Scalars, One, Array, Top}
 use Rattle.gl_calculus.specs.Values.Value as V
-use Rattle.gl_calculus.specs.Formulas.Formula.{Version, Formula, Form, Cells, content, formula_addresses}
-use Rattle.gl_calculus.specs.Evaluation.Oracle.{IsInOrder, entry_at, Cover, cover, Sizes, grant, ArePermits, first_difference, Obstacle, blocker}
+use Rattle.gl_calculus.specs.Formulas.Formula.{Version, Formula, Form, Cells, content}
+use Rattle.gl_calculus.specs.Formulas.Formula.{formula_addresses}
+use Rattle.gl_calculus.specs.Evaluation.Oracle.{IsInOrder, entry_at, Cover, cover, Sizes, grant}
+use Rattle.gl_calculus.specs.Evaluation.Oracle.{ArePermits, first_difference, Obstacle, blocker}
 use Rattle.gl_calculus.specs.Values.Value.{Entry}
 use Rattle.gl_calculus.specs.Evaluation.Facts.{fact, facts}
 use Rattle.gl_calculus.specs.Evaluation.Key.{Key, Cell, Budget, Outcome, Abort}

@@ -1,5 +1,6 @@
 -- Where two oracles differ, as few ranges.
-use Rattle.std.specs.Prelude.{◌≡◌, ◌+◌, nat_lt, Bool, true, false, ◌&&◌, List, [], ◌∷◌, ◌++◌, flat_map, Option, Some, None, if◌then◌else◌}
+use Rattle.std.specs.Prelude.{◌≡◌, ◌+◌, nat_lt, Bool, true, false, ◌&&◌, List, [], ◌∷◌, ◌++◌}
+use Rattle.std.specs.Prelude.{flat_map, Option, Some, None, if◌then◌else◌}
 use Rattle.gl_calculus.specs.Computation.Lists.{Member}
 use Rattle.gl_calculus.specs.Grid.Grid.{addr, Range, range, single, lies_in, meets, grid}
 use Rattle.gl_calculus.specs.Values.Value.{Entry, Oracle}
@@ -12,13 +13,17 @@ spills x = is_permitted x.permit && lies_in (area_of x) grid
 
 -- no two areas that spill meet
 abbrev pub AreApart : Oracle → Type 0
-AreApart w = (x y : Entry) → Member x w → Member y w → spills x ≡ true → spills y ≡ true → meets (area_of x) (area_of y) ≡ true → x.root ≡ y.root
+AreApart w =
+    (x y : Entry) → Member x w → Member y w → spills x ≡ true → spills y ≡ true →
+    meets (area_of x) (area_of y) ≡ true → x.root ≡ y.root
 
 -- what of the first range is not in the second, which has the same first corner
 abbrev pub minus : Range → Range → List Range
 minus a b =
-    (if nat_lt b.last.row a.last.row then range (addr a.first.col (b.last.row + 1)) a.last ∷ [] else [])
-    ++ (if nat_lt b.last.col a.last.col then range (addr (b.last.col + 1) a.first.row) a.last ∷ [] else [])
+    (if nat_lt b.last.row a.last.row
+    then range (addr a.first.col (b.last.row + 1)) a.last ∷ [] else [])
+    ++ (if nat_lt b.last.col a.last.col
+    then range (addr (b.last.col + 1) a.first.row) a.last ∷ [] else [])
 
 -- what only one of two areas with the same root covers
 abbrev pub areas_apart : Bool → Bool → Range → Range → List Range
@@ -32,7 +37,9 @@ abbrev pub own_places : Entry → List Range
 own_places x = single x.root ∷ (if spills x then area_of x ∷ [] else [])
 
 abbrev pub by_both : Entry → Entry → List Range
-by_both x y = (if same_permit y.permit x.permit then [] else single x.root ∷ []) ++ areas_apart (spills x) (spills y) (area_of x) (area_of y)
+by_both x y =
+    (if same_permit y.permit x.permit then [] else single x.root ∷ [])
+    ++ areas_apart (spills x) (spills y) (area_of x) (area_of y)
 
 abbrev pub by_entry : Entry → Option Entry → List Range
 by_entry x None = own_places x
@@ -43,4 +50,6 @@ by_new y None = own_places y
 by_new y (Some x) = []
 
 abbrev pub differences : Oracle → Oracle → List Range
-differences w v = flat_map (λ x. by_entry x (entry_at v x.root)) w ++ flat_map (λ y. by_new y (entry_at w y.root)) v
+differences w v =
+    flat_map (λ x. by_entry x (entry_at v x.root)) w
+    ++ flat_map (λ y. by_new y (entry_at w y.root)) v

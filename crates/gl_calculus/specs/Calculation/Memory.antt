@@ -1,5 +1,6 @@
 -- What a calculation may keep from an earlier one: the notes of keys, and which of them still hold.
-use Rattle.std.specs.Prelude.{◌≡◌, ◌≤◌, ◌<◌, ℕ, zero, suc, slice_get, if◌then◌else◌, Bool, true, false, ◌&&◌, ◌||◌, ◌==◌, not, List, [], length, Option, Some, None}
+use Rattle.std.specs.Prelude.{◌≡◌, ◌≤◌, ◌<◌, ℕ, zero, suc, slice_get, if◌then◌else◌, Bool, true}
+use Rattle.std.specs.Prelude.{false, ◌&&◌, ◌||◌, ◌==◌, not, List, [], length, Option, Some, None}
 use Rattle.std.specs.List.{list_any}
 use Rattle.gl_calculus.specs.Computation.Lists.{Member, AreDistinct}
 use Rattle.gl_calculus.specs.Computation.Query.{Has}
@@ -18,7 +19,8 @@ use Rattle.gl_calculus.specs.Evaluation.World.{World, world}
 use Rattle.gl_calculus.specs.Evaluation.Evaluation.{program}
 use Rattle.gl_calculus.specs.Calculation.Calculation.{DemandedIn, IsFinished}
 
--- the notes that a round made, each of a key: its outcome, the distinct keys that it demands, and the ranges that it looks at
+-- the notes that a round made, each of a key: its outcome, the distinct keys that it demands, and
+-- the ranges that it looks at
 abbrev pub Notes : Type 0
 Notes = List (Note Key Outcome Range)
 
@@ -47,7 +49,9 @@ same_version u v = false
 
 -- the address is touched, or the oracles tell it apart
 abbrev pub differs_at : List Addr → Oracle → Oracle → Addr → Bool
-differs_at touched w w' a = list_any (same_addr a) touched || not (same_status (status w' a) (status w a)) || not (same_cover (cover w' a) (cover w a))
+differs_at touched w w' a =
+    list_any (same_addr a) touched || not (same_status (status w' a) (status w a))
+    || not (same_cover (cover w' a) (cover w a))
 
 abbrev pub differs_in : List Addr → Oracle → Oracle → Range → Bool
 differs_in touched w w' r = list_any (differs_at touched w w') (addresses r)
@@ -59,7 +63,8 @@ IsKeptKey t touched w k = IsKept (differs_in touched t.oracle w) t.notes k
 abbrev pub no_table : Table
 no_table = record { oracle = []; notes = [] }
 
--- What a round begins with, and what was touched since: its own table, else what the round before it in the same calculation noted, else nothing.
+-- What a round begins with, and what was touched since: its own table, else what the round before
+-- it in the same calculation noted, else nothing.
 abbrev pub base_by : Option Table → List Addr → Option Table → Table × List Addr
 base_by (Some t) touched before = (t, touched)
 base_by None touched (Some t) = (t, [])
@@ -71,7 +76,8 @@ before_round zero before = None
 before_round (suc i) before = Some before
 
 abbrev pub base : List Table → List Addr → (before : Table) → (round : ℕ) → Table × List Addr
-base tables touched before round = base_by (slice_get tables round) touched (before_round round before)
+base tables touched before round =
+    base_by (slice_get tables round) touched (before_round round before)
 
 -- The table says of a round all that is to be remembered: exactly the demanded keys that have an
 -- outcome, each once, each with its outcome, reads and looked ranges.
@@ -83,7 +89,8 @@ pub record IsTableOf (W : World) (t : Table) : Type 0 where
   pub complete : (k : Key) (o : Outcome) → DemandedIn W k → Has (program W) k o →
       Member k (note_keys t.notes)
 
--- The tables are those of the finished rounds of a calculation, in order, as far as tables are kept.
+-- The tables are those of the finished rounds of a calculation, in order, as far as tables are
+-- kept.
 pub record AreTables (version : Version) (S : Cells) (tables : List Table) : Type 0 where
   pub each : (i : ℕ) (t : Table) → slice_get tables i ≡ Some t →
       (w : Oracle) × IsFinished version S i w × IsTableOf (world version S w) t
@@ -91,7 +98,8 @@ pub record AreTables (version : Version) (S : Cells) (tables : List Table) : Typ
       (t : Table) × (slice_get tables i ≡ Some t)
   pub few : length tables ≤ kept_rounds
 
--- what a calculation remembers: the sheet, the answer that it holds with the version of it, the tables of the first rounds, and the addresses touched since they were made
+-- what a calculation remembers: the sheet, the answer that it holds with the version of it, the
+-- tables of the first rounds, and the addresses touched since they were made
 pub record Memory : Type 0 where
   pub cells : Cells
   pub answer : Option (Version × Oracle)

@@ -13,6 +13,9 @@ DifferencesTell =
     (w v : Oracle) (p : Addr) → IsInOrder w → IsInOrder v → AreApart w → AreApart v →
     list_any (λ r. covers r p) (differences w v) ≡ differs_at [] w v p
 
--- A range meets another exactly where one of its addresses is the other's, if the corners of both are in order: so that each holds its first one.
+-- A range meets another exactly where one of its addresses is the other's, if the corners of both
+-- are in order: so that each holds its first one.
 abbrev pub MeetsAtAddresses : Type 0
-MeetsAtAddresses = (r c : Range) → IsTrue (covers r r.first) → IsTrue (covers c c.first) → meets r c ≡ list_any (covers c) (addresses r)
+MeetsAtAddresses =
+    (r c : Range) → IsTrue (covers r r.first) → IsTrue (covers c c.first) →
+    meets r c ≡ list_any (covers c) (addresses r)

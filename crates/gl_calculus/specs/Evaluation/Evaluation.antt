@@ -1,11 +1,13 @@
 -- One level of evaluation: what a key demands, looks at and comes to.
-use Rattle.std.specs.Prelude.{ℕ, zero, suc, ◌+◌, Bool, true, false, List, [], ◌∷◌, ◌++◌, count_by, Option, Some, None, is_some, bytes_eq, if◌then◌else◌}
+use Rattle.std.specs.Prelude.{ℕ, zero, suc, ◌+◌, Bool, true, false, List, [], ◌∷◌, ◌++◌, count_by}
+use Rattle.std.specs.Prelude.{Option, Some, None, is_some, bytes_eq, if◌then◌else◌}
 use Rattle.gl_calculus.specs.Computation.Query.{Query}
 use Rattle.gl_calculus.specs.Computation.Evaluation.{Evaluation, Done, LookAt, Demand, bind, given}
 use Rattle.gl_calculus.specs.Grid.Limits.{extra_rounds}
 use Rattle.gl_calculus.specs.Grid.Grid.{Addr, addr, Range, single}
 use Rattle.gl_calculus.specs.Values.ErrKind.{ErrKind}
-use Rattle.gl_calculus.specs.Values.Value.{Oracle, Scalar, Blank, Value, One, Array, SheetValue, Frame, Top, In, region}
+use Rattle.gl_calculus.specs.Values.Value.{Oracle, Scalar, Blank, Value, One, Array, SheetValue}
+use Rattle.gl_calculus.specs.Values.Value.{Frame, Top, In, region}
 use Rattle.gl_calculus.specs.Values.Sheet.{Made, Outside, Deep, Heavy, sheet, update}
 use Rattle.gl_calculus.specs.Values.Same.{same_oracle}
 use Rattle.gl_calculus.specs.Formulas.Formula.{Version, Formula, Formulas, Operands, Fun}
@@ -15,9 +17,12 @@ use Rattle.gl_calculus.specs.Evaluation.Facts.{Fact, facts, fact_at}
 use Rattle.gl_calculus.specs.Values.Operators.{negate, compare, operate}
 use Rattle.gl_calculus.specs.Values.Lift.{lift1, lift2, lift3}
 use Rattle.gl_calculus.specs.Values.Functions.{apply}
-use Rattle.gl_calculus.specs.Evaluation.Key.{Key, Cell, Settle, Depth, CopyRounds, Outcome, Eval, give, stop, ◌>>=◌, settled_oracle, as_value, as_settled}
+use Rattle.gl_calculus.specs.Evaluation.Key.{Key, Cell, Settle, Depth, CopyRounds, Outcome, Eval}
+use Rattle.gl_calculus.specs.Evaluation.Key.{give, stop, ◌>>=◌, settled_oracle, as_value}
+use Rattle.gl_calculus.specs.Evaluation.Key.{as_settled}
 use Rattle.gl_calculus.specs.Evaluation.World.{World}
-use Rattle.gl_calculus.specs.Evaluation.Reference.{Held, Given, Computed, own_content, own, at_address, at_range, spill_of}
+use Rattle.gl_calculus.specs.Evaluation.Reference.{Held, Given, Computed, own_content, own}
+use Rattle.gl_calculus.specs.Evaluation.Reference.{at_address, at_range, spill_of}
 
 -- ---- sheet values
 
@@ -143,7 +148,8 @@ module _ (version : Version) where
   call e F.Fun.Sheet (r ∷ []) = made (sheet e (written_range r.form))
   call e F.Fun.Update (s ∷ a ∷ f ∷ []) = update_by e s.eval (written_address a.form) f.eval
   call e F.Fun.View (s ∷ r ∷ []) = view_by s.eval r.form
-  call e F.Fun.G (r ∷ pairs) = view_by (updates e (made (sheet e (written_range r.form))) pairs) r.form
+  call e F.Fun.G (r ∷ pairs) =
+      view_by (updates e (made (sheet e (written_range r.form))) pairs) r.form
   call e F.Fun.This [] = give (this e)
   call e f xs = all_values xs >>= λ vs. give (apply f vs)
 
@@ -159,18 +165,23 @@ module _ (version : Version) where
     eval e bs (F.Formula.Var name) = give (bound bs name)
     eval e bs (F.Formula.Neg f) = eval e bs f >>= λ v. give (lift1 negate v)
     eval e bs (F.Formula.Chain level f rest) = eval e bs f >>= λ v. eval_rest e bs v rest
-    eval e bs (F.Formula.Compare op f g) = eval e bs f >>= λ u. eval e bs g >>= λ v. give (lift2 (compare op) u v)
+    eval e bs (F.Formula.Compare op f g) = do
+      u ← eval e bs f
+      v ← eval e bs g
+      give (lift2 (compare op) u v)
     eval e bs (F.Formula.Call f xs) = call e f (arguments e bs xs)
     eval e bs (F.Formula.Let name f body) = eval e bs f >>= λ v. eval e ((name, v) ∷ bs) body
 
     -- the operands after the first
     pub eval_rest : Frame → Bindings → Value → Operands → Eval Value
     eval_rest e bs u F.Operands.no_operand = give u
-    eval_rest e bs u (F.Operands.operand_and op f rest) = eval e bs f >>= λ v. eval_rest e bs (lift2 (operate op) u v) rest
+    eval_rest e bs u (F.Operands.operand_and op f rest) =
+        eval e bs f >>= λ v. eval_rest e bs (lift2 (operate op) u v) rest
 
     pub arguments : Frame → Bindings → Formulas → List Argument
     arguments e bs F.Formulas.no_formula = []
-    arguments e bs (F.Formulas.formula_and f fs) = record { form = f; eval = eval e bs f } ∷ arguments e bs fs
+    arguments e bs (F.Formulas.formula_and f fs) =
+        record { form = f; eval = eval e bs f } ∷ arguments e bs fs
 
 -- ---- the settling of a sheet value
 
@@ -200,7 +211,8 @@ abbrev pub settled_or : (Oracle → Eval Oracle) → Oracle → Oracle → Bool 
 settled_or go o next true = give o
 settled_or go o next false = go next
 
--- Round by round each formula of the region is evaluated under the oracle of the round, until the oracle is its own next one.
+-- Round by round each formula of the region is evaluated under the oracle of the round, until the
+-- oracle is its own next one.
 abbrev pub rounds : SheetValue → List Fact → ℕ → Oracle → Eval Oracle
 rounds s xs zero o = stop CopyRounds
 rounds s xs (suc n) o = do
@@ -226,8 +238,10 @@ cell_value version e None = give (One Blank)
 
 -- the evaluation of a key: a cell looks at its own address first, a settling at its region once
 unfoldable pub evaluation : Version → Key → Evaluation Key Outcome Range (List Fact) Outcome
-evaluation version (Cell e a) = LookAt (single a) (λ xs. bind (cell_value version e (own_content (fact_at xs a).content e a)) (λ r. Done (as_value r)))
-evaluation version (Settle s) = LookAt (region s) (λ xs. bind (rounds s xs (copy_budget s xs) []) (λ r. Done (as_settled r)))
+evaluation version (Cell e a) = LookAt (single a) (λ xs.
+    bind (cell_value version e (own_content (fact_at xs a).content e a)) (λ r. Done (as_value r)))
+evaluation version (Settle s) = LookAt (region s) (λ xs.
+    bind (rounds s xs (copy_budget s xs) []) (λ r. Done (as_settled r)))
 
 -- the same where the sheet and the oracle of a world give the facts
 unfoldable pub program : World → Key → Query Key Outcome Range Outcome

@@ -75,9 +75,11 @@ shown_by_note w a c None true = Some (loop_shown c)
 shown_by_note w a c None false = None
 
 -- what it shows, by the key that decides
-abbrev pub shown_by_key : Oracle → Addr → Option Content → List (Claim Key Outcome) → List Key → Option Key → Option Shown
+abbrev pub shown_by_key : Oracle → Addr → Option Content →
+    List (Claim Key Outcome) → List Key → Option Key → Option Shown
 shown_by_key w a c notes loops None = Some (constant_shown c)
-shown_by_key w a c notes loops (Some k) = shown_by_note w a c (noted same_key notes k) (has_member same_key k loops)
+shown_by_key w a c notes loops (Some k) =
+    shown_by_note w a c (noted same_key notes k) (has_member same_key k loops)
 
 -- what these notes and loops say that the address shows, if they say it
 abbrev pub says : Cells → Oracle → Addr → List (Claim Key Outcome) → List Key → Option Shown

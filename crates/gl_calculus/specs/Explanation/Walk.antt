@@ -1,6 +1,7 @@
 -- Explanations, for any keys and outcomes: claims of outcomes that follow one from another, keys
 -- that wait for each other in a circle, and the walk that finds both.
-use Rattle.std.specs.Prelude.{◌≡◌, ℕ, zero, suc, ◌+◌, ◌==◌, length, List, [], ◌∷◌, Bool, true, false, cond, Option, Some, None, option_map, reverse}
+use Rattle.std.specs.Prelude.{◌≡◌, ℕ, zero, suc, ◌+◌, ◌==◌, length, List, [], ◌∷◌, Bool, true}
+use Rattle.std.specs.Prelude.{false, cond, Option, Some, None, option_map, reverse}
 use Rattle.gl_calculus.specs.Computation.Lists.{has_member}
 use Rattle.gl_calculus.specs.Computation.Query.{Query, Found, Ready, Need, found}
 
@@ -28,26 +29,32 @@ abbrev pub waits_among : {K O : Type 0} → (K → K → Bool) → List K → Fo
 waits_among same loops (Ready o) = false
 waits_among same loops (Need j) = has_member same j loops
 
-module _ {K O A : Type 0} (same : K → K → Bool) (same_outcome : O → O → Bool) (allowed : K → Bool) (program : K → Query K O A O) where
+module _ {K O A : Type 0} (same : K → K → Bool) (same_outcome : O → O → Bool)
+    (allowed : K → Bool) (program : K → Query K O A O) where
   -- the claim is of an allowed key without claim before it, and one level over the claims before
   -- it comes to its outcome
   abbrev pub follows : List (Claim K O) → Claim K O → Bool
-  follows before n = cond (allowed n.0) (cond (is_unnoted (noted same before n.0)) (comes_to same_outcome n.1 (found (noted same before) (program n.0))) false) false
+  follows before n =
+      cond (allowed n.0) (cond (is_unnoted (noted same before n.0))
+      (comes_to same_outcome n.1 (found (noted same before) (program n.0))) false) false
 
   -- the number of the first claim that doesn't follow from those before it, of which the last
   -- stands first
   abbrev pub first_stray : List (Claim K O) → List (Claim K O) → Option ℕ
   first_stray before [] = None
-  first_stray before (n ∷ ns) = cond (follows before n) (option_map suc (first_stray (n ∷ before) ns)) (Some 0)
+  first_stray before (n ∷ ns) =
+      cond (follows before n) (option_map suc (first_stray (n ∷ before) ns)) (Some 0)
 
   -- the key is allowed, and what one level over the claims first lacks is one of the loops
   abbrev pub waits : List (Claim K O) → List K → K → Bool
-  waits notes loops k = cond (allowed k) (waits_among same loops (found (noted same notes) (program k))) false
+  waits notes loops k =
+      cond (allowed k) (waits_among same loops (found (noted same notes) (program k))) false
 
   -- the number of the first key that doesn't wait so
   abbrev pub first_free : List (Claim K O) → List K → List K → Option ℕ
   first_free notes loops [] = None
-  first_free notes loops (k ∷ ks) = cond (waits notes loops k) (option_map suc (first_free notes loops ks)) (Some 0)
+  first_free notes loops (k ∷ ks) =
+      cond (waits notes loops k) (option_map suc (first_free notes loops ks)) (Some 0)
 
 -- what a walk finds: claims, and keys that wait for each other, if it ends in a circle; or that
 -- more keys than the limit would be put on its stack
@@ -59,7 +66,8 @@ module _ {K O A : Type 0} (same : K → K → Bool) (limit : ℕ) (program : K �
   -- a turn on the top of the stack, by what one level over the notes finds: an outcome is noted,
   -- and the key taken off; a key that is on the stack ends the walk in a circle; another one is put
   -- on, unless as many keys as the limit were
-  abbrev pub turn : (List (Claim K O) → List K → Option (Walked K O)) → List (Claim K O) → K → List K → Found K O → Option (Walked K O)
+  abbrev pub turn : (List (Claim K O) → List K → Option (Walked K O)) →
+      List (Claim K O) → K → List K → Found K O → Option (Walked K O)
   turn go notes k rest (Ready o) = go ((k, o) ∷ notes) rest
   turn go notes k rest (Need j) =
       cond (has_member same j (k ∷ rest)) (Some (Explained (reverse notes) (reverse (k ∷ rest))))

@@ -8,8 +8,8 @@ use Rattle.gl_calculus.specs.Evaluation.Key.{Key, same_key}
 use Rattle.gl_calculus.specs.Evaluation.World.{World}
 use Rattle.gl_calculus.specs.Evaluation.Evaluation.{program}
 
--- The steps go from n to m: at most 1 and the number of its reads for each of some keys of the kind,
--- however these reads are found.
+-- The steps go from n to m: at most 1 and the number of its reads for each of some keys of the
+-- kind, however these reads are found.
 pub record Allows (W : World) (kind : Key → Type 0) (n m : ℕ) : Type 0 where
   pub keys : List Key
   pub distinct : AreDistinct keys

@@ -7,7 +7,8 @@ use Rattle.gl_calculus.specs.Evaluation.Key.{Key, Outcome}
 use Rattle.gl_calculus.specs.Evaluation.World.{World}
 use Rattle.gl_calculus.specs.Evaluation.Evaluation.{program}
 use Rattle.gl_calculus.specs.Explanation.Walk.{Claim, Explained}
-use Rattle.gl_calculus.specs.Explanation.Certificate.{Answer, Cert, Work, Aborts, key_at, start, IsWalked}
+use Rattle.gl_calculus.specs.Explanation.Certificate.{Answer, Cert, Work, Aborts, key_at, start}
+use Rattle.gl_calculus.specs.Explanation.Certificate.{IsWalked}
 use Rattle.gl_calculus.specs.Steps.Allowance.{Allows, HasReads}
 
 -- the key of a note or of a loop, whose reads are there
