@@ -41,17 +41,17 @@ nothing_more true xs = sym (append-nil xs)
 nothing_more false xs = sym (append-nil xs)
 
 pub touches_nothing : (reply : Bytes) (K : Known) → Touches reply [] K K
-touches_nothing reply K = record { tables = refl; made_for = refl; touched = nothing_more (is_refusal reply) K.touched }
+touches_nothing reply K = (refl, refl, nothing_more (is_refusal reply) K.touched)
 
 module _ (places : List Addr) (K K' : Known) (tables : K'.tables ≡ K.tables) (made_for : K'.version ≡ K.version) (reply : Bytes) where
   pub touches_done : reply ≡ ok_line → K'.touched ≡ K.touched ++ places → Touches reply places K K'
   touches_done e t =
-      let done : Touches ok_line places K K' = record { tables = tables; made_for = made_for; touched = t } in
+      let done : Touches ok_line places K K' = (tables, made_for, t) in
       subst (λ (r : Bytes). Touches r places K K') (sym e) done
 
   touches_refused : (w : Word) → reply ≡ error_line w → K'.touched ≡ K.touched → Touches reply places K K'
   touches_refused w e t =
-      let none : Touches (error_line w) places K K' = record { tables = tables; made_for = made_for; touched = t ∙ sym (append-nil K.touched) } in
+      let none : Touches (error_line w) places K K' = (tables, made_for, t ∙ sym (append-nil K.touched)) in
       subst (λ (r : Bytes). Touches r places K K') (sym e) none
 
   pub touches_by_word : (o : Option Word) → IsRefusal o reply → K'.touched ≡ K.touched → Touches reply places K K'

@@ -19,4 +19,10 @@ abbrev pub new_known : Known
 new_known = record { script = new_script; answer = None; tables = []; version = One; touched = [] }
 
 abbrev pub memory_in : Known → Memory
-memory_in K = record { cells = K.script.sheet; answer = K.answer; tables = K.tables; version = K.version; touched = K.touched }
+memory_in K = record {
+  cells = K.script.sheet;
+  answer = K.answer;
+  tables = K.tables;
+  version = K.version;
+  touched = K.touched;
+}
