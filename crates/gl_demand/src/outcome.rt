@@ -1,6 +1,5 @@
 //! What keys come to.
 ghost use Rattle.std.specs.Prelude.{◌≡◌};
-ghost use Rattle.gl_calculus.specs.Evaluation.Sound.{is_sound_outcome};
 ghost use Rattle.gl_demand.specs.{View.outcome_tree, Equal.outcome_equal};
 ghost use Rattle.std.proofs.Common.{sym};
 
@@ -30,19 +29,6 @@ impl Drop for Outcome {
             Outcome::Value(_) => {}
             Outcome::Settled(_) => {}
             Outcome::Abort(_) => {}
-        }
-    }
-}
-
-impl Outcome {
-    /// The value is sound; an oracle and a spent budget are.
-    pub fn is_sound(&self) -> bool
-        ensures { result ≡ is_sound_outcome (outcome_tree self.now) }
-    {
-        match self {
-            Outcome::Value(v) => v.is_sound(),
-            Outcome::Settled(_) => true,
-            Outcome::Abort(_) => true,
         }
     }
 }

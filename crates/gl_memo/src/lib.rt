@@ -3,4 +3,4 @@
 
 mod memo;
 
-pub use memo::{Chosen, Memo, Noted};
+pub use memo::{Memo, Noted};

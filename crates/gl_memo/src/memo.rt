@@ -1,13 +1,13 @@
 //! The table of results.
-ghost use Rattle.std.specs.Prelude.{◌≡◌, [], not, length, filter, slice_get, option_map};
+ghost use Rattle.std.specs.Prelude.{◌≡◌, [], length, slice_get, option_map};
 ghost use Rattle.std.specs.Prelude.{option_copied, OnOk, OnErr};
 ghost use Rattle.std.specs.Map.{keys_of, lookup, remove_entry};
 ghost use Rattle.std.specs.List.{IsDistinct};
-ghost use Rattle.indexmap.specs.{IndexMap.insert_entry, IndexSet.contains};
+ghost use Rattle.indexmap.specs.IndexMap.{insert_entry};
 ghost use Rattle.gl_memo.specs.Notes.{notes_of};
 
 use gl_plane::NoMemory;
-use indexmap::{IndexMap, IndexSet};
+use indexmap::IndexMap;
 use std::alloc::Global;
 use std::hash::Hash;
 
@@ -17,18 +17,6 @@ pub struct Noted<K, O, A> {
     pub outcome: O,
     pub reads: Vec<K>,
     pub looked: Vec<A>,
-}
-
-/// Some of the keys.
-pub trait Chosen<K> {
-    ghost use Rattle.std.specs.Prelude.{◌≡◌, Bool};
-
-    /// The key is one of them.
-    ghost chosen: { Self → K → Bool };
-
-    /// Whether the key is one of them.
-    fn has(&self, k: &K) -> bool
-        ensures { result ≡ chosen self.now k.now };
 }
 
 /// A table of results, seen as a list of pairs with distinct keys.
@@ -73,31 +61,12 @@ impl<K: Eq + Hash + Drop, O: Drop, A: Drop> Memo<K, O, A> {
     }
 
     /// Takes the note of a key out. The rest keep their order, so the cost is that of the table's
-    /// length: many keys are removed by `remove_all`.
+    /// length.
     pub fn remove(&mut self, k: &K) -> Option<Noted<K, O, A>>
         ensures value { result ≡ lookup (K.eq k.now) (notes_of self.old) }
         ensures rest { notes_of self.new ≡ remove_entry (K.eq k.now) (notes_of self.old) }
     {
         self.map.shift_remove(k)
-    }
-
-    /// Removes the notes of all these keys in one pass. The rest keep their order. It takes no
-    /// memory.
-    pub fn remove_all(&mut self, gone: &IndexSet<K>)
-        ensures { notes_of self.new
-            ≡ filter (λ e. not (contains K.eq gone.now e.0)) (notes_of self.old) }
-    {
-        keep_others(&mut self.map, gone);
-    }
-
-    /// Keeps the notes of these keys, and drops the others in one pass. What is kept stays in order.
-    /// It takes no memory.
-    pub fn keep<T: Chosen<K>>(&mut self, those: &T)
-        ensures kept { notes_of self.new
-            ≡ filter (λ e. T.chosen those.now e.0) (notes_of self.old) }
-        ensures distinct { IsDistinct K.eq (keys_of (notes_of self.new)) }
-    {
-        keep_chosen(&mut self.map, those);
     }
 
     /// How many notes there are.
@@ -114,19 +83,4 @@ impl<K: Eq + Hash + Drop, O: Drop, A: Drop> Memo<K, O, A> {
     {
         self.map.get_index(i)
     }
-}
-
-/// Drops the entries at these keys. The rest keep their order.
-fn keep_others<K: Eq + Hash + Drop, V: Drop>(map: &mut IndexMap<K, V>, gone: &IndexSet<K>)
-    ensures { map.new.entries ≡ filter (λ e. not (contains K.eq gone.now e.0)) map.old.entries }
-{
-    map.retain(|k, _| !gone.contains(k));
-}
-
-/// Drops the entries at other keys. The rest keep their order.
-fn keep_chosen<K: Eq + Hash + Drop, V: Drop, T: Chosen<K>>(map: &mut IndexMap<K, V>, those: &T)
-    ensures kept { map.new.entries ≡ filter (λ e. T.chosen those.now e.0) map.old.entries }
-    ensures distinct { IsDistinct K.eq (keys_of map.new.entries) }
-{
-    map.retain(|k, _| those.has(k));
 }

@@ -53,8 +53,8 @@ Follows version S (Explain a) (Settled w rounds) n m = Explaining (world version
 Follows version S (Explain a) (Spent k) n m = m ≡ n
 Follows version S x answer n m = m ≡ n
 
--- a request that asks for the calculation takes the steps from n to m: those of the calculation, and
--- of what follows it
+-- a request that asks for the calculation takes the steps from n to m: those of the calculation,
+-- and of what follows it
 abbrev pub SpendsAsked : Version → Request → Known → Known → ℕ → ℕ → Type 0
 SpendsAsked version x K K' n m =
     (k : ℕ) × (c : Calculates version K K' n k) × Follows version K.script.sheet x c.answer k m
