@@ -4,7 +4,8 @@ use Rattle.gl_calculus.specs.Grid.Grid.{Addr}
 use Rattle.gl_calculus.specs.Values.Value.{Oracle}
 use Rattle.gl_calculus.specs.Formulas.Formula.{Version, Cells}
 use Rattle.gl_calculus.specs.Calculation.Calculation as C
-use Rattle.gl_calculus.specs.Calculation.Calculation.{IsAnswer, IsConsistent, IsShown}
+use Rattle.gl_calculus.specs.Calculation.Calculation.{IsAnswer, IsShown}
+use Rattle.gl_calculus.specs.Calculation.Consistency.{IsConsistent}
 use Rattle.gl_calculus.specs.Calculation.Memory.{Table}
 use Rattle.gl_value.specs.Made.{shown_tree}
 use Rattle.gl_value.specs.declared.Shown.{Shown}

@@ -14,7 +14,8 @@ use Rattle.gl_calculus.specs.Evaluation.Facts.{facts}
 use Rattle.gl_calculus.specs.Evaluation.Key.{Key, Outcome, same_key}
 use Rattle.gl_calculus.specs.Evaluation.World.{World, world}
 use Rattle.gl_calculus.specs.Evaluation.Evaluation.{program}
-use Rattle.gl_calculus.specs.Calculation.Calculation.{Answer, Settled, IsAnswer, Shown, IsShown, IsConsistent, IsFinished}
+use Rattle.gl_calculus.specs.Calculation.Calculation.{Answer, Settled, IsAnswer, Shown, IsShown, IsFinished}
+use Rattle.gl_calculus.specs.Calculation.Consistency.{IsConsistent}
 use Rattle.gl_calculus.specs.Calculation.Memory.{Notes, Table, differs_in, IsKeptKey, IsTableOf, AreTables, base}
 use Rattle.gl_calculus.specs.Calculation.Differences.{AreApart}
 use Rattle.gl_calculus.specs.Steps.Costs.{Finishes}

@@ -1,24 +1,23 @@
 -- The whole calculation: round by round to an oracle that is its own next one, or to a spent
 -- budget; and what is shown then.
-use Rattle.std.specs.Prelude.{◌≡◌, ◌≢◌, ◌⊎◌, ◌↔◌, ℕ, suc, ◌+◌, Bool, true, false, List, [], ◌∷◌}
+use Rattle.std.specs.Prelude.{◌≡◌, ◌≢◌, ◌⊎◌, ℕ, suc, ◌+◌, Bool, true, false, List, [], ◌∷◌}
 use Rattle.std.specs.Prelude.{length, map, Option, Some, None, is_some, Ok, IsFalse}
 use Rattle.std.specs.List.{AllByRecursion}
-use Rattle.gl_calculus.specs.Computation.Lists.{Member, MoreThan}
+use Rattle.gl_calculus.specs.Computation.Lists.{MoreThan}
 use Rattle.gl_calculus.specs.Computation.Query.{Has, Loops, Gives}
 use Rattle.gl_calculus.specs.Computation.Evaluation.{given}
 use Rattle.gl_calculus.specs.Computation.Demanded.{Demanded}
 use Rattle.gl_calculus.specs.Grid.Limits.{max_demanded, extra_rounds}
 use Rattle.gl_calculus.specs.Grid.Grid.{Addr, Size, grid}
-use Rattle.gl_calculus.specs.Values.Value.{Permit, Oracle, Scalar, Blank, Scalars, One, Array, Top}
-use Rattle.gl_calculus.specs.Values.Value as V
+use Rattle.gl_calculus.specs.Values.Value.{Oracle, Scalar, Blank, Scalars, One, Array, Top}
 use Rattle.gl_calculus.specs.Formulas.Formula.{Version, Formula, Form, Cells, content}
 use Rattle.gl_calculus.specs.Formulas.Formula.{formula_addresses}
-use Rattle.gl_calculus.specs.Evaluation.Oracle.{IsInOrder, entry_at, Cover, cover, Sizes, grant}
-use Rattle.gl_calculus.specs.Evaluation.Oracle.{ArePermits, first_difference, Obstacle, blocker}
+use Rattle.gl_calculus.specs.Evaluation.Oracle.{entry_at, Cover, cover, Sizes, grant}
+use Rattle.gl_calculus.specs.Evaluation.Oracle.{first_difference, Obstacle, blocker}
 use Rattle.gl_calculus.specs.Values.Value.{Entry}
-use Rattle.gl_calculus.specs.Evaluation.Facts.{fact, facts}
+use Rattle.gl_calculus.specs.Evaluation.Facts.{facts}
 use Rattle.gl_calculus.specs.Evaluation.Key.{Key, Cell, Budget, Outcome, Abort}
-use Rattle.gl_calculus.specs.Evaluation.Reference.{own, at_address}
+use Rattle.gl_calculus.specs.Evaluation.Reference.{at_address}
 use Rattle.gl_calculus.specs.Evaluation.World.{World, world}
 use Rattle.gl_calculus.specs.Evaluation.Evaluation.{program}
 
@@ -100,23 +99,6 @@ module _ (W : World) where
   pub record IsUnspent : Type 0 where
     pub work : SpendsWork → ⊥
     pub no_abort : AllByRecursion (TopFails is_abort) (formula_addresses W.sheet)
-
-  -- ---- a consistent oracle, said without the granting of permits
-
-  -- the own value of an address of the top sheet
-  abbrev pub Owns : Addr → V.Value → Type 0
-  Owns a v =
-      Gives (program W) (given (facts W.sheet W.oracle) (own Top (fact W.sheet W.oracle a)))
-      (Ok (Some v))
-
-  pub record IsConsistent : Type 0 where
-    -- one entry for each root, in row-major order
-    pub in_order : IsInOrder W.oracle
-    -- the entries are exactly the contents whose own values are arrays, with their sizes
-    pub entries : (a : Addr) (z : Size) →
-        ((p : Permit) × Member (record { root = a; size = z; permit = p }) W.oracle) ↔
-        ((xs : Scalars) × Owns a (Array z xs))
-    pub permits : ArePermits grid (has_content W.sheet) W.oracle
 
   -- ---- what an address shows
 

@@ -14,7 +14,8 @@ use Rattle.gl_calculus.specs.Evaluation.Reference.{value_of, held_top}
 use Rattle.gl_calculus.specs.Evaluation.World.{World, world}
 use Rattle.gl_calculus.specs.Evaluation.Evaluation.{program}
 use Rattle.gl_calculus.specs.Calculation.Calculation as C
-use Rattle.gl_calculus.specs.Calculation.Calculation.{has_content, is_array, Arrays, none, array, other, TopHas, TopFails, IsNext, Ends, settled, IsAnswer, Owns, IsConsistent}
+use Rattle.gl_calculus.specs.Calculation.Calculation.{has_content, is_array, Arrays, none, array, other, TopHas, TopFails, IsNext, Ends, settled, IsAnswer}
+use Rattle.gl_calculus.specs.Calculation.Consistency.{Owns, IsConsistent}
 use Rattle.gl_calculus.proofs.Tests.{addr_exact, addr_same}
 use Rattle.gl_calculus.proofs.Grants.{Before, before_of, of_before, before_trans, not_same, split, clash, grant_permits}
 

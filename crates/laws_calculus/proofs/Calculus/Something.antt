@@ -15,6 +15,7 @@ use Rattle.gl_calculus.specs.Evaluation.Reference.{Reading, own, value_of, held_
 use Rattle.gl_calculus.specs.Evaluation.World.{World, world}
 use Rattle.gl_calculus.specs.Evaluation.Evaluation.{program}
 use Rattle.gl_calculus.specs.Calculation.Calculation as C
+use Rattle.gl_calculus.specs.Calculation.Consistency.{Owns}
 use Rattle.gl_calculus.specs.Calculation.Calculation.{is_abort, TopLoops, TopFails, IsNext, IsUnspent, Ends, settled, IsAnswer, Shown, IsShown, cycle, value}
 use Rattle.laws_calculus.proofs.Calculus.Proper.{fact_at_single}
 use Rattle.laws_calculus.proofs.Calculus.Settles.{fixed_consistent, formula_listed}
@@ -67,7 +68,7 @@ module _ (W : World) (sheet : IsSheet W.sheet) (unspent : IsUnspent W) (fixed : 
   covered_reads a None e = (0, (Blank, []), refl)
   covered_reads a (Some c) e =
       let (z, p, m) = covering W.oracle a c e in
-      let o : (xs : Scalars) × C.Owns W c.root (Array z xs) = ((fixed_consistent W sheet fixed).entries c.root z).0 (p, m) in
+      let o : (xs : Scalars) × Owns W c.root (Array z xs) = ((fixed_consistent W sheet fixed).entries c.root z).0 (p, m) in
       let v : Option Value = Some (Array z o.0) in
       let x : Fact = fact_at (facts W.sheet W.oracle (single c.root)) c.root in
       let h : run (val (program W) o.1.0) (given (facts W.sheet W.oracle) (own Top x)) ≡ Some (Ok v) = subst (λ u. run (val (program W) o.1.0) (given (facts W.sheet W.oracle) (own Top u)) ≡ Some (Ok v)) (sym (fact_at_single W.sheet W.oracle c.root)) o.1.1 in
