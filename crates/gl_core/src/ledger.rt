@@ -1,20 +1,20 @@
 //! Notes by numbers.
-ghost use Rattle.std.specs.Prelude.{◌≡◌, ◌<◌, ◌-◌, ◌^◌, ◌++◌, ◌∷◌, [], Some, IsTrue, length, map};
+ghost use Rattle.std.specs.Prelude.{◌≡◌, ◌<◌, ◌-◌, ◌^◌, ◌++◌, ◌∷◌, ℕ, [], Some, IsTrue, length, map};
 ghost use Rattle.std.specs.Prelude.{slice_get, OnOk, OnErr, IfOk};
 ghost use Rattle.gl_calculus.specs.Computation.Lists.{Member, AreDistinct};
 ghost use Rattle.gl_machine.specs.InOrder.{kept_after};
 ghost use Rattle.gl_calculus.specs.Evaluation.Key.{same_key};
 ghost use Rattle.gl_calculus.specs.Evaluation.Sound.{is_sound_key};
 ghost use Rattle.gl_plane.specs.Changes.{reaches};
-ghost use Rattle.gl_demand.specs.{View.key_tree, Sound.AreSoundKeys};
+ghost use Rattle.gl_demand.specs.{View.key_tree, View.read_tree, Sound.AreSoundKeys, Walk.keys_of};
 ghost use Rattle.gl_core.specs.Numbers.{Each, named, numbers_of, AreNumbers, Grows, IsIndex};
-ghost use Rattle.gl_core.specs.Numbers.{IsRowOf};
+ghost use Rattle.gl_core.specs.{Numbers.IsRowOf, KeyNumbers.AreTold};
 ghost use Rattle.gl_core.specs.{State.IsSoundNote, Ledger.written, Ledger.IsLedger};
 
 use crate::book::{Book, is_top};
 use crate::index::{forget, give_place, place_in, put};
 use gl_cells::Hint;
-use gl_demand::{Key, Outcome};
+use gl_demand::{Key, Outcome, Read};
 use gl_plane::{Changes, NoMemory, Range, Share};
 use gl_support::{Row, keep_unmarked, mark};
 use std::alloc::Global;
@@ -121,6 +121,45 @@ impl Ledger {
         let mut hint = Hint::new();
         for key in keys {
             let n = self.number_near(&mut hint, key)?;
+            numbers.push(n)?;
+        }
+        Ok(numbers)
+    }
+
+    /// The number of a key that was read: the one that stands beside it, else as of any key.
+    fn number_read(&mut self, hint: &mut Hint, read: &Read) -> Result<u32, NoMemory>
+        requires kept { IsLedger self.old }
+        requires sound { IsTrue (is_sound_key (key_tree read.now.key)) }
+        requires told { (n : ℕ)
+            → read.now.number ≡ Some n
+            → slice_get self.old.book n ≡ Some (key_tree read.now.key) }
+        ensures number { IfOk result (λ n.
+            slice_get self.new.book n ≡ Some (key_tree read.now.key)) }
+        ensures grows { Grows self.old.book self.new.book }
+        ensures rows { self.new.rows.items ≡ self.old.rows.items }
+        ensures kept { IsLedger self.new }
+    {
+        match read.number {
+            Some(n) => Ok(n),
+            None => self.number_near(hint, &read.key),
+        }
+    }
+
+    /// The numbers of keys that were read. Those that have none beside them may get one.
+    pub fn numbers_read(&mut self, alloc: Global, reads: &[Read]) -> Result<Vec<u32>, NoMemory>
+        requires kept { IsLedger self.old }
+        requires sound { AreSoundKeys (keys_of (map read_tree reads.now)) }
+        requires told { AreTold self.old.book (map read_tree reads.now) }
+        ensures numbers { IfOk result (λ ns.
+            AreNumbers self.new.book ns.items (keys_of (map read_tree reads.now))) }
+        ensures grows { Grows self.old.book self.new.book }
+        ensures rows { self.new.rows.items ≡ self.old.rows.items }
+        ensures kept { IsLedger self.new }
+    {
+        let mut numbers = Vec::with_capacity(alloc, reads.len())?;
+        let mut hint = Hint::new();
+        for read in reads {
+            let n = self.number_read(&mut hint, read)?;
             numbers.push(n)?;
         }
         Ok(numbers)
