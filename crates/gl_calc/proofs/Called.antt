@@ -18,7 +18,7 @@ use Rattle.gl_calculus.specs.Evaluation.World.{World, world}
 use Rattle.gl_calculus.specs.Evaluation.Evaluation.{program}
 use Rattle.gl_calculus.specs.Calculation.Calculation.{DemandedIn, SpendsWork}
 use Rattle.gl_calculus.specs.Calculation.Differences.{AreApart}
-use Rattle.gl_calculus.specs.Calculation.Memory.{Table, Notes, base_by, no_table, IsTableOf}
+use Rattle.gl_calculus.specs.Calculation.Memory.{Table, Notes, no_table, IsTableOf}
 use Rattle.laws_calculus.proofs.Calculus.Proved.{kept_stay_true}
 use Rattle.gl_core.specs.Held.{Held}
 use Rattle.gl_core.specs.Kept.{AreTheNotes}
@@ -26,7 +26,7 @@ use Rattle.gl_core.specs.State.{state_of, seeds_of, IsFor}
 use Rattle.gl_calc.specs.Shown.{IsRound}
 use Rattle.gl_calc.specs.Starting.{IsEvaluated}
 use Rattle.gl_calc.proofs.Finished.{noted_note}
-use Rattle.gl_calc.specs.Progress.{Progress, first_of, rest_of, last_of, either, before_of, next_base, made_with, beyond_with}
+use Rattle.gl_calc.specs.Progress.{Progress, first_of, rest_of, last_of, either, before_of, base_by, next_base, made_with, beyond_with}
 use Rattle.gl_calc.specs.Kept.{AreKept, IsEarlier, IsReady, IsTaken, IsKeptBy, IsSet}
 use Rattle.gl_calc.specs.Visits.{Collects, StandFirst}
 use Rattle.gl_calc.proofs.Seeds.{stand_first}

@@ -1,5 +1,5 @@
 -- What a calculation leaves, what is held after it, and what is answered where nothing was touched since.
-use Rattle.std.proofs.Common.{◌≡◌, ℕ, List, [], Option, Some, option_map, Err, refl, sym, ap, subst, ◌∙◌}
+use Rattle.std.proofs.Common.{slice_get, ◌≡◌, ℕ, List, [], Option, Some, option_map, Err, refl, sym, ap, subst, ◌∙◌}
 use Rattle.gl_calculus.specs.Grid.Grid.{Addr}
 use Rattle.gl_calculus.specs.Values.Value.{Oracle}
 use Rattle.gl_calculus.specs.Formulas.Formula as F
@@ -101,12 +101,12 @@ module _ (version : F.Version) (S : Cells) (tables before : List Table) (touched
         come : Comes version S tables [] n c.round c.oracle c.table n
         come = again n a c.round c.oracle c.table c.before c.comes
 
-        no_step : (j : C.SpentKind) → Ends version S c.round c.oracle (C.Spent j) → (C.Spent j ≡ C.Spent C.Work → ⊥) → Finishes (world version S c.oracle) (base tables [] c.table c.round) c.round n n
+        no_step : (j : C.SpentKind) → Ends version S c.round c.oracle (C.Spent j) → (C.Spent j ≡ C.Spent C.Work → ⊥) → Finishes (world version S c.oracle) (base (slice_get tables c.round) [] c.table) c.round n n
         no_step j e f = nothing_asked version S tables c.table c.round c.oracle n made
             (comes_reaches version S before touched a c.round c.before c.oracle c.table c.comes, unless_work version S c.round c.oracle (C.Spent j) e f)
 
         by : (j : SpentKind) → Ends version S c.round c.oracle (C.Spent (spent_tree j)) → Costs version S tables [] (C.Spent (spent_tree j)) n n
-        by spent.Work e = record { round = c.round; oracle = c.oracle; table = c.table; before = n; comes = come; ends = e; last = none_taken (world version S c.oracle) (base tables [] c.table c.round) n }
+        by spent.Work e = record { round = c.round; oracle = c.oracle; table = c.table; before = n; comes = come; ends = e; last = none_taken (world version S c.oracle) (base (slice_get tables c.round) [] c.table) n }
         by (spent.Rounds b) e = record { round = c.round; oracle = c.oracle; table = c.table; before = n; comes = come; ends = e; last = no_step (C.Rounds b) e (λ q. cc q) }
         by (spent.Depth b) e = record { round = c.round; oracle = c.oracle; table = c.table; before = n; comes = come; ends = e; last = no_step (C.Depth b) e (λ q. cc q) }
         by (spent.CopyRounds b) e = record { round = c.round; oracle = c.oracle; table = c.table; before = n; comes = come; ends = e; last = no_step (C.CopyRounds b) e (λ q. cc q) }

@@ -7,10 +7,10 @@ use Rattle.gl_calculus.specs.Values.Value.{Oracle}
 use Rattle.gl_calculus.specs.Formulas.Formula.{Version, Cells}
 use Rattle.gl_calculus.specs.Grid.Limits.{kept_rounds}
 use Rattle.gl_calculus.specs.Calculation.Calculation.{Answer, SpendsWork, Reaches, IsFinished, Ends}
-use Rattle.gl_calculus.specs.Calculation.Memory.{Table, base, base_by, before_round, IsTableOf, AreTables}
+use Rattle.gl_calculus.specs.Calculation.Memory.{Table, no_table, base, IsTableOf, AreTables}
 use Rattle.gl_calculus.specs.Evaluation.World.{world}
 use Rattle.laws_calculus.proofs.Calculus.Single.{one_round, goes_on, ends_not_on}
-use Rattle.gl_calc.specs.Progress.{Progress, first_of, rest_of, last_of, either, before_of, next_base, made_with, beyond_with}
+use Rattle.gl_calc.specs.Progress.{Progress, first_of, rest_of, last_of, either, before_of, base_by, next_base, made_with, beyond_with}
 
 first_slice : {X : Type 0} (xs : List X) → first_of xs ≡ slice_get xs 0
 first_slice [] = refl
@@ -63,22 +63,34 @@ popped (y ∷ ys) new None e n = absurd (cc (n refl))
 abbrev pub AreAsMany : ℕ → ℕ → Type 0
 AreAsMany many i = ((many ≡ i) × (i ≤ kept_rounds)) ⊎ ((many ≡ kept_rounds) × (kept_rounds < i))
 
+-- no round comes before the first
+abbrev before_round : ℕ → Table → Option Table
+before_round zero before = None
+before_round (suc i) before = Some before
+
+base_is : (o : Option Table) (touched : List Addr) (i : ℕ) (before : Table) → (i ≡ 0 → before ≡ no_table) → base_by o touched (before_round i before) ≡ base o touched before
+base_is (Some t) touched i before f = refl
+base_is None touched zero before f = ap (λ t. (t, [])) (sym (f refl))
+base_is None touched (suc i) before f = refl
+
 module _ (version : Version) (S : Cells) (tables : List Table) where
   -- so many rounds were made, and this is the table of the last one
   pub record Follows (i : ℕ) (before : Table) (p : Progress) : Type 0 where
     pub earlier : (j : ℕ) → slice_get p.earlier j ≡ slice_get tables (i + j)
     pub last : before_of p ≡ before_round i before
+    pub first : i ≡ 0 → before ≡ no_table
     pub each : (j : ℕ) (t : Table) → slice_get p.made j ≡ Some t → (v : Oracle) × IsFinished version S j v × IsTableOf (world version S v) t
     pub count : AreAsMany (length p.made) i
 
-  pub follows_first : (before : Table) → Follows 0 before (record { earlier = tables; made = []; beyond = None })
-  follows_first before = record { earlier = λ j. (let e : j ≡ 0 + j = omega arith in ap (slice_get tables) e); last = refl; each = λ j t e. absurd (cc e); count = inl (refl, omega arith) }
+  pub follows_first : Follows 0 no_table (record { earlier = tables; made = []; beyond = None })
+  follows_first = record { earlier = λ j. (let e : j ≡ 0 + j = omega arith in ap (slice_get tables) e); last = refl; first = λ e. refl; each = λ j t e. absurd (cc e); count = inl (refl, omega arith) }
 
-  pub follows_base : (i : ℕ) (before : Table) (p : Progress) (touched : List Addr) → Follows i before p → next_base p touched ≡ base tables touched before i
+  pub follows_base : (i : ℕ) (before : Table) (p : Progress) (touched : List Addr) → Follows i before p → next_base p touched ≡ base (slice_get tables i) touched before
   follows_base i before p touched h =
       let zero_more : i + 0 ≡ i = omega arith in
       let here : first_of p.earlier ≡ slice_get tables i = first_slice p.earlier ∙ h.earlier 0 ∙ ap (slice_get tables) zero_more in
       ap (λ o. base_by o touched (before_of p)) here ∙ ap (λ b. base_by (slice_get tables i) touched b) h.last
+      ∙ base_is (slice_get tables i) touched i before h.first
 
   module _ (i : ℕ) (w : Oracle) (before t : Table) (p q : Progress) (h : Follows i before p) (finished : IsFinished version S i w) (is_table : IsTableOf (world version S w) t) (earlier : q.earlier ≡ rest_of p.earlier) (made : q.made ≡ made_with p.made t) (beyond : q.beyond ≡ beyond_with p.made t) where
     abbrev has_room : Bool
@@ -124,6 +136,7 @@ module _ (version : Version) (S : Cells) (tables : List Table) where
     follows_next = record {
       earlier = still_earlier;
       last = ap (λ o. either o (last_of q.made)) beyond ∙ ap (λ ts. either (beyond_with p.made t) (last_of ts)) made ∙ last_by has_room;
+      first = λ e. absurd (cc e);
       each = λ j x e. each_by has_room refl j x (subst (λ ts. slice_get ts j ≡ Some x) made e);
       count = subst (λ ts. AreAsMany (length ts) (suc i)) (sym made) (count_by has_room refl);
     }

@@ -1,5 +1,5 @@
 -- The rounds that iteration makes are those of the calculation.
-use Rattle.std.proofs.Common.{◌≡◌, ℕ, suc, List, [], Some, None, Result, Err, refl, sym, subst, ◌∙◌}
+use Rattle.std.proofs.Common.{slice_get, ◌≡◌, ℕ, suc, List, [], Some, None, Result, Err, refl, sym, subst, ◌∙◌}
 use Rattle.gl_calculus.specs.Grid.Grid.{Addr, Range, grid}
 use Rattle.gl_calculus.specs.Values.Value.{Oracle}
 use Rattle.gl_calculus.specs.Evaluation.Oracle.{Sizes, grant}
@@ -54,7 +54,7 @@ module _ (V : F.Version) (S : Cells) (tables : List M.Table) (touched : List Add
     reaches : Reaches V S i w
     reaches = comes_reaches V S tables touched n i m w s.before s.comes
 
-    steps : (q : Progress) (k : ℕ) → Keeps V S touched p w q m k → Finishes (world V S w) (base tables touched s.before i) i m k
+    steps : (q : Progress) (k : ℕ) → Keeps V S touched p w q m k → Finishes (world V S w) (base (slice_get tables i) touched s.before) i m k
     steps q k h = subst (λ b. Finishes (world V S w) b i m k) (follows_base V S tables i s.before p touched s.follows) (h.steps i)
 
     next : (q : Progress) (k : ℕ) → (C.SpendsWork (world V S w) → ⊥) → (h : Keeps V S touched p w q m k) → Follows V S tables (suc i) h.table q
@@ -125,7 +125,7 @@ module _ {T : Type 0} (version : T → Version) (table : T → Table) (marks : T
   same t (p, q, r) P x = subst (λ v. P (version_tree v) S (marks s)) p (subst (λ u. P (version_tree (version t)) (sheet u) (marks s)) q (subst (λ m. P (version_tree (version t)) (sheet (table t)) m) r x))
 
   comes : (i : ℕ) (w : Oracle) (t : T) (d : ℕ) → R.Reaches (λ u. Gives (world V S u)) CallsOf grid (has_content S) budget s n i w t d → Same t × Stands V S tables (marks s) n i w (progress t) d
-  comes _ _ _ _ R.first = ((refl, refl, refl), record { before = M.no_table; comes = first; follows = subst (Follows V S tables 0 M.no_table) (sym begun) (follows_first V S tables M.no_table) })
+  comes _ _ _ _ R.first = ((refl, refl, refl), record { before = M.no_table; comes = first; follows = subst (Follows V S tables 0 M.no_table) (sym begun) (follows_first V S tables) })
   comes _ _ _ _ (R.later {i = i} {w = w} {zs = zs} {t = t} {t' = u} {d = c} {d' = d} r g k moves more) =
       let (e, m) = comes i w t c r in (
         (k.0 ∙ e.0, k.1 ∙ e.1, k.2 ∙ e.2),

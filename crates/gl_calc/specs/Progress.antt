@@ -2,7 +2,7 @@
 use Rattle.std.specs.Prelude.{Bool, true, false, List, [], ◌∷◌, ◌++◌, length, nat_lt, if◌then◌else◌, Option, Some, None}
 use Rattle.gl_calculus.specs.Grid.Limits.{kept_rounds}
 use Rattle.gl_calculus.specs.Grid.Grid.{Addr}
-use Rattle.gl_calculus.specs.Calculation.Memory.{Table, base_by}
+use Rattle.gl_calculus.specs.Calculation.Memory.{Table, no_table}
 
 pub record Progress : Type 0 where
   pub earlier : List Table
@@ -29,6 +29,12 @@ either None o = o
 -- the table of the last round that was made
 abbrev pub before_of : Progress → Option Table
 before_of p = either p.beyond (last_of p.made)
+
+-- what a round begins with, and what was touched since, where there may be no round before it
+abbrev pub base_by : Option Table → List Addr → Option Table → Table × List Addr
+base_by (Some t) touched before = (t, touched)
+base_by None touched (Some t) = (t, [])
+base_by None touched None = (no_table, [])
 
 -- what the next round begins with
 abbrev pub next_base : Progress → List Addr → Table × List Addr

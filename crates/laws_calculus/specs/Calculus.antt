@@ -1,5 +1,5 @@
 -- The laws that public functions state.
-use Rattle.std.specs.Prelude.{◌≡◌, ℕ, Bool, IsTrue, List, [], Option}
+use Rattle.std.specs.Prelude.{◌≡◌, ℕ, Bool, IsTrue, List, [], slice_get, Option}
 use Rattle.gl_calculus.specs.Computation.Lists.{Member, IsEquality}
 use Rattle.gl_calculus.specs.Computation.Query.{Has, EachAsked, found, asked, looked}
 use Rattle.gl_calculus.specs.Computation.Demanded.{Demanded}
@@ -98,4 +98,4 @@ AllKept = (W : World) (t : Table) → IsTableOf W t → (k : Key) → Member k (
 abbrev pub NothingAsked : Type 0
 NothingAsked =
     (version : Version) (S : Cells) (tables : List Table) (before : Table) (i : ℕ) (w : Oracle) (n : ℕ) → AreTables version S tables → IsFinished version S i w →
-    Finishes (world version S w) (base tables [] before i) i n n
+    Finishes (world version S w) (base (slice_get tables i) [] before) i n n

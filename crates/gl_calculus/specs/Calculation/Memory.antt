@@ -1,5 +1,5 @@
 -- What a calculation may keep from an earlier one: the notes of keys, and which of them still hold.
-use Rattle.std.specs.Prelude.{◌≡◌, ◌≤◌, ◌<◌, ℕ, zero, suc, slice_get, if◌then◌else◌, Bool, true}
+use Rattle.std.specs.Prelude.{◌≡◌, ◌≤◌, ◌<◌, ℕ, slice_get, if◌then◌else◌, Bool, true}
 use Rattle.std.specs.Prelude.{false, ◌&&◌, ◌||◌, ◌==◌, not, List, [], length, Option, Some, None}
 use Rattle.std.specs.List.{list_any}
 use Rattle.gl_calculus.specs.Computation.Lists.{Member, AreDistinct}
@@ -63,21 +63,11 @@ IsKeptKey t touched w k = IsKept (differs_in touched t.oracle w) t.notes k
 abbrev pub no_table : Table
 no_table = record { oracle = []; notes = [] }
 
--- What a round begins with, and what was touched since: its own table, else what the round before
--- it in the same calculation noted, else nothing.
-abbrev pub base_by : Option Table → List Addr → Option Table → Table × List Addr
-base_by (Some t) touched before = (t, touched)
-base_by None touched (Some t) = (t, [])
-base_by None touched None = (no_table, [])
-
--- no round comes before the first
-abbrev pub before_round : ℕ → Table → Option Table
-before_round zero before = None
-before_round (suc i) before = Some before
-
-abbrev pub base : List Table → List Addr → (before : Table) → (round : ℕ) → Table × List Addr
-base tables touched before round =
-    base_by (slice_get tables round) touched (before_round round before)
+-- What a round begins with, and what was touched since: the table of the round, if there is one, else
+-- the one that the round before it in the same calculation made.
+abbrev pub base : Option Table → (touched : List Addr) → (before : Table) → Table × List Addr
+base (Some t) touched before = (t, touched)
+base None touched before = (before, [])
 
 -- The table says of a round all that is to be remembered: exactly the demanded keys that have an
 -- outcome, each once, each with its outcome, reads and looked ranges.

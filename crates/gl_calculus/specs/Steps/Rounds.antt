@@ -1,5 +1,5 @@
 -- The steps of a calculation, round by round, where rounds begin with tables from before.
-use Rattle.std.specs.Prelude.{ℕ, suc, List, []}
+use Rattle.std.specs.Prelude.{ℕ, suc, List, [], slice_get}
 use Rattle.gl_calculus.specs.Grid.Grid.{Addr}
 use Rattle.gl_calculus.specs.Values.Value.{Oracle}
 use Rattle.gl_calculus.specs.Formulas.Formula.{Version, Cells}
@@ -22,7 +22,7 @@ module _ (version : Version) (S : Cells) (tables : List Table) (touched : List A
     first : Comes n 0 [] no_table n
     later : {i m k : ℕ} {w next : Oracle} {before : Table} → Comes n i w before m →
         (t : Table) → IsTableOf (world version S w) t →
-        Finishes (world version S w) (base tables touched before i) i m k →
+        Finishes (world version S w) (base (slice_get tables i) touched before) i m k →
         GoesOn version S i w next → Comes n (suc i) next t k
 
   -- the steps of all rounds to the answer go from n to m
@@ -33,4 +33,4 @@ module _ (version : Version) (S : Cells) (tables : List Table) (touched : List A
     pub before : ℕ
     pub comes : Comes n round oracle table before
     pub ends : Ends version S round oracle r
-    pub last : Last (world version S oracle) r (base tables touched table round) round before m
+    pub last : Last (world version S oracle) r (base (slice_get tables round) touched table) round before m

@@ -16,7 +16,7 @@ use Rattle.gl_calculus.specs.Values.Same.{is_permitted}
 use Rattle.gl_calculus.specs.Evaluation.Key.{Key, same_key, Outcome}
 use Rattle.gl_calculus.specs.Evaluation.World.{World, world}
 use Rattle.gl_calculus.specs.Evaluation.Evaluation.{program}
-use Rattle.gl_calculus.specs.Calculation.Memory.{Table, base, base_by, before_round, same_status, same_cover, differs_at, differs_in, IsKeptKey, IsTableOf}
+use Rattle.gl_calculus.specs.Calculation.Memory.{Table, base, same_status, same_cover, differs_at, differs_in, IsKeptKey, IsTableOf}
 use Rattle.gl_calculus.specs.Computation.Notes.{note_keys}
 use Rattle.gl_calculus.proofs.Tests.{and_true, addr_same, bool_same}
 use Rattle.laws_calculus.proofs.Calculus.Single.{one_round}
@@ -71,7 +71,7 @@ all_kept W t h k m = kept W t h k m
 pub nothing_asked : NothingAsked
 nothing_asked version S tables before i w n a f = (no_steps (world version S w) _ n, λ l ks d each small. by ks each (a.all i w f l))
   where
-    by : (ks : List Key) → ((k : Key) → Member k ks → IsAnew (world version S w) (base tables [] before i) k × ((o : Outcome) × Has (program (world version S w)) k o)) → (t : Table) × (slice_get tables i ≡ Some t) → n + length ks ≤ n
+    by : (ks : List Key) → ((k : Key) → Member k ks → IsAnew (world version S w) (base (slice_get tables i) [] before) k × ((o : Outcome) × Has (program (world version S w)) k o)) → (t : Table) × (slice_get tables i ≡ Some t) → n + length ks ≤ n
     by [] each p = omega arith
     by (k ∷ ks) each (t, e) =
         let ((d, out), (o, g)) = each k (inl refl) in
@@ -79,4 +79,4 @@ nothing_asked version S tables before i w n a f = (no_steps (world version S w) 
         let q : v ≡ w = one_round version S i v w fin.0 f.0 in
         let tab' : IsTableOf (world version S w) t = subst (λ u. IsTableOf (world version S u) t) q tab in
         let here : IsKeptKey t [] w k = kept (world version S w) t tab' k (tab'.complete k o d g) in
-        absurd (out (subst (λ x. IsKeptKey (base_by x [] (before_round i before)).0 (base_by x [] (before_round i before)).1 w k) (sym e) here))
+        absurd (out (subst (λ x. IsKeptKey (base x [] before).0 (base x [] before).1 w k) (sym e) here))

@@ -2,8 +2,8 @@ use Rattle.std.proofs.Common.{◌≡◌, [], List, None, sym, ap, ◌∙◌, ari
 use Rattle.std.proofs.lemmas.Grind.{common_steps}
 use Rattle.std.proofs.lemmas.Result.{IfOk-weaker}
 use Rattle.gl_calculus.specs.Grid.Grid.{Addr}
-use Rattle.gl_calculus.specs.Calculation.Memory.{Table, base_by}
-use Rattle.gl_calc.specs.Progress.{next_base}
+use Rattle.gl_calculus.specs.Calculation.Memory.{Table}
+use Rattle.gl_calc.specs.Progress.{base_by, next_base}
 use Rattle.gl_calc.proofs.Following.{last_slice}
 use Rattle.gl_calc.proofs.tables.last_again.Goals as goal
 
