@@ -208,8 +208,7 @@ next_in s xs zs = grant (region s) (λ a. is_some (held_by s (fact_at xs a))) zs
 
 -- settled where the next oracle is the same, else on with the next
 abbrev pub settled_or : (Oracle → Eval Oracle) → Oracle → Oracle → Bool → Eval Oracle
-settled_or go o next true = give o
-settled_or go o next false = go next
+settled_or go o next same = if same then give o else go next
 
 -- Round by round each formula of the region is evaluated under the oracle of the round, until the
 -- oracle is its own next one.

@@ -1,6 +1,7 @@
 -- Why an address shows what it shows: certificates, when one is accepted, and the one that the walk
 -- from the key of the address makes.
 use Rattle.std.specs.Prelude.{◌≡◌, ℕ, Bool, true, false, List, [], ◌∷◌, Option, Some, None}
+use Rattle.std.specs.Prelude.{is_some, option_map, unwrap_or, if◌then◌else◌}
 use Rattle.gl_calculus.specs.Computation.Lists.{has_member}
 use Rattle.gl_calculus.specs.Grid.Limits.{max_demanded}
 use Rattle.gl_calculus.specs.Grid.Grid.{Addr}
@@ -47,8 +48,7 @@ key_at S w a = key_by S w a (content S a)
 
 -- the element of the root's value that covers an address
 abbrev pub element_shown : Option Cover → V.Value → Scalar
-element_shown None v = Blank
-element_shown (Some c) v = spilled (Some v) c.rows c.cols
+element_shown o v = unwrap_or (option_map (λ c. spilled (Some v) c.rows c.cols) o) Blank
 
 -- what the address shows by the value of the key that decides
 abbrev pub value_shown : Oracle → Addr → Option Content → V.Value → Scalar
@@ -58,8 +58,7 @@ value_shown w a None v = element_shown (cover w a) v
 -- what it shows where that key loops: a formula a cycle, and an address under a root that loops a
 -- blank
 abbrev pub loop_shown : Option Content → Shown
-loop_shown (Some c) = Cycle
-loop_shown None = Value Blank
+loop_shown c = if is_some c then Cycle else Value Blank
 
 -- what it shows where no key decides
 abbrev pub constant_shown : Option Content → Shown
@@ -108,8 +107,7 @@ same_shown x y = false
 
 -- this is what is said to be shown
 abbrev pub says_so : Shown → Option Shown → Bool
-says_so x None = false
-says_so x (Some y) = same_shown x y
+says_so x o = unwrap_or (option_map (same_shown x) o) false
 
 -- the verdict by the first note that is refused, the first loop that is, and whether what is shown
 -- is right

@@ -11,9 +11,8 @@ use Rattle.gl_calculus.specs.Steps.Costs.{Finishes, Breaks}
 
 -- the steps of the last round, by the answer
 abbrev pub Last : World → C.Answer → Table × List Addr → ℕ → ℕ → ℕ → Type 0
-Last W (C.Settled v rounds) b i = Finishes W b i
 Last W (C.Spent C.Work) b i = Breaks W b
-Last W (C.Spent k) b i = Finishes W b i
+Last W r b i = Finishes W b i
 
 module _ (version : Version) (S : Cells) (tables : List Table) (touched : List Addr) where
   -- the calculation comes to round i, under w; before it stands the table of the round before; and
