@@ -8,6 +8,7 @@ pub mod Contents
 pub mod Counts
 pub mod Effects
 pub mod Errors
+pub mod Fixed
 pub mod Found
 pub mod Framed
 pub mod Fronts

@@ -3,4 +3,5 @@ pub mod FramingLaw
 pub mod States
 pub mod Lists
 pub mod Rooms
+pub mod Fixed
 pub mod Replies

@@ -5,6 +5,7 @@ ghost use Rattle.laws_protocol.specs.Replies.{RefusalsAreErrors, ScriptsKeepShee
 ghost use Rattle.laws_protocol.specs.States.{ActsKeepStates, ScriptsKeepStates, UndoTakesBack};
 ghost use Rattle.laws_protocol.specs.States.{ReplicasJoin, ReplicasAgree, SameSheetsReply};
 ghost use Rattle.laws_protocol.specs.Lists.{ListsReadBack};
+ghost use Rattle.laws_protocol.specs.Fixed.{FixedByContents};
 ghost use Rattle.laws_protocol.specs.Rooms.{ActsKeepRooms};
 
 /// An item has one effect and one reply, and so a script has one output, which begins with that of
@@ -14,6 +15,12 @@ pub fn one_reply()
     ensures output { OneOutput }
     ensures written { OneText }
     ensures first { FirstRepliesFirst }
+{}
+
+/// What a query of the sheet replies is fixed by the contents and the version alone: never by the way
+/// on which the sheet came about, nor by the order of evaluation.
+pub fn fixed_by_contents()
+    ensures { FixedByContents }
 {}
 
 /// A refused item leaves the state.

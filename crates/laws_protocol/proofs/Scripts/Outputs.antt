@@ -24,7 +24,7 @@ one_run records version {s = s} {u = u} (O.Runs.item {s' = t} {x = x} {xs = xs} 
     let rest : rs ≡ ss = one_run records version p (subst (λ (w : Script). Runs records version w xs u ss) (sym e.0) q) in
     ap (λ (b : Bytes). b ∷ rs) e.1 ∙ ap (λ (bs : List Bytes). z ∷ bs) rest
 
-apart : (b : Bool) → b ≡ true → b ≡ false → ⊥
+pub apart : (b : Bool) → b ≡ true → b ≡ false → ⊥
 apart b h k = let e : true ≡ false = sym h ∙ k in cc e
 
 one_output_of : (records : Bytes → List (List Bytes)) {is : List Item} {rs ss : List Bytes} → AreReplies records is rs → AreReplies records is ss → rs ≡ ss
