@@ -114,12 +114,6 @@ module _ (W : World) where
 -- ---- rounds
 
 module _ (version : Version) (S : Cells) where
-  -- the oracle of round i; that of round 0 is empty
-  pub data IsRound : ℕ → Oracle → Type 0 where
-    first_round : IsRound 0 []
-    next_round : {i : ℕ} {w next : Oracle} →
-        IsRound i w → IsNext (world version S w) next → IsRound (suc i) next
-
   -- round i under w doesn't end the calculation, and leads to the next oracle
   pub record GoesOn (i : ℕ) (w next : Oracle) : Type 0 where
     pub unspent : IsUnspent (world version S w)
@@ -127,7 +121,7 @@ module _ (version : Version) (S : Cells) where
     pub moves : next ≢ w
     pub not_last : suc i ≢ round_budget S
 
-  -- the calculation comes to round i, under the oracle w
+  -- the calculation comes to round i, under the oracle w; that of round 0 is empty
   pub data Reaches : ℕ → Oracle → Type 0 where
     first : Reaches 0 []
     later : {i : ℕ} {w next : Oracle} → Reaches i w → GoesOn i w next → Reaches (suc i) next

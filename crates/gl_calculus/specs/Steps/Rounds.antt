@@ -32,4 +32,5 @@ module _ (version : Version) (S : Cells) (tables : List Table) (touched : List A
     pub before : ℕ
     pub comes : Comes n round oracle table before
     pub ends : Ends version S round oracle r
-    pub last : Last (world version S oracle) r (base (slice_get tables round) touched table) round before m
+    pub last :
+        Last (world version S oracle) r (base (slice_get tables round) touched table) round before m
