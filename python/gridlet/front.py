@@ -2,13 +2,14 @@
 from __future__ import annotations
 
 import argparse
+import io
 import os
 import sys
 from typing import List, Optional
 
 from . import __version__
 from .commands import check, difference, fill, importing, opening, saved, showing
-from .errors import GridletError
+from .errors import GridletError, Refused, Spent
 
 COMMANDS = (check, showing, importing, fill, saved, difference, opening)
 DESCRIPTION = "Works on sheets that are kept as scripts of Gridlet."
@@ -35,10 +36,18 @@ def main(words: Optional[List[str]] = None) -> int:
     if not arguments.subcommand:
         parser().print_help(sys.stderr)
         return 2
+    for stream in (sys.stdout, sys.stderr):
+        if isinstance(stream, io.TextIOWrapper):
+            stream.reconfigure(encoding="utf-8", errors="backslashreplace")
     try:
         status = arguments.call(arguments)
         sys.stdout.flush()
         return int(status)
+    except (Refused, Spent) as error:
+        file = getattr(arguments, "file", None)
+        named = f"{file}: " if file and not str(error).startswith(str(file)) else ""
+        print(f"gridlet-sheet: {named}{error}", file=sys.stderr)
+        return 1
     except GridletError as error:
         print(f"gridlet-sheet: {error}", file=sys.stderr)
         return 2

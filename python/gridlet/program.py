@@ -51,7 +51,8 @@ class Process:
         path = find_program(program)
         try:
             self._running = subprocess.Popen(
-                [path, *words], stdin=subprocess.PIPE, stdout=subprocess.PIPE, bufsize=0)
+                [path, *words], stdin=subprocess.PIPE, stdout=subprocess.PIPE, bufsize=0,
+                start_new_session=True)
         except OSError as error:
             raise ProgramNotFound(f"{path}: {error.strerror}") from None
         assert self._running.stdin and self._running.stdout
@@ -67,8 +68,13 @@ class Process:
 
     def ask(self, item: Item) -> Optional[Reply]:
         """The reply to one item, None where it is silent."""
-        self._write(item.whole)
-        return None if item.is_silent else self._reply(item)
+        try:
+            self._write(item.whole)
+            return None if item.is_silent else self._reply(item)
+        except BaseException:
+            # A reply that is not read whole would be taken for that of the next command.
+            self._running.kill()
+            raise
 
     def run(self, items: Iterable[Item], is_end: bool = False) -> List[Answer]:
         """The replies to many items, which are written while replies are read.

@@ -26,6 +26,7 @@ class Sheet:
 
     def __init__(self, file: Union[None, str, Path] = None, *, program: Optional[str] = None,
                  order: Optional[str] = None, version: int = 1) -> None:
+        self.program = program
         self._process = Process(program, ["--order", order] if order else [])
         self.site_number: Optional[int] = None
         try:

@@ -1,3 +1,73 @@
-"""x"""
-def add_to(parts):
-    pass
+"""`gridlet-sheet save`: a script becomes the shortest one that makes its sheet."""
+from __future__ import annotations
+
+import argparse
+import sys
+from pathlib import Path
+from typing import Any
+
+from ..errors import BadInput
+from ..replies import items
+from ..saving import check, head_comments, save_sheet, script_of, state
+from ..scripts import read_bytes
+from ..snapshot import is_refused, open_sheet
+
+
+def add_to(parts: Any) -> None:
+    """Adds the subcommand's words."""
+    it = parts.add_parser(
+        "save", help="write a sheet as the shortest script that makes it, and never lose it",
+        description="Writes the script that makes the sheet of FILE: its list, or its registers "
+                    "where it is a replica. It takes the place of OUT, or of FILE, in one step, "
+                    "and only once it reads back equal. Comments at the head are kept, others "
+                    "are not. A script with a refused command is left as it is, status 1.")
+    it.add_argument("file", metavar="FILE")
+    it.add_argument("out", metavar="OUT", nargs="?", help="where to write it; - is the output")
+    it.add_argument("--force", action="store_true",
+                    help="save what a script makes although some of it was refused")
+    it.set_defaults(call=run)
+
+
+def run(arguments: argparse.Namespace) -> int:
+    """Saves, or says why not."""
+    script = read_bytes(arguments.file)
+    unread = _behind_quit(script)
+    sheet, answers = open_sheet(arguments.file, arguments.program)
+    with sheet:
+        if unread and not arguments.force:
+            print(f"{arguments.file}:{unread}: what stands behind quit would be lost, so nothing "
+                  "was saved", file=sys.stderr)
+            return 1
+        if is_refused(answers) and not arguments.force:
+            print(f"gridlet-sheet: {arguments.file}: nothing was saved", file=sys.stderr)
+            return 1
+        comments, dropped = head_comments(script)
+        if dropped and not arguments.out:
+            print(f"gridlet-sheet: {arguments.file}: {dropped} comments behind the first command "
+                  "are not kept", file=sys.stderr)
+        _write(arguments, sheet, script, comments)
+    return 0
+
+
+def _write(arguments: argparse.Namespace, sheet: Any, script: bytes, comments: Any) -> None:
+    if arguments.out == "-":
+        made = script_of(sheet, comments)
+        check(made, state(sheet), arguments.program)
+        sys.stdout.buffer.write(made)
+        return
+    out = Path(arguments.out or arguments.file)
+    if out.is_dir():
+        raise BadInput(f"{out}: Is a directory")
+    save_sheet(sheet, out, comments, None if arguments.out else script)
+
+
+def _behind_quit(script: bytes) -> int:
+    """The line of the first command behind `quit`, 0 where there is none."""
+    told = list(items(script))
+    if not told or told[-1].text != b"quit":
+        return 0
+    rest = script.split(b"\n")[told[-1].line:]
+    for offset, line in enumerate(rest, told[-1].line + 1):
+        if line.strip() and not line.startswith(b";"):
+            return offset
+    return 0
