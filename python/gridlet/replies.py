@@ -55,8 +55,8 @@ class Item:
 
     @property
     def whole(self) -> bytes:
-        """The bytes that a program reads."""
-        return self.text + b"\n" + self.payload
+        """The bytes that a program reads, which drops one CR before LF."""
+        return self.text + (b"\r\n" if self.text[-1:] == b"\r" else b"\n") + self.payload
 
 
 def payload_due(text: bytes) -> int:

@@ -50,9 +50,10 @@ def run(arguments: argparse.Namespace) -> int:
         if sys.stdin.isatty():
             named = f"{file} is new. " if file and is_new else f"{file} is open. " if file else ""
             print(f"{named}help says what there is; quit leaves.")
-        prepare(prompt)
+            prepare(prompt)
         loop(prompt)
-        keep()
+        if sys.stdin.isatty():
+            keep()
         return prompt.status
     finally:
         prompt.sheet.close()
