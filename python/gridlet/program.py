@@ -124,7 +124,7 @@ class Process:
             return self._pairing.reply_to(item)
         except ProgramFailed as error:
             try:
-                how = ended(self._running.wait(2))
+                how = ended(self._running.wait(0.5))
             except subprocess.TimeoutExpired:
                 how = "it is still running"
             raise ProgramFailed(f"{error} ({how})") from None

@@ -51,9 +51,9 @@ class Reader:
         if INTEGER.fullmatch(field) and field != "-0":
             if LEAST <= int(field) <= GREATEST:
                 return field
-            self._lost(line, column, f"{field} is outside 64 bits and stays a text")
+            self._lost(line, column, f"{brief(field)} is outside 64 bits and stays a text")
         elif DECIMAL.fullmatch(field):
-            self._lost(line, column, f"{field} stays a text, which sums pass over; "
+            self._lost(line, column, f"{brief(field)} stays a text, which sums pass over; "
                                      f"--cents makes it whole, --text says that it is one")
         return literal(field)
 
@@ -65,14 +65,20 @@ class Reader:
             if number <= GREATEST:
                 return str(-number if found[1] == "-" else number)
         if not is_head:
-            self._lost(line, column, f"{field!r} is no amount of at most two decimals, "
+            self._lost(line, column, f"{brief(field)} is no amount of at most two decimals, "
                                      "and stays a text")
         return literal(field)
 
     def _lost(self, line: int, column: int, text: str) -> None:
         name = self.names[column] if column < len(self.names) else ""
-        named = f" ({name})" if name else ""
+        named = f" ({brief(name)})" if name else ""
         self.misfits.append(Misfit(line, f"column {column + 1}{named}: {text}"))
+
+
+def brief(text: str) -> str:
+    """A text on one line, cut where it is long."""
+    return "".join(it if it.isprintable() else ascii(it)[1:-1]
+                   for it in (text if len(text) <= 40 else text[:39] + "~"))
 
 
 def read_text(file: str) -> str:

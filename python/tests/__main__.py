@@ -1,0 +1,20 @@
+"""Runs all tests, and ends with the line `N passed, M failed`: `python -m tests` in python/."""
+import sys
+import unittest
+
+from .support import TESTS
+
+
+def main() -> int:
+    """The exit status: 0 where none failed and there were some."""
+    suite = unittest.defaultTestLoader.discover(str(TESTS), top_level_dir=str(TESTS.parent))
+    result = unittest.TextTestRunner(stream=sys.stdout, verbosity=1).run(suite)
+    failed = len({str(test) for test, _ in result.failures + result.errors}
+                 | {str(test) for test in result.unexpectedSuccesses})
+    passed = max(result.testsRun - failed - len(result.skipped), 0)
+    print(f"{passed} passed, {failed} failed")
+    return 0 if passed and not failed else 1
+
+
+if __name__ == "__main__":
+    sys.exit(main())
