@@ -119,7 +119,8 @@ def arrays_lines(grid: Grid) -> List[str]:
     """The table of arrays."""
     if not grid.snapshot.arrays:
         return ["<p>There is none.</p>"]
-    made = ['<table class="arrays"><tr><th>root</th><th>size</th><th>permit</th><th>formula</th></tr>']
+    heads = "".join(f"<th>{it}</th>" for it in ("root", "size", "permit", "formula"))
+    made = [f'<table class="arrays"><tr>{heads}</tr>']
     for it in grid.snapshot.arrays:
         name = f'c{grid.colours[it.root]}' if it.permitted else "none"
         bad = "" if it.permitted else ' class="bad"'

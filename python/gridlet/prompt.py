@@ -11,8 +11,8 @@ from .errors import BadInput, GridletError, ProgramFailed, Refused
 from .manual import Manual
 from .program import Answer
 from .replies import Item, Reply
-from .saving import head_comments, save_sheet
-from .scripts import read_bytes
+from .saving import save_sheet
+from .scripts import head_comments, read_bytes
 from .sheet import Sheet
 from .snapshot import used
 
@@ -125,7 +125,9 @@ class Prompt:
     def help(self, rest: str) -> None:
         """What there is, or what the page says of a word."""
         if rest:
-            print("\n".join(self.manual.about(rest)) or f"the page says nothing of {rest}")
+            nothing = (f"the language's page says nothing of {rest}" if self.manual.sections
+                       else "the language's page did not come with this package")
+            print("\n".join(self.manual.about(rest)) or nothing)
             return
         print(OWN)
         print("commands:  " + " ".join(self.manual.commands()))

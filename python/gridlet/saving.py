@@ -5,7 +5,7 @@ import os
 import stat
 import tempfile
 from pathlib import Path
-from typing import Iterable, List, Optional, Tuple
+from typing import Iterable, Optional, Tuple
 
 from .errors import BadInput
 from .replies import edit_line, items
@@ -72,21 +72,6 @@ def save_sheet(sheet: Sheet, file: Path, comments: Iterable[bytes] = (),
     script = script_of(sheet, comments)
     check(script, state(sheet), program or sheet.program)
     write(script, file, before)
-
-
-def head_comments(script: bytes) -> Tuple[List[bytes], int]:
-    """The comments and empty lines before the first command, and how many stand behind it."""
-    head: List[bytes] = []
-    behind, is_head = 0, True
-    for item in items(script):
-        if item.text == b"gridlet 2" and not item.is_silent and not head:
-            continue
-        is_head = is_head and item.is_silent
-        if is_head:
-            head.append(item.text)
-        elif item.is_silent and item.text:
-            behind += 1
-    return head, behind
 
 
 def _mode(file: Path) -> int:

@@ -3,7 +3,7 @@ from __future__ import annotations
 
 from pathlib import Path
 from types import TracebackType
-from typing import Dict, Iterable, List, Mapping, Optional, Tuple, Type, Union
+from typing import Any, Dict, Iterable, List, Mapping, Optional, Tuple, Type, Union
 
 from . import replies
 from .addresses import Address, Range, read_range
@@ -66,7 +66,10 @@ class Sheet:
 
     def run(self, lines: Iterable[Line], is_end: bool = False) -> List[Answer]:
         """The replies to many lines, each with its command; comments have none."""
-        answers = self._process.run([_item(it) for it in lines], is_end)
+        told = [_item(it) for it in lines]
+        if told and told[-1].missing and not is_end:
+            raise BadInput(f"{told[-1].place}a payload is cut: {told[-1].command}")
+        answers = self._process.run(told, is_end)
         for item, reply in answers:
             self._note_site(item, reply)
         return answers
@@ -111,6 +114,17 @@ class Sheet:
         answers = self.run(f"show {address}" for address in found.cells())
         shown = [replies.read_value(reply.accepted(item)[0]) for item, reply in answers]
         return [shown[at:at + found.columns] for at in range(0, len(shown), found.columns)]
+
+    def frame(self, where: Union[str, Range], has_names: bool = True) -> Any:
+        """A range as a `pandas.DataFrame`, where pandas is installed; its first row has names."""
+        try:
+            import pandas
+        except ImportError:
+            raise BadInput("frame wants pandas, which is not installed") from None
+        rows = self.view(where)
+        if not has_names:
+            return pandas.DataFrame(rows)
+        return pandas.DataFrame(rows[1:], columns=[str(it) for it in rows[0]])
 
     def get(self, address: Where) -> Optional[str]:
         """The text of a cell's content; None where it has none."""

@@ -11,8 +11,8 @@ class Check(Folder):
         self.assertEqual(front("check", EXAMPLES / "loan.gridlet"), (0, "", ""))
 
     def test_refused_commands(self) -> None:
-        file = self.file("s.gridlet", "; a", "set A1 1", "", "set A2 =A1+", "show A0", b"set A3 \xff\n",
-                         "x" * 40_000, "undo", "quit", "foo")
+        file = self.file("s.gridlet", "; a", "set A1 1", "", "set A2 =A1+", "show A0",
+                         b"set A3 \xff\n", "x" * 40_000, "undo", "quit", "foo")
         ran = front("check", file)
         self.assertEqual((ran.status, ran.complaints), (1, ""))
         self.assertEqual([it.replace(f"{file}", "F")[:50] for it in ran.lines], [
@@ -27,6 +27,28 @@ class Check(Folder):
         file = self.file("s.gridlet", *(f"set A1 {it}" for it in faults.values()))
         ran = front("check", file)
         self.assertEqual([it.split(": ")[1] for it in ran.lines], [f"error {it}" for it in faults])
+
+    def test_every_word_of_a_command(self) -> None:
+        cells = [f"{column}{row}" for column in "ABCDEFGHIJKLMN" for row in range(1, 9999)]
+        cases = (
+            ("line", ["x" * 40_000]), ("utf8", [b"get \xff\n"]), ("utf8", [b"import A1 1\n\xff\n"]),
+            ("command", ["foo"]), ("payload", ["import A1 1048577"]),
+            ("truncated", [b"import A1 5\n1"]), ("address", ["show A0"]), ("range", ["view B1:A1"]),
+            ("stamp", ["site 1", "edit 0 1 A1 5"]), ("site", ["export"]),
+            ("stamp", ["site 1", "edit 1000000000000 2 A1 5", "set A1 1"]),
+            ("field", [b"import A1 4098\n" + b"a" * 4097 + b"\n"]),
+            ("grid", [b"import ZZ1 4\n1,2\n"]), ("undo", ["undo"]), ("redo", ["redo"]),
+            ("conflict", ["site 1", "edit 2 1 A1 5", "edit 2 1 A1 6"]),
+            ("formulas", [f"set {it} =1" for it in cells[:16_385]]),
+            ("contents", [f"set {it} 1" for it in cells[:65_537]]),
+            ("edits", ["site 1", *(f"edit 1 1 {it}" for it in cells[:131_073])]))
+        for word, lines in cases:
+            file = self.file("s.gridlet", *lines)
+            line = 1 if isinstance(lines[-1], bytes) else len(lines)
+            with self.subTest(word=word):
+                ran = front("check", file)
+                self.assertEqual(len(ran.lines), 1)
+                self.assertTrue(ran.lines[0].startswith(f"{file}:{line}: error {word}: "))
 
     def test_a_sheet_that_does_not_settle(self) -> None:
         file = self.file("s.gridlet", "set A1 =IF(C1=0,SEQUENCE(1,3),5)", "show A1")
@@ -75,7 +97,8 @@ class Check(Folder):
     def test_several_files(self) -> None:
         one, other = self.file("one", "foo"), self.file("other", "set A1 1", "bar")
         ran = front("check", one, other)
-        self.assertEqual(ran.lines, [f"{one}:1: error command: foo", f"{other}:2: error command: bar"])
+        self.assertEqual(ran.lines, [f"{one}:1: error command: foo",
+                                     f"{other}:2: error command: bar"])
 
 
 class BadInput(Folder):
@@ -114,7 +137,8 @@ class BadInput(Folder):
             self.complains(front(*words, file, GRIDLET="/nowhere"), 2, "/nowhere")
 
     def test_a_program_that_ends_in_mid_reply(self) -> None:
-        program = self.program("ends", "#!/bin/sh\nread one\necho ok\nread two\nprintf 'li'\nexit 3")
+        program = self.program(
+            "ends", "#!/bin/sh\nread one\necho ok\nread two\nprintf 'li'\nexit 3")
         file = self.file("s", "; first", "set A1 1", "list", "show A1")
         for words in (("check",), ("show",), ("save",), ("diff", file)):
             ran = front("--program", program, *words, file)

@@ -1,15 +1,19 @@
 """The client: a sheet whose commands are methods."""
 from __future__ import annotations
 
-import time
+import sys
 import unittest
+from types import ModuleType
 from typing import Any
+from unittest import mock
 
 from gridlet import (
     Address, BadInput, CellError, Edit, Forecast, Note, ProgramFailed, ProgramNotFound, Range,
     Refused, Sheet, Spent)
 
-from .support import EXAMPLES, Folder, answered
+from gridlet.replies import items
+
+from .support import EXAMPLES, Folder
 
 
 class Methods(unittest.TestCase):
@@ -91,6 +95,20 @@ class Methods(unittest.TestCase):
             self.assertEqual(sheet.list(), {"A1": "=IF(SEQUENCE(1,2)=1,1,2)"})
         self.assertEqual(self.sheet.version, 1)
 
+    def test_frame(self) -> None:
+        class Pandas(ModuleType):
+            """As much of pandas as is asked for."""
+
+            DataFrame = staticmethod(lambda rows, columns=None: (rows, columns))
+
+        self.sheet.set_all({"A1": "part", "B1": "count", "A2": "nut", "B2": 5})
+        with mock.patch.dict(sys.modules, {"pandas": Pandas("pandas")}):
+            self.assertEqual(self.sheet.frame("A1:B2"), ([["nut", 5]], ["part", "count"]))
+            self.assertEqual(self.sheet.frame("B2:B2", has_names=False), ([[5]], None))
+        with mock.patch.dict(sys.modules, {"pandas": None}):
+            with self.assertRaisesRegex(BadInput, "pandas, which is not installed"):
+                self.sheet.frame("A1:B2")
+
     def test_run_pairs_commands_with_replies(self) -> None:
         answers = self.sheet.run(["; a comment", "", "set A1 2", "show A1", "foo", "view A1:A2"])
         self.assertEqual([(it.command, reply.lines) for it, reply in answers], [
@@ -143,6 +161,8 @@ class Faults(Folder):
             for line in ("set A1 1\nset A2 2", "import A1 3", "", "; x", "set A1 \ud800"):
                 with self.assertRaises(BadInput):
                     sheet.ask(line)
+            with self.assertRaisesRegex(BadInput, "a payload is cut"):
+                sheet.run(items(b"set A1 1\nimport A1 9\n1"))
             self.assertEqual(sheet.ask("show A1").lines, (".",))
 
     def test_no_program(self) -> None:
@@ -190,23 +210,11 @@ class Much(unittest.TestCase):
             self.assertEqual({len(reply.lines) for _, reply in answers}, {5000})
             self.assertEqual(sheet.view("A1:B5000")[-1], [9999, 10000])
 
-    def test_pairs_are_quick(self) -> None:
-        count = 2000
-        script = "".join(f"set A1 {it}\nshow A1\n" for it in range(count)).encode()
-        begun = time.perf_counter()
-        answered(script)
-        own = time.perf_counter() - begun
-        best: Any = None
-        for _ in range(3):
-            with Sheet() as sheet:
-                begun = time.perf_counter()
-                for it in range(count):
-                    sheet.set("A1", it)
-                    self.assertEqual(sheet.show("A1"), it)
-                took = (time.perf_counter() - begun - own) / count
-                best = took if best is None else min(best, took)
-        # A loaded machine is slower than the hundred microseconds that an idle one takes at most.
-        self.assertLess(best, 0.001)
+    def test_many_pairs_one_by_one(self) -> None:
+        with Sheet() as sheet:
+            for it in range(5000):
+                sheet.set("A1", it)
+                self.assertEqual(sheet.show("A1"), it)
 
 
 def cells(count: int) -> Any:

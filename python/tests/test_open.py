@@ -52,8 +52,8 @@ class Lines(Folder):
 
     def test_import_takes_a_file(self) -> None:
         file = self.file("f.csv", "1,2")
-        self.assertEqual(self.told(f"import B1 {file}", "show C1", f"import A0 {file}", "import A1 3"),
-                         ["ok", "2", "error address: an address is none",
+        self.assertEqual(self.told(f"import B1 {file}", "show C1", f"import A0 {file}",
+                                   "import A1 3"), ["ok", "2", "error address: an address is none",
                           "here an import takes a file: import A1 parts.csv"])
         self.assertEqual(self.told(f"import B1 {self.folder}/none"),
                          [f"{self.folder}/none: No such file or directory"])
@@ -117,6 +117,7 @@ class Person(Folder):
         sheet, was = self.prompt.sheet, self.prompt.sheet.ask
 
         def interrupted(_: object) -> None:
+            """As where a person interrupts a command."""
             sheet.close()
             raise KeyboardInterrupt
 
@@ -129,6 +130,7 @@ class Person(Folder):
         lines = iter(["set A1 1", "quit", "no", "show A1"])
 
         def read(_: str) -> str:
+            """The next line of the person."""
             try:
                 return next(lines)
             except StopIteration:
@@ -141,7 +143,8 @@ class Person(Folder):
 
     def test_completion(self) -> None:
         self.prompt.sheet.set_all({"AB12": 1, "A1": 2})
-        for line, text, found in (("sh", "sh", ["show"]), ("e", "e", ["edit", "exit", "explain", "export"]),
+        for line, text, found in (("sh", "sh", ["show"]),
+                                  ("e", "e", ["edit", "exit", "explain", "export"]),
                                   ("set A1 =SU", "SU", ["SUM("]), ("show A", "A", ["A1", "AB12"]),
                                   ("set C1 =SUM(AB", "AB", ["AB12", "ABS("]),
                                   ("help UNI", "UNI", ["UNIQUE"])):
@@ -157,7 +160,7 @@ class Help(Folder):
     def test_commands_and_functions(self) -> None:
         page = manual()
         self.assertIn("explain", page.commands())
-        self.assertEqual([it for it in ("SUM", "VIEW", "LET", "NA") if it not in page.functions()], [])
+        self.assertLessEqual({"SUM", "VIEW", "LET", "NA"}, set(page.functions()))
         self.assertEqual(page.about("sum")[0].split("\n")[0], "SUM(x,..)")
         self.assertTrue(page.about("why")[0].startswith("why A1"))
         self.assertTrue(page.about("#SPILL!")[0].startswith("#SPILL!"))
@@ -196,6 +199,7 @@ class Terminal(Folder):
         turns = iter(["set A1 2", "", "set A1 =1+", None])
 
         def go_on() -> bool:
+            """Changes the file, until there is nothing left to change it to."""
             text = next(turns, None)
             if text:
                 file.write_text(text + "\n" * (2 if "2" in text else 1))

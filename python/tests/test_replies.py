@@ -68,7 +68,8 @@ class Values(unittest.TestCase):
 
     def test_shown(self) -> None:
         for shown, value in ((".", None), ("-12", -12), ("TRUE", True), ("FALSE", False),
-                             ('"a\\\\x41\\x41\\n\\"é"', 'a\\x41A\n"é'), ("#REF!", CellError("#REF!")),
+                             ('"a\\\\x41\\x41\\n\\"é"', 'a\\x41A\n"é'),
+                             ("#REF!", CellError("#REF!")),
                              ("sheet(A1:B3)", SheetValue("A1:B3")), ('"error x"', "error x")):
             self.assertEqual(read_value(shown), value)
             self.assertIs(type(read_value(shown)), type(value))
@@ -145,9 +146,9 @@ class Chance(unittest.TestCase):
 
     WORDS = ("set", "clear", "show", "view", "get", "list", "calc", "oracle", "why", "explain",
              "flow", "import", "undo", "redo", "site", "edit", "export", "gridlet", "foo", ";", "")
-    PIECES = ("A1", "B2", "A1:B3", "C3:A1", "ZZ9999", "AAA1", "2", "0", "5", "=A1#", "=SEQUENCE(2,2)",
-              "=B2+1", "=SHEET(A1:B2)", "=1/0", "=IF(C1=0,SEQUENCE(1,3),5)", "text", '"a b"', "\x85",
-              "", "=SUM(", "TRUE", "3 1 A1 7")
+    PIECES = ("A1", "B2", "A1:B3", "C3:A1", "ZZ9999", "AAA1", "2", "0", "5", "=A1#",
+              "=SEQUENCE(2,2)", "=B2+1", "=SHEET(A1:B2)", "=1/0", "=IF(C1=0,SEQUENCE(1,3),5)",
+              "text", '"a b"', "\x85", "", "=SUM(", "TRUE", "3 1 A1 7")
 
     def script(self, seed: int) -> bytes:
         """A script of its own for each seed."""

@@ -2,17 +2,19 @@
 from __future__ import annotations
 
 import os
+import random
 import signal
 import subprocess
 import sys
 import time
 from pathlib import Path
-from typing import List
+from typing import Any, List
+from unittest import mock
 
 from gridlet import BadInput, Sheet
 from gridlet.saving import check, script_of, state
 
-from .support import EXAMPLES, FRONT, Folder, environment, front, front_alone
+from .support import EXAMPLES, FRONT, Folder, Ran, environment, front
 
 
 class Save(Folder):
@@ -146,32 +148,77 @@ for line in sys.stdin:
         with Sheet(file) as sheet:
             self.assertEqual(sheet.list(), {"A1": '"a\\nb"', "B1": "=A1&1"})
 
-    def test_killed_at_any_point(self) -> None:
+    def test_killed_at_any_time(self) -> None:
         old = "".join(f"set A{it} 0{it}\n" for it in range(1, 3000))
-        new = old.replace(" 0", " ")
         file = self.folder / "s.gridlet"
-        seen = set()
-        for delay in (0.02, 0.08, 0.12, 0.16, 0.2, 0.25, 0.3, 0.4):
+        for delay in (0.05, 0.15, 0.25):
             file.write_text(old)
             running = subprocess.Popen([sys.executable, str(FRONT), "save", str(file)],
                                        env=environment(), stderr=subprocess.DEVNULL)
             time.sleep(delay)
             running.send_signal(signal.SIGKILL)
             running.wait()
-            text = file.read_text()
-            self.assertIn(text, (old, new))
-            seen.add(text)
-        self.assertIn(old, seen)
+            self.assertIn(file.read_text(), (old, old.replace(" 0", " ")))
+
+    def killed(self, call: str, is_behind: bool, file: Path) -> None:
+        """Saves in a process that is killed before or behind a call."""
+        child = os.fork()
+        if child:
+            self.assertEqual(os.waitpid(child, 0)[1], signal.SIGKILL)
+            return
+        module, _, name = call.rpartition(".")
+        whole = getattr(sys.modules[module], name)
+
+        def dies(*given: Any, **named: Any) -> None:
+            """The call, or not, and the end."""
+            if is_behind:
+                whole(*given, **named)
+            os.kill(os.getpid(), signal.SIGKILL)
+
+        with mock.patch(call, dies):
+            front("save", file)
+        os._exit(0)
+
+    def test_killed_at_each_step(self) -> None:
+        for call in ("tempfile.mkstemp", "os.fdopen", "os.fchmod", "os.fsync", "os.replace",
+                     "gridlet.saving.check", "gridlet.saving.write", "gridlet.saving._settle"):
+            for is_behind in (False, True):
+                file = self.file("s.gridlet", "set A1 01", "set B1 =A1*2")
+                with self.subTest(call=call, is_behind=is_behind):
+                    self.killed(call, is_behind, file)
+                    is_moved = call in ("gridlet.saving._settle", "gridlet.saving.write") or (
+                        call == "os.replace")
+                    is_new = call == "gridlet.saving._settle" or (is_moved and is_behind)
+                    self.assertEqual(file.read_text(), "set A1 1\nset B1 =A1*2\n" if is_new
+                                     else "set A1 01\nset B1 =A1*2\n")
+
+    def test_what_chance_makes_comes_back(self) -> None:
+        chance = random.Random(11)
+        texts = ("1", "-07", "TRUE", "word", '"a\\n\\x01"', "=A1+1", "=SEQUENCE(2,2)", "=B1#",
+                 "=G(A1:B2,A1,5)", '=IF(A1>0,"x",1/0)', "  spaces ", "é\u2028")
+        for seed in range(24):
+            lines = ["gridlet 2"] * (seed % 2) + ["site 7"] * (seed % 3 == 0)
+            for _ in range(30):
+                place = f"{chance.choice('ABC')}{chance.randrange(1, 5)}"
+                lines.append(chance.choice((f"set {place} {chance.choice(texts)}",
+                                            f"clear {place}", "undo")))
+            with self.subTest(seed=seed), Sheet() as sheet:
+                sheet.run(lines)
+                file = self.folder / "s"
+                sheet.save(file)
+                with Sheet(file) as again:
+                    self.assertEqual(state(again), state(sheet))
 
     def test_a_full_disk_leaves_the_old_file(self) -> None:
-        if not os.path.exists("/dev/full"):
-            self.skipTest("there is no /dev/full")
-        folder = Path("/dev")
-        self.assertTrue(folder.is_dir())
         file = self.file("s", "set A1 01")
-        ran = front_alone("save", file, "/dev/full/s")
-        self.complains(ran, 2, "/dev/full")
-        self.assertEqual(file.read_text(), "set A1 01\n")
+        words = f"ulimit -f 0; exec '{sys.executable}' '{FRONT}' save '{file}'"
+        ran = subprocess.run(["sh", "-c", words], capture_output=True, env=environment())
+        self.complains(Ran(ran.returncode, "", ran.stderr.decode()), 2, file, "File too large")
+        self.assertEqual((file.read_text(), len(list(self.folder.iterdir()))), ("set A1 01\n", 1))
+
+    def test_a_folder_that_is_none(self) -> None:
+        file = self.file("s", "set A1 01")
+        self.complains(front("save", file, file / "out"), 2, file, "Not a directory")
 
 
 class Difference(Folder):

@@ -38,8 +38,8 @@ class Forms(Folder):
             self.assertEqual(front("show", file, *words), (0, text, ""))
 
     def test_csv_comes_back(self) -> None:
-        file = self.file("s", 'set A1 "a,b \\"c\\"\\nd"', "set B1 007", 'set C1 "007"', "set D1 TRUE",
-                         "set B2 =1/0", "set C2 =SHEET(A1:B1)", "set D2 é")
+        file = self.file("s", 'set A1 "a,b \\"c\\"\\nd"', "set B1 007", 'set C1 "007"',
+                         "set D1 TRUE", "set B2 =1/0", "set C2 =SHEET(A1:B1)", "set D2 é")
         ran = front("show", file, "--csv")
         self.assertEqual(list(csv.reader(io.StringIO(ran.out))), [
             ['a,b "c"\nd', "7", "007", "TRUE"], ["", "#DIV/0!", "sheet(A1:B1)", "é"]])
@@ -78,6 +78,7 @@ class Cells(HTMLParser):
         self.close()
 
     def handle_starttag(self, tag: str, attrs: Any) -> None:
+        """Notes a tag, and a cell that has a name."""
         known = dict(attrs)
         self.tags.append((tag, known))
         self._at = known.get("id") if tag == "td" else None
@@ -85,11 +86,13 @@ class Cells(HTMLParser):
             self.cells[self._at] = (known, "")
 
     def handle_data(self, data: str) -> None:
+        """The text of a cell."""
         if self._at:
             known, text = self.cells[self._at]
             self.cells[self._at] = (known, text + data)
 
     def handle_endtag(self, tag: str) -> None:
+        """No cell goes on behind a tag's end."""
         self._at = None
 
 
@@ -115,8 +118,8 @@ class Page(Folder):
                          "C2\nshows 5400\narray 2x1 of C1 =B1:B2*12: permitted")
 
     def test_spills_have_edges_and_colours(self) -> None:
-        _, page = self.page("set A1 =SEQUENCE(2,2)", "set D1 =SEQUENCE(2,1)", "set F1 =SEQUENCE(2,1)",
-                            "set F2 x")
+        _, page = self.page("set A1 =SEQUENCE(2,2)", "set D1 =SEQUENCE(2,1)",
+                            "set F1 =SEQUENCE(2,1)", "set F2 x")
         self.assertEqual(self.classes(page, "A1"), ["i", "a", "c0", "u", "l"])
         self.assertEqual(self.classes(page, "B2"), ["i", "a", "c0", "d", "r"])
         self.assertEqual(self.classes(page, "D2"), ["i", "a", "c1", "d", "l", "r"])

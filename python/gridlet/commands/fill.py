@@ -49,6 +49,7 @@ def moved(content: str, rows: int, columns: int, cell: Address) -> str:
         return content
 
     def reference(piece: "re.Match[str]") -> str:
+        """A reference where it comes to stand; a text and a longer word as they are."""
         if piece[2] is None:
             return piece[0]
         column = column_of(piece[2]) + (0 if piece[1] else columns)

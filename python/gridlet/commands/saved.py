@@ -7,9 +7,8 @@ from pathlib import Path
 from typing import Any
 
 from ..errors import BadInput
-from ..replies import items
-from ..saving import check, head_comments, save_sheet, script_of, state
-from ..scripts import read_bytes
+from ..saving import check, save_sheet, script_of, state
+from ..scripts import head_comments, line_behind_quit, read_bytes
 from ..snapshot import is_refused, open_sheet
 
 
@@ -31,7 +30,7 @@ def add_to(parts: Any) -> None:
 def run(arguments: argparse.Namespace) -> int:
     """Saves, or says why not."""
     script = read_bytes(arguments.file)
-    unread = _behind_quit(script)
+    unread = line_behind_quit(script)
     sheet, answers = open_sheet(arguments.file, arguments.program)
     with sheet:
         if unread and not arguments.force:
@@ -59,15 +58,3 @@ def _write(arguments: argparse.Namespace, sheet: Any, script: bytes, comments: A
     if out.is_dir():
         raise BadInput(f"{out}: Is a directory")
     save_sheet(sheet, out, comments, None if arguments.out else script)
-
-
-def _behind_quit(script: bytes) -> int:
-    """The line of the first command behind `quit`, 0 where there is none."""
-    told = list(items(script))
-    if not told or told[-1].text != b"quit":
-        return 0
-    rest = script.split(b"\n")[told[-1].line:]
-    for offset, line in enumerate(rest, told[-1].line + 1):
-        if line.strip() and not line.startswith(b";"):
-            return offset
-    return 0
