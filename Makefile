@@ -18,7 +18,8 @@ INSTALL ?= install
 HEAP ?= $(dir $(realpath $(shell command -v $(RT))))../c/liblibc_c.a
 
 TOP := $(dir $(abspath $(lastword $(MAKEFILE_LIST))))
-PROGRAM ?= $(TOP)crates/gridlet/out/gridlet
+BUILT := $(TOP)crates/gridlet/out/gridlet
+PROGRAM ?= $(BUILT)
 STATIC := $(TOP)crates/gridlet_c/out/libgridlet_c.a
 SHARED := $(TOP)crates/gridlet_c/out/libgridlet.so
 
@@ -27,12 +28,19 @@ package := $(to)/lib/gridlet/gridlet
 pages := $(to)/share/man
 editors := $(to)/share/gridlet/editors
 
+MAKEFLAGS += --no-builtin-rules
+.SUFFIXES:
 .PHONY: all check static shared install install-libraries uninstall
 
 all: $(PROGRAM)
 
-$(TOP)crates/gridlet/out/gridlet:
+$(BUILT):
 	cd $(TOP)crates/gridlet && $(RT) run </dev/null
+
+# A program from elsewhere is taken as it is: make has no rule of its own for it.
+ifneq ($(PROGRAM),$(BUILT))
+$(PROGRAM): ;
+endif
 
 check: $(PROGRAM)
 	cd $(TOP)python && GRIDLET=$(abspath $(PROGRAM)) PYTHONDONTWRITEBYTECODE=1 $(PYTHON) -m tests

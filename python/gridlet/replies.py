@@ -6,8 +6,7 @@ but a comment and an empty line has one reply, whose first line says how many mo
 from __future__ import annotations
 
 import re
-from dataclasses import dataclass
-from typing import Callable, Iterator, List, Optional, Tuple
+from typing import Callable, Iterator, List, NamedTuple, Optional, Tuple
 
 from .addresses import Address, address_of, read_address, read_range
 from .errors import ProgramFailed, Refused, Spent
@@ -17,8 +16,8 @@ from .values import (
 LINE_LIMIT = 32_768
 PAYLOAD_LIMIT = 1_048_576
 
-_SAYS_OK = (
-    b"set", b"clear", b"import", b"undo", b"redo", b"site", b"edit", b"gridlet")
+_SAYS_OK = frozenset((
+    b"set", b"clear", b"import", b"undo", b"redo", b"site", b"edit", b"gridlet"))
 _IMPORT = re.compile(rb"import [^ ]+ (0|[1-9][0-9]{0,6})")
 _ESCAPE = re.compile(r"\\(x[0-9A-Fa-f]{2}|.)")
 _ESCAPES = {"n": "\n", "r": "\r", "t": "\t"}
@@ -26,8 +25,7 @@ _LITERALS = {"\\": "\\\\", '"': '\\"', "\n": "\\n", "\r": "\\r", "\t": "\\t"}
 _NEEDS_ESCAPE = re.compile(r'[\\"\x00-\x1f\x7f]')
 
 
-@dataclass(frozen=True)
-class Item:
+class Item(NamedTuple):
     """A line of a script without its end, with its payload and what is missing of it."""
 
     text: bytes
@@ -39,7 +37,7 @@ class Item:
     @property
     def is_silent(self) -> bool:
         """Whether it has no reply: a comment or an empty line."""
-        return len(self.text) <= LINE_LIMIT and (not self.text or self.text.startswith(b";"))
+        return self.text[:1] in (b";", b"") and len(self.text) <= LINE_LIMIT
 
     @property
     def command(self) -> str:
@@ -61,7 +59,9 @@ class Item:
 
 def payload_due(text: bytes) -> int:
     """How many bytes of payload stand behind a line."""
-    found = _IMPORT.fullmatch(text) if len(text) <= LINE_LIMIT else None
+    if not text.startswith(b"import ") or len(text) > LINE_LIMIT:
+        return 0
+    found = _IMPORT.fullmatch(text)
     if not found or int(found[1]) > PAYLOAD_LIMIT:
         return 0
     try:
@@ -80,7 +80,7 @@ def items(script: bytes, file: str = "") -> Iterator[Item]:
         at = len(script) if end < 0 else end + 1
         text = text[:-1] if text.endswith(b"\r") else text
         due = payload_due(text)
-        payload = script[at:at + due]
+        payload = script[at:at + due] if due else b""
         yield Item(text, payload, due - len(payload), number, file)
         if text == b"quit":
             return
@@ -88,8 +88,7 @@ def items(script: bytes, file: str = "") -> Iterator[Item]:
         at += len(payload)
 
 
-@dataclass(frozen=True)
-class Reply:
+class Reply(NamedTuple):
     """The lines that answer a command."""
 
     lines: Tuple[str, ...]
@@ -113,6 +112,9 @@ class Reply:
         return self.lines
 
 
+_OK = Reply(("ok",))
+
+
 class Pairing:
     """Reads the reply to each command from a source of lines, which is empty behind its last."""
 
@@ -123,14 +125,15 @@ class Pairing:
     def reply_to(self, item: Item) -> Reply:
         """The whole reply to an item that has one."""
         first = self._line(item)
+        if first == "ok" and item.text.split(b" ", 1)[0] in _SAYS_OK:
+            self.version = 2 if item.text == b"gridlet 2" else self.version
+            return _OK
         try:
             count = self._behind(item.text, first)
         except (ValueError, IndexError):
             raise ProgramFailed(
                 f"{item.place}the program gave no such reply as {first[:60]!r} to: "
                 f"{item.command}") from None
-        if item.text == b"gridlet 2" and first == "ok":
-            self.version = 2
         return Reply((first, *(self._line(item, "its whole reply to") for _ in range(count))))
 
     def _line(self, item: Item, what: str = "a reply to") -> str:
@@ -144,15 +147,15 @@ class Pairing:
         word, _, rest = text.partition(b" ")
         if first.startswith(("error ", "spent ")):
             return 0
-        if word == b"view":
-            found = read_range(rest.decode())
-            return found.rows - 1 if found else 0
+        found = read_range(rest.decode()) if word == b"view" else None
+        if found:
+            return found.rows - 1
         if word in (b"list", b"oracle", b"export", b"explain"):
             numbers = [int(it) for it in first.split(" ")[1:]]
             if word == b"explain":
                 return numbers[0] + numbers[1] + 2
             return numbers[0] + (word == b"list" and self.version == 2)
-        if word in _SAYS_OK and first != "ok":
+        if word in _SAYS_OK or first == "ok":
             raise ValueError(first)
         return 0
 
@@ -232,8 +235,8 @@ def read_explanation(lines: Tuple[str, ...]) -> Explanation:
     """The reply to `explain`."""
     count = int(lines[0].split(" ")[1])
     notes = tuple(_note(line) for line in lines[1:-2])
-    shown = read_value(lines[-2][len("shown "):])
-    return Explanation(notes[:count], notes[count:], shown, lines[-1] == "accepted")
+    return Explanation(notes[:count], notes[count:], read_value(lines[-2][len("shown "):]),
+                       lines[-1] == "accepted")
 
 
 def _note(line: str) -> Note:
@@ -246,5 +249,5 @@ def _note(line: str) -> Note:
 
 def edit_line(edit: Edit) -> str:
     """The command that brings an edit."""
-    content_text = "" if edit.content is None else f" {edit.content}"
-    return f"edit {edit.time} {edit.site} {edit.address}{content_text}"
+    text = "" if edit.content is None else f" {edit.content}"
+    return f"edit {edit.time} {edit.site} {edit.address}{text}"

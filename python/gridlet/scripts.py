@@ -1,6 +1,7 @@
 """Files of scripts: what they are, before any command of theirs runs."""
 from __future__ import annotations
 
+import sys
 from pathlib import Path
 from typing import List, Tuple, Union
 
@@ -11,16 +12,15 @@ SCRIPT_LIMIT = 16_777_216
 
 
 def read_bytes(file: Union[str, Path]) -> bytes:
-    """The bytes of a file."""
+    """The bytes of a file, or of standard input for `-`."""
     try:
-        return Path(file).read_bytes()
+        return sys.stdin.buffer.read() if str(file) == "-" else Path(file).read_bytes()
     except OSError as error:
         raise BadInput(f"{file}: {error.strerror}") from None
 
 
-def read_items(file: Union[str, Path]) -> List[Item]:
-    """The items of a file's script, all of them whole."""
-    script = read_bytes(file)
+def whole_items(script: bytes, file: Union[str, Path]) -> List[Item]:
+    """The items of a script, all of them whole."""
     if len(script) > SCRIPT_LIMIT:
         raise BadInput(f"{file}: the script has more than {SCRIPT_LIMIT:,} bytes")
     found = list(items(script, str(file)))

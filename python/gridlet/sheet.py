@@ -10,7 +10,7 @@ from .addresses import Address, Range, read_range
 from .errors import BadInput
 from .program import Answer, Process
 from .replies import Item, Reply
-from .scripts import read_items
+from .scripts import read_bytes, whole_items
 from .values import Array, Edit, Explanation, Forecast, Permit, Rows, Value
 
 Where = Union[str, Address]
@@ -76,8 +76,11 @@ class Sheet:
 
     def load(self, file: Union[str, Path]) -> List[Answer]:
         """Runs the script of a file up to its end, or up to `quit`, and tells its replies."""
-        found = read_items(file)
-        return self.run(it for it in found if it.text != b"quit")
+        return self.load_script(read_bytes(file), file)
+
+    def load_script(self, script: bytes, file: Union[str, Path]) -> List[Answer]:
+        """The same for the bytes of a script; the file is what is said where it is wrong."""
+        return self.run(it for it in whole_items(script, file) if it.text != b"quit")
 
     def tell(self, line: Line) -> Tuple[str, ...]:
         """The lines of the reply to a line that is neither refused nor spent."""

@@ -4,11 +4,11 @@ from __future__ import annotations
 import sys
 from dataclasses import dataclass
 from pathlib import Path
-from typing import Dict, Iterable, List, Optional, Tuple, Union
+from typing import Dict, Iterable, List, NamedTuple, Optional, Union
 
 from .addresses import Address, Range, address_of
-from .errors import BadInput
 from .program import Answer
+from .scripts import read_bytes
 from .sheet import Sheet
 from .values import Array, Rows
 
@@ -55,22 +55,29 @@ def take(sheet: Sheet, range: Optional[Range] = None) -> Snapshot:
     return Snapshot(found, sheet.view(found), sheet.list(), arrays, permits, str(sheet.flow()))
 
 
-def open_sheet(file: Union[str, Path], program: Optional[str]) -> Tuple[Sheet, List[Answer]]:
-    """The sheet of a file and its replies; what is refused is named on standard error."""
-    if not Path(file).exists():
-        raise BadInput(f"{file}: No such file or directory")
+class Opened(NamedTuple):
+    """The sheet of a file, its script, and the replies to that."""
+
+    sheet: Sheet
+    script: bytes
+    answers: List[Answer]
+
+    @property
+    def is_refused(self) -> bool:
+        """Whether some command was."""
+        return any(reply.refusal is not None for _, reply in self.answers)
+
+
+def open_sheet(file: Union[str, Path], program: Optional[str]) -> Opened:
+    """The sheet of a file; what is refused is named on standard error."""
+    script = read_bytes(file)
     sheet = Sheet(program=program)
     try:
-        answers = sheet.load(file)
+        answers = sheet.load_script(script, file)
     except BaseException:
         sheet.close()
         raise
     for item, reply in answers:
         if reply.refusal is not None:
             print(f"{item.place}{reply.lines[0]}: {item.command}", file=sys.stderr)
-    return sheet, answers
-
-
-def is_refused(answers: List[Answer]) -> bool:
-    """Whether some command was."""
-    return any(reply.refusal is not None for _, reply in answers)
+    return Opened(sheet, script, answers)

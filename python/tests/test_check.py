@@ -94,6 +94,15 @@ class Check(Folder):
         name = str(file).replace("%", "%25").replace(",", "%2C")
         self.assertEqual(ran.lines, [f"::error file={name},line=1::error syntax: set A1 =A1+"])
 
+    def test_standard_input(self) -> None:
+        self.assertEqual(front("check", "-", given="set A1 1\nfoo\n").lines,
+                         ["-:2: error command: foo"])
+        given = "set A1 =SEQUENCE(1,2)\n"
+        self.assertEqual(front("show", "-", "--csv", given=given).out, "1,2\n")
+        self.assertIn("<title>-</title>", front("show", "-", "--html", given=given).out)
+        self.assertEqual(front("save", "-", given="set A1 01").out, "set A1 1\n")
+        self.assertEqual(front("import", "-", given="1,2").lines, ["set A1 1", "set B1 2"])
+
     def test_several_files(self) -> None:
         one, other = self.file("one", "foo"), self.file("other", "set A1 1", "bar")
         ran = front("check", one, other)

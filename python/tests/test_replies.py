@@ -12,8 +12,8 @@ from gridlet.replies import Item, Pairing, content, items, payload_due, read_val
 from .support import EXAMPLES, TESTS, answered
 
 ROWS = TESTS / "rows"
-# These calculate for seconds, so one run of each has to do.
-HEAVY = ("most-work", "work-spent")
+# This calculates for seconds, so one run has to do.
+HEAVY = ("work-spent",)
 
 
 def paired(script: bytes, replies: bytes) -> List[Item]:

@@ -38,7 +38,7 @@ def add_to(parts: Any) -> None:
     """Adds the subcommand's words."""
     it = parts.add_parser("check", help="name each refused command with its file and line",
                           description="Runs scripts and names what they have refused.")
-    it.add_argument("files", metavar="FILE", nargs="+")
+    it.add_argument("files", metavar="FILE", nargs="+", help="a script; - is standard input")
     it.add_argument("--cells", action="store_true",
                     help="also cells that show an error, and a sheet that does not settle")
     it.add_argument("--texts", action="store_true",

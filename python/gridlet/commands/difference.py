@@ -7,7 +7,7 @@ from typing import Any, Dict, List
 from ..addresses import Address, address_of
 from ..errors import Spent
 from ..sheet import Sheet
-from ..snapshot import is_refused, open_sheet
+from ..snapshot import open_sheet
 
 
 def add_to(parts: Any) -> None:
@@ -25,16 +25,16 @@ def add_to(parts: Any) -> None:
 
 def run(arguments: argparse.Namespace) -> int:
     """Prints the differences."""
-    one, answers = open_sheet(arguments.before, arguments.program)
-    with one:
-        other, answers_of_other = open_sheet(arguments.after, arguments.program)
-        with other:
-            lines = differences(one, other, arguments.contents)
+    one = open_sheet(arguments.before, arguments.program)
+    with one.sheet:
+        other = open_sheet(arguments.after, arguments.program)
+        with other.sheet:
+            lines = differences(one.sheet, other.sheet, arguments.contents)
     if lines:
         print(f"--- {arguments.before}\n+++ {arguments.after}")
     for line in lines:
         print(line)
-    if is_refused(answers) or is_refused(answers_of_other):
+    if one.is_refused or other.is_refused:
         return 2
     return 1 if lines else 0
 

@@ -15,7 +15,7 @@ from ..errors import BadInput, GridletError
 from ..manual import manual
 from ..prompt import Prompt, loop
 from ..sheet import Sheet
-from ..snapshot import open_sheet, used
+from ..snapshot import Opened, open_sheet, used
 
 SECONDS = 0.2
 
@@ -43,9 +43,9 @@ def run(arguments: argparse.Namespace) -> int:
         raise BadInput("a range goes with --watch alone")
     file = Path(arguments.file) if arguments.file else None
     is_new = file is None or not file.exists()
-    sheet, answers = (Sheet(program=arguments.program), []) if is_new else open_sheet(
+    opened = Opened(Sheet(program=arguments.program), b"", []) if is_new else open_sheet(
         str(file), arguments.program)
-    prompt = Prompt(sheet, manual(), file, answers)
+    prompt = Prompt(opened.sheet, manual(), file, opened.answers)
     try:
         if sys.stdin.isatty():
             named = f"{file} is new. " if file and is_new else f"{file} is open. " if file else ""
@@ -93,8 +93,7 @@ def stamp(file: str) -> Optional[Tuple[int, int, int]]:
 
 def show(file: str, where: Optional[Range], program: Optional[str]) -> None:
     """The grid of a file as it stands."""
-    sheet, _ = open_sheet(file, program)
-    with sheet:
+    with open_sheet(file, program).sheet as sheet:
         found = where or used(sheet)
         if found:
             covers = {at: it for it in sheet.oracle() if it.permitted for at in it.area.cells()}

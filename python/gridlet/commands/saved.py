@@ -4,12 +4,12 @@ from __future__ import annotations
 import argparse
 import sys
 from pathlib import Path
-from typing import Any
+from typing import Any, List
 
 from ..errors import BadInput
 from ..saving import check, save_sheet, script_of, state
-from ..scripts import head_comments, line_behind_quit, read_bytes
-from ..snapshot import is_refused, open_sheet
+from ..scripts import head_comments, line_behind_quit
+from ..snapshot import Opened, open_sheet
 
 
 def add_to(parts: Any) -> None:
@@ -29,27 +29,27 @@ def add_to(parts: Any) -> None:
 
 def run(arguments: argparse.Namespace) -> int:
     """Saves, or says why not."""
-    script = read_bytes(arguments.file)
-    unread = line_behind_quit(script)
-    sheet, answers = open_sheet(arguments.file, arguments.program)
-    with sheet:
+    opened = open_sheet(arguments.file, arguments.program)
+    with opened.sheet:
+        unread = line_behind_quit(opened.script)
         if unread and not arguments.force:
             print(f"{arguments.file}:{unread}: what stands behind quit would be lost, so nothing "
                   "was saved", file=sys.stderr)
             return 1
-        if is_refused(answers) and not arguments.force:
+        if opened.is_refused and not arguments.force:
             print(f"gridlet-sheet: {arguments.file}: nothing was saved", file=sys.stderr)
             return 1
-        comments, dropped = head_comments(script)
+        comments, dropped = head_comments(opened.script)
         if dropped and not arguments.out:
             print(f"gridlet-sheet: {arguments.file}: {dropped} comments behind the first command "
                   "are not kept", file=sys.stderr)
-        _write(arguments, sheet, script, comments)
+        _write(arguments, opened, comments)
     return 0
 
 
-def _write(arguments: argparse.Namespace, sheet: Any, script: bytes, comments: Any) -> None:
-    if arguments.out == "-":
+def _write(arguments: argparse.Namespace, opened: Opened, comments: List[bytes]) -> None:
+    sheet = opened.sheet
+    if (arguments.out or arguments.file) == "-":
         made = script_of(sheet, comments)
         check(made, state(sheet), arguments.program)
         sys.stdout.buffer.write(made)
@@ -57,4 +57,4 @@ def _write(arguments: argparse.Namespace, sheet: Any, script: bytes, comments: A
     out = Path(arguments.out or arguments.file)
     if out.is_dir():
         raise BadInput(f"{out}: Is a directory")
-    save_sheet(sheet, out, comments, None if arguments.out else script)
+    save_sheet(sheet, out, comments, None if arguments.out else opened.script)

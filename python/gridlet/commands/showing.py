@@ -12,8 +12,7 @@ from ..addresses import read_range
 from ..errors import BadInput
 from ..page import page
 from ..replies import literal
-from ..scripts import read_bytes
-from ..snapshot import is_refused, open_sheet, take, used
+from ..snapshot import open_sheet, take, used
 from ..values import CellError, Rows, SheetValue, Value
 
 
@@ -38,19 +37,18 @@ def run(arguments: argparse.Namespace) -> int:
     asked = read_range(arguments.range) if arguments.range else None
     if arguments.range and not asked:
         raise BadInput(f"{arguments.range}: no range such as A1:B3")
-    sheet, answers = open_sheet(arguments.file, arguments.program)
-    with sheet:
+    opened = open_sheet(arguments.file, arguments.program)
+    with opened.sheet as sheet:
         if arguments.form == "html":
-            script = read_bytes(arguments.file)
-            refusals = {item.line: reply.lines[0] for item, reply in answers
+            refusals = {item.line: reply.lines[0] for item, reply in opened.answers
                         if reply.refusal is not None or reply.spent is not None}
             name = Path(arguments.file).name
-            sys.stdout.write(page(name, take(sheet, asked), script, refusals))
+            sys.stdout.write(page(name, take(sheet, asked), opened.script, refusals))
         else:
             found = asked or used(sheet)
             rows = sheet.view(found) if found else []
             WRITERS[arguments.form](rows)
-    return 1 if is_refused(answers) else 0
+    return 1 if opened.is_refused else 0
 
 
 def shown(value: Value) -> str:
