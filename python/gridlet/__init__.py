@@ -2,10 +2,9 @@
 from .addresses import Address, Range
 from .errors import (
     BadInput, GridletError, ProgramFailed, ProgramNotFound, Refused, Spent)
-from .replies import literal
 from .sheet import Sheet
 from .values import (
-    Array, CellError, Edit, Explanation, Forecast, Note, Permit, SheetValue, Value)
+    Array, CellError, Edit, Explanation, Forecast, Note, Permit, SheetValue, Value, literal)
 
 __version__ = "1.0.0"
 __all__ = [

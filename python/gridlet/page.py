@@ -8,9 +8,9 @@ from pathlib import Path
 from typing import Dict, List
 
 from .addresses import Address, letters
-from .replies import items, literal
+from .replies import items
 from .snapshot import Snapshot
-from .values import Array, CellError, SheetValue, Value
+from .values import Array, CellError, SheetValue, Value, literal
 
 ASSETS = Path(__file__).parent / "assets"
 COLOURS = 8

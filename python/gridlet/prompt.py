@@ -10,13 +10,12 @@ from .addresses import Range, read_range
 from .errors import BadInput, GridletError, ProgramFailed, Refused
 from .manual import Manual
 from .program import Answer
-from .replies import Item, Reply
+from .replies import Item, is_edit
 from .saving import save_sheet
 from .scripts import head_comments, read_bytes
 from .sheet import Sheet
 from .snapshot import used
 
-EDITS = (b"set", b"clear", b"import", b"undo", b"redo", b"edit", b"site", b"gridlet")
 OWN = """view [RANGE]      the grid of a range, or of all that is in the sheet
 import A1 FILE    the values of a CSV file, as the command import has them
 save [FILE]       writes the sheet, once it reads back equal
@@ -32,7 +31,7 @@ class Prompt:
         self.sheet, self.manual, self.file = sheet, manual, file
         self.is_changed, self.is_over, self.status = False, False, 0
         self.is_coloured = terminal.has_colours()
-        self._edits = [item for item, reply in answers or [] if _is_edit(item, reply)]
+        self._edits = [item for item, reply in answers or [] if is_edit(item, reply)]
         self._refused = sum(reply.refusal is not None for _, reply in answers or [])
         self._before = read_bytes(file) if file and file.exists() else None
         self._own: Dict[str, Callable[[str], None]] = {
@@ -77,7 +76,7 @@ class Prompt:
         for line in reply.lines:
             bad = line.startswith(("#", "spent "))
             print(terminal.painted(line, "bad", self.is_coloured and bad))
-        if _is_edit(item, reply):
+        if is_edit(item, reply):
             self._edits.append(item)
             self.is_changed = True
 
@@ -136,10 +135,6 @@ class Prompt:
     def leave(self, _: str) -> None:
         """Ends the prompt."""
         self.is_over = True
-
-
-def _is_edit(item: Item, reply: Reply) -> bool:
-    return reply.lines == ("ok",) and item.text.split(b" ")[0] in EDITS
 
 
 def loop(prompt: Prompt, read: Callable[[str], str] = input) -> None:

@@ -10,8 +10,7 @@ from typing import Callable, Iterator, List, NamedTuple, Optional, Tuple
 
 from .addresses import Address, address_of, read_address, read_range
 from .errors import ProgramFailed, Refused, Spent
-from .values import (
-    Array, CellError, Edit, Explanation, Forecast, Note, Permit, SheetValue, Value)
+from .values import Array, Edit, Explanation, Forecast, Note, Permit, read_value
 
 LINE_LIMIT = 32_768
 PAYLOAD_LIMIT = 1_048_576
@@ -19,10 +18,6 @@ PAYLOAD_LIMIT = 1_048_576
 _SAYS_OK = frozenset((
     b"set", b"clear", b"import", b"undo", b"redo", b"site", b"edit", b"gridlet"))
 _IMPORT = re.compile(rb"import [^ ]+ (0|[1-9][0-9]{0,6})")
-_ESCAPE = re.compile(r"\\(x[0-9A-Fa-f]{2}|.)")
-_ESCAPES = {"n": "\n", "r": "\r", "t": "\t"}
-_LITERALS = {"\\": "\\\\", '"': '\\"', "\n": "\\n", "\r": "\\r", "\t": "\\t"}
-_NEEDS_ESCAPE = re.compile(r'[\\"\x00-\x1f\x7f]')
 
 
 class Item(NamedTuple):
@@ -115,6 +110,18 @@ class Reply(NamedTuple):
 _OK = Reply(("ok",))
 
 
+def is_edit(item: Item, reply: Reply) -> bool:
+    """Whether a command was accepted that changes the sheet, or how it is read."""
+    return reply.lines == _OK.lines and item.text.split(b" ", 1)[0] in _SAYS_OK
+
+
+def place_set(item: Item) -> Optional[str]:
+    """The address that a `set` or an `edit` names; None for another command."""
+    pieces = item.text.decode("utf-8", "replace").split(" ", 4)
+    where = {"set": 1, "edit": 3}.get(pieces[0])
+    return pieces[where] if where and where < len(pieces) else None
+
+
 class Pairing:
     """Reads the reply to each command from a source of lines, which is empty behind its last."""
 
@@ -158,41 +165,6 @@ class Pairing:
         if word in _SAYS_OK or first == "ok":
             raise ValueError(first)
         return 0
-
-
-def read_value(shown: str) -> Value:
-    """The value that a cell shows."""
-    if shown == ".":
-        return None
-    if shown.startswith('"'):
-        return _ESCAPE.sub(_unescaped, shown[1:-1])
-    if shown in ("TRUE", "FALSE"):
-        return shown == "TRUE"
-    if shown.startswith("#"):
-        return CellError(shown)
-    return SheetValue(shown[6:-1]) if shown.startswith("sheet(") else int(shown)
-
-
-def _unescaped(found: "re.Match[str]") -> str:
-    what = found[1]
-    return chr(int(what[1:], 16)) if len(what) == 3 else _ESCAPES.get(what, what)
-
-
-def literal(text: str) -> str:
-    """The literal of a text."""
-    return '"' + _NEEDS_ESCAPE.sub(
-        lambda it: _LITERALS.get(it[0], f"\\x{ord(it[0]):02x}"), text) + '"'
-
-
-def content(value: object) -> str:
-    """The text of a content: a formula where a text begins with `=`, else by the value's type."""
-    if isinstance(value, bool):
-        return "TRUE" if value else "FALSE"
-    if isinstance(value, int):
-        return str(value)
-    if isinstance(value, str):
-        return value if value.startswith("=") else literal(value)
-    raise TypeError(f"a cell holds an int, a bool or a str, and no {type(value).__name__}")
 
 
 def read_list(lines: Tuple[str, ...]) -> List[Tuple[Address, str]]:

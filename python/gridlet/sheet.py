@@ -5,7 +5,7 @@ from pathlib import Path
 from types import TracebackType
 from typing import Any, Dict, Iterable, List, Mapping, Optional, Tuple, Type, Union
 
-from . import replies
+from . import replies, values
 from .addresses import Address, Range, read_range
 from .errors import BadInput
 from .program import Answer, Process
@@ -89,7 +89,7 @@ class Sheet:
 
     def set(self, address: Where, value: Union[int, bool, str]) -> None:
         """A text that begins with `=` is a formula; else the value's type says what it is."""
-        self.tell(f"set {address} {replies.content(value)}")
+        self.tell(f"set {address} {values.content(value)}")
 
     def enter(self, address: Where, text: str) -> None:
         """The content of a text as the language reads it, so that `12` is an integer."""
@@ -97,7 +97,7 @@ class Sheet:
 
     def set_all(self, contents: Mapping[str, Union[int, bool, str]]) -> None:
         """Many contents at once. One that is refused leaves those before it set."""
-        lines = [f"set {at} {replies.content(value)}" for at, value in contents.items()]
+        lines = [f"set {at} {values.content(value)}" for at, value in contents.items()]
         for item, reply in self.run(lines):
             reply.accepted(item)
 
@@ -107,7 +107,7 @@ class Sheet:
 
     def show(self, address: Where) -> Value:
         """What a cell shows."""
-        return replies.read_value(self.tell(f"show {address}")[0])
+        return values.read_value(self.tell(f"show {address}")[0])
 
     def view(self, where: Union[str, Range]) -> Rows:
         """What the cells of a range show, row by row, and whole: `view` itself cuts texts."""
@@ -115,7 +115,7 @@ class Sheet:
         if found is None:
             raise BadInput(f"{where}: no range such as A1:B3")
         answers = self.run(f"show {address}" for address in found.cells())
-        shown = [replies.read_value(reply.accepted(item)[0]) for item, reply in answers]
+        shown = [values.read_value(reply.accepted(item)[0]) for item, reply in answers]
         return [shown[at:at + found.columns] for at in range(0, len(shown), found.columns)]
 
     def frame(self, where: Union[str, Range], has_names: bool = True) -> Any:

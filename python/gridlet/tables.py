@@ -9,8 +9,8 @@ from typing import Dict, Iterable, Iterator, List, Optional, Sequence, Set
 
 from .addresses import Address, Range, ROWS, column_of
 from .errors import BadInput
-from .replies import literal
 from .scripts import read_bytes
+from .values import literal
 
 TEXT_LIMIT = 4096
 LEAST, GREATEST = -2 ** 63, 2 ** 63 - 1

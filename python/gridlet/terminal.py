@@ -7,8 +7,7 @@ import sys
 from typing import Dict, List
 
 from .addresses import Address, Range, letters
-from .replies import literal
-from .values import Array, CellError, Rows, SheetValue, Value
+from .values import Array, CellError, Rows, SheetValue, Value, literal
 
 WIDEST = 24
 COLOURS = {"dim": "2", "bad": "31", "spill": "36", "bold": "1"}

@@ -1,10 +1,16 @@
-"""What replies are made of, as values of Python."""
+"""What replies are made of, as values of Python, and the texts of cells and of contents."""
 from __future__ import annotations
 
+import re
 from dataclasses import dataclass
 from typing import List, Optional, Tuple, Union
 
 from .addresses import Address, Range, area
+
+_ESCAPE = re.compile(r"\\(x[0-9A-Fa-f]{2}|.)")
+_ESCAPES = {"n": "\n", "r": "\r", "t": "\t"}
+_LITERALS = {"\\": "\\\\", '"': '\\"', "\n": "\\n", "\r": "\\r", "\t": "\\t"}
+_NEEDS_ESCAPE = re.compile(r'[\\"\x00-\x1f\x7f]')
 
 
 @dataclass(frozen=True)
@@ -98,3 +104,38 @@ class Edit:
 
 
 Rows = List[List[Value]]
+
+
+def read_value(shown: str) -> Value:
+    """The value that a cell shows."""
+    if shown == ".":
+        return None
+    if shown.startswith('"'):
+        return _ESCAPE.sub(_unescaped, shown[1:-1])
+    if shown in ("TRUE", "FALSE"):
+        return shown == "TRUE"
+    if shown.startswith("#"):
+        return CellError(shown)
+    return SheetValue(shown[6:-1]) if shown.startswith("sheet(") else int(shown)
+
+
+def _unescaped(found: "re.Match[str]") -> str:
+    what = found[1]
+    return chr(int(what[1:], 16)) if len(what) == 3 else _ESCAPES.get(what, what)
+
+
+def literal(text: str) -> str:
+    """The literal of a text."""
+    return '"' + _NEEDS_ESCAPE.sub(
+        lambda it: _LITERALS.get(it[0], f"\\x{ord(it[0]):02x}"), text) + '"'
+
+
+def content(value: object) -> str:
+    """The text of a content: a formula where a text begins with `=`, else by the value's type."""
+    if isinstance(value, bool):
+        return "TRUE" if value else "FALSE"
+    if isinstance(value, int):
+        return str(value)
+    if isinstance(value, str):
+        return value if value.startswith("=") else literal(value)
+    raise TypeError(f"a cell holds an int, a bool or a str, and no {type(value).__name__}")

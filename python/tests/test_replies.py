@@ -7,13 +7,12 @@ from pathlib import Path
 from typing import Callable, Iterator, List
 
 from gridlet import CellError, ProgramFailed, Sheet, SheetValue, literal
-from gridlet.replies import Item, Pairing, content, items, payload_due, read_value
+from gridlet.replies import Item, Pairing, items, payload_due
+from gridlet.values import content, read_value
 
 from .support import EXAMPLES, TESTS, answered
 
 ROWS = TESTS / "rows"
-# This calculates for seconds, so one run has to do.
-HEAVY = ("work-spent",)
 
 
 def paired(script: bytes, replies: bytes) -> List[Item]:
@@ -116,8 +115,7 @@ def of_row(folder: Path) -> Callable[[Rows], None]:
         self.assertEqual((ran.returncode, ran.stdout), (status, replies))
         if "--gen" not in words and status in (0, 1):
             paired(script, replies)
-            if folder.name not in HEAVY:
-                self.live(script, replies)
+            self.live(script, replies)
     return test
 
 
@@ -196,7 +194,7 @@ class Strange(unittest.TestCase):
             self.replies(b"list 2", b"set A1 1").reply_to(Item(b"list"))
 
     def test_a_refused_query_is_one_line(self) -> None:
-        for line in (b"error address", b"spent rounds A1"):
+        for line in (b"error address", b"spent rounds A1", b"spent work"):
             reply = self.replies(line).reply_to(Item(b"explain A1"))
             self.assertEqual(reply.lines, (line.decode(),))
 

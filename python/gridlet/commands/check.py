@@ -9,10 +9,10 @@ from typing import Any, Dict, Iterator, List
 from ..addresses import address_of
 from ..errors import Spent
 from ..program import Answer
-from ..replies import Item, items, read_value
+from ..replies import Item, is_edit, items, place_set
 from ..scripts import read_bytes
 from ..sheet import Sheet
-from ..values import CellError
+from ..values import CellError, read_value
 
 LOOKS_LIKE_A_NUMBER = re.compile(r"\s*[-+]?\d[\d,]*(\.\d+)?%?\s*")
 
@@ -96,12 +96,10 @@ class Lines:
         self._of: Dict[str, int] = {}
         self._other = 1
         for item, reply in answers:
-            pieces = item.text.split(b" ")
-            if reply.lines != ("ok",):
-                continue
-            if pieces[0] in (b"set", b"edit"):
-                self._of[pieces[1 if pieces[0] == b"set" else 3].decode()] = item.line
-            elif pieces[0] == b"import":
+            place = place_set(item)
+            if is_edit(item, reply) and place:
+                self._of[place] = item.line
+            elif is_edit(item, reply) and item.payload:
                 self._other = item.line
 
     def of(self, place: str) -> int:

@@ -11,9 +11,8 @@ from typing import Any, List
 from ..addresses import read_range
 from ..errors import BadInput
 from ..page import page
-from ..replies import literal
 from ..snapshot import open_sheet, take, used
-from ..values import CellError, Rows, SheetValue, Value
+from ..values import CellError, Rows, SheetValue, Value, literal
 
 
 def add_to(parts: Any) -> None:
