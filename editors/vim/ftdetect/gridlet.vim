@@ -1,0 +1,2 @@
+" Files of scripts of Gridlet.
+autocmd BufNewFile,BufRead *.gridlet setfiletype gridlet

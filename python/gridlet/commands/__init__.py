@@ -1,0 +1,1 @@
+"""The subcommands of `gridlet-sheet`, a module each."""

@@ -1,0 +1,1 @@
+"""Tests of the package over the built program, which GRIDLET names."""
