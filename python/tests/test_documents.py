@@ -152,3 +152,9 @@ class Whole(unittest.TestCase):
         self.assertEqual(text.count("\n.TS\n"), text.count("\n.TE\n"))
         for section in ("COMMANDS", "FUNCTIONS", "REFUSALS", "LIMITS"):
             self.assertIn(f".SH {section}\n", text)
+
+    def test_the_order_of_reading(self) -> None:
+        """docs/CALCULUS.md lists what must be believed as bench/belief.py does, in the volumes."""
+        words = [sys.executable, str(ROOT / "bench/belief.py"), "--page", str(ROOT / "docs/CALCULUS.md")]
+        done = subprocess.run(words, stderr=subprocess.PIPE, universal_newlines=True)
+        self.assertEqual((done.returncode, done.stderr), (0, ""))
