@@ -1,6 +1,6 @@
 -- How far the walk from a key has come, by its notes as they were made and its stack from the bottom
 -- up.
-use Rattle.std.specs.Prelude.{◌≡◌, ℕ, ◌+◌, ◌*◌, ◌-◌, List, [], ◌∷◌, length, true, false}
+use Rattle.std.specs.Prelude.{◌≡◌, ℕ, ◌+◌, ◌*◌, ◌-◌, ◌≤◌, List, [], ◌∷◌, length, true, false}
 use Rattle.gl_calculus.specs.Computation.Demanded.{Demanded}
 use Rattle.gl_calculus.specs.Grid.Limits.{max_demanded}
 use Rattle.gl_calculus.specs.Evaluation.Key.{Key, Outcome, same_key}
