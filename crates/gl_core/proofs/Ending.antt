@@ -346,7 +346,7 @@ module _ (W : World) (first c : Held) (n m : ℕ) (h : IsRun W first c n m) wher
           each = λ k i.
               let (y, z) = among noted (state_of c) k i in
               let known = known_key (state_of c) k y in
-              ((subst (λ t. Demanded (program W) t k) h.seeds (h.for_it.sound.demanded k known), z), _, quiet_reads same_key key_equality (program W) (seeds_of c) (state_of c) h.for_it.sound none_idle k known);
+              ((subst (λ t. Demanded (program W) t k) h.seeds (h.for_it.sound.demanded k known), z), (_, quiet_reads same_key key_equality (program W) (seeds_of c) (state_of c) h.for_it.sound none_idle k known));
           most = λ cs e r. let a = sums_allow cs e r in omega (arith, a, b, h.most);
           later = h.later;
         }
