@@ -1,11 +1,16 @@
 -- The forecast of a sheet: whether its calculation surely settles, told from its formulas alone.
-use Rattle.std.specs.Prelude.{◌≡◌, ◌⊎◌, ◌≤◌, ℕ, zero, suc, ◌+◌, max, min, nat_lt, nat_le, pos, Bool, true, false, ◌&&◌, IsTrue, IsFalse, List, [], ◌∷◌, ◌++◌, map, flat_map, filter, Option, Some, None, option_map, bytes_eq, if◌then◌else◌}
+use Rattle.std.specs.Prelude.{◌≡◌, ◌⊎◌, ◌≤◌, ℕ, zero, suc, ◌+◌, max, min, nat_lt, nat_le, pos, Bool}
+use Rattle.std.specs.Prelude.{true, false, ◌&&◌, IsTrue, IsFalse, List, [], ◌∷◌, ◌++◌, map}
+use Rattle.std.specs.Prelude.{flat_map, filter, Option, Some, None, option_map, bytes_eq}
+use Rattle.std.specs.Prelude.{if◌then◌else◌}
 use Rattle.std.specs.List.{list_any}
 use Rattle.std.specs.Option.{option_to_list}
 use Rattle.gl_calculus.specs.Computation.Lists.{Member}
 use Rattle.gl_calculus.specs.Grid.Limits.{max_cells}
-use Rattle.gl_calculus.specs.Grid.Grid.{Addr, is_before, Range, single, Size, size, extents, area, addresses, covers, meets}
-use Rattle.gl_calculus.specs.Formulas.Formula.{Formula, Formulas, Operands, Fun, Content, Const, Form, Cells, content, formula_addresses}
+use Rattle.gl_calculus.specs.Grid.Grid.{Addr, is_before, Range, single, Size, size, extents, area}
+use Rattle.gl_calculus.specs.Grid.Grid.{addresses, covers, meets}
+use Rattle.gl_calculus.specs.Formulas.Formula.{Formula, Formulas, Operands, Fun, Content, Const}
+use Rattle.gl_calculus.specs.Formulas.Formula.{Form, Cells, content, formula_addresses}
 use Rattle.gl_calculus.specs.Formulas.Formula as F
 use Rattle.gl_calculus.specs.Values.Lift.{hull}
 
@@ -63,7 +68,8 @@ written_size m n = any_size
 
 -- the extents of SEQUENCE by its arguments: those written, or any
 abbrev pub sequence_size : Formulas → Size
-sequence_size (F.Formulas.formula_and m (F.Formulas.formula_and n F.Formulas.no_formula)) = written_size (written_extent m) (written_extent n)
+sequence_size (F.Formulas.formula_and m (F.Formulas.formula_and n F.Formulas.no_formula)) =
+    written_size (written_extent m) (written_extent n)
 sequence_size fs = any_size
 
 -- the shape of a call, by its arguments as they are written and by their shapes
@@ -111,7 +117,8 @@ module _ (spilled : Addr → Shape) where
     shape bs (F.Formula.Area r) = Some (cut (extents r))
     shape bs (F.Formula.Var name) = bound_shape bs name
     shape bs (F.Formula.Neg f) = shape bs f
-    shape bs (F.Formula.Chain level f rest) = joined (shape bs f) (all_joined (operand_shapes bs rest))
+    shape bs (F.Formula.Chain level f rest) =
+        joined (shape bs f) (all_joined (operand_shapes bs rest))
     shape bs (F.Formula.Compare op f g) = joined (shape bs f) (shape bs g)
     shape bs (F.Formula.Call f xs) = call_shape f xs (shapes bs xs)
     shape bs (F.Formula.Let name f body) = shape ((name, shape bs f) ∷ bs) body
@@ -239,7 +246,8 @@ module _ (S : Cells) where
   -- cell and on the entries of the rivals
   abbrev pub dependences : Node → List Node
   dependences (Value a) = flat_map piece_nodes (content_pieces (content S a))
-  dependences (Entry a) = Value a ∷ flat_map (λ r. map Entry (rivals a r)) (option_to_list (box S a))
+  dependences (Entry a) =
+      Value a ∷ flat_map (λ r. map Entry (rivals a r)) (option_to_list (box S a))
 
   -- the first node depends on the second by one step or more
   pub data Leads : Node → Node → Type 0 where

@@ -1,5 +1,7 @@
 -- Stamped edits, and the replica that keeps the latest one of each address.
-use Rattle.std.specs.Prelude.{◌≡◌, ◌≢◌, ℕ, ◌+◌, ◌==◌, max, nat_lt, nat_le, Bool, ◌&&◌, ◌||◌, IsTrue, ⊤, List, [], ◌∷◌, length, Option, Some, None, if◌then◌else◌, count_by, is_none}
+use Rattle.std.specs.Prelude.{◌≡◌, ◌≢◌, ℕ, ◌+◌, ◌==◌, max, nat_lt, nat_le, Bool, ◌&&◌, ◌||◌, IsTrue}
+use Rattle.std.specs.Prelude.{⊤, List, [], ◌∷◌, length, Option, Some, None, if◌then◌else◌, count_by}
+use Rattle.std.specs.Prelude.{is_none}
 use Rattle.std.specs.List.{AllByRecursion}
 use Rattle.gl_calculus.specs.Grid.Grid.{Addr, same_addr, is_before}
 use Rattle.gl_calculus.specs.Formulas.Formula.{Content, Cells}
@@ -82,7 +84,8 @@ next_stamp r = if nat_lt r.clock max_time then Some (stamp (r.clock + 1) r.site)
 
 -- the replica that has taken an edit, and one edit after the other
 abbrev pub taking : Replica → Edit → Replica
-taking r e = record { site = r.site; clock = max r.clock e.stamp.time; registers = with_edit r.registers e }
+taking r e =
+    record { site = r.site; clock = max r.clock e.stamp.time; registers = with_edit r.registers e }
 
 abbrev pub taking_all : Replica → List Edit → Replica
 taking_all r [] = r
@@ -91,7 +94,8 @@ taking_all r (e ∷ es) = taking_all (taking r e) es
 -- each edit is no conflict with what those before it leave
 abbrev pub AreTakeable : Replica → List Edit → Type 0
 AreTakeable r [] = ⊤
-AreTakeable r (e ∷ es) = IsTakeable (register_at r.registers e.place) e × AreTakeable (taking r e) es
+AreTakeable r (e ∷ es) =
+    IsTakeable (register_at r.registers e.place) e × AreTakeable (taking r e) es
 
 -- the edits that changes of its own are
 abbrev pub stamped : Stamp → Changes → List Edit

@@ -7,7 +7,9 @@ use Rattle.gl_calculus.specs.Formulas.Formula as F
 
 abbrev pub with_content : Cells → Addr → F.Content → Cells
 with_content [] a c = (a, c) ∷ []
-with_content (x ∷ xs) a c = if same_addr a x.0 then (a, c) ∷ xs else if is_before a x.0 then (a, c) ∷ x ∷ xs else x ∷ with_content xs a c
+with_content (x ∷ xs) a c =
+    if same_addr a x.0 then (a, c) ∷ xs
+    else if is_before a x.0 then (a, c) ∷ x ∷ xs else x ∷ with_content xs a c
 
 abbrev pub with_contents : Cells → Cells → Cells
 with_contents S [] = S

@@ -1,13 +1,21 @@
 -- The functions whose arguments are all evaluated.
-use Rattle.std.specs.Prelude.{ℕ, suc, ◌+◌, ◌-◌, ◌*◌, ◌==◌, max, nat_lt, ℤ, pos, negsuc, ◌+ℤ◌, int_lt, Bool, true, false, ◌&&◌, ◌||◌, not, List, [], ◌∷◌, ◌++◌, length, map, flat_map, fold, take, drop, replicate, filter_map, Option, Some, None, Result, Ok, Err, encode_utf8_all, chars, if◌then◌else◌}
+use Rattle.std.specs.Prelude.{ℕ, suc, ◌+◌, ◌-◌, ◌*◌, ◌==◌, max, nat_lt, ℤ, pos, negsuc, ◌+ℤ◌}
+use Rattle.std.specs.Prelude.{int_lt, Bool, true, false, ◌&&◌, ◌||◌, not, List, [], ◌∷◌, ◌++◌}
+use Rattle.std.specs.Prelude.{length, map, flat_map, fold, take, drop, replicate, filter_map}
+use Rattle.std.specs.Prelude.{Option, Some, None, Result, Ok, Err, encode_utf8_all, chars}
+use Rattle.std.specs.Prelude.{if◌then◌else◌}
 use Rattle.std.specs.List.{list_any}
 use Rattle.std.specs.Option.{option_or}
 use Rattle.gl_calculus.specs.Grid.Grid.{Size, size}
 use Rattle.gl_calculus.specs.Values.ErrKind.{ErrKind}
 use Rattle.gl_calculus.specs.Values.Value.{Scalar, Blank, Int, Text, Sheet, Value, One, elements}
 use Rattle.gl_calculus.specs.Values.Same.{same_scalar}
-use Rattle.gl_calculus.specs.Formulas.Formula.{Fun, Sum, Count, Min, Max, And, Or, Not, IsError, IsBlank, Abs, Mod, Len, Left, Right, Rows, Columns, Index, Sequence, Transpose, Take, Drop, HStack, VStack, Filter, Unique, Lookup, Na}
-use Rattle.gl_calculus.specs.Values.Operators.{exact, strict, numeric, modulo, magnitude, agrees, plain, amount}
+use Rattle.gl_calculus.specs.Formulas.Formula.{Fun, Sum, Count, Min, Max, And, Or, Not, IsError}
+use Rattle.gl_calculus.specs.Formulas.Formula.{IsBlank, Abs, Mod, Len, Left, Right, Rows, Columns}
+use Rattle.gl_calculus.specs.Formulas.Formula.{Index, Sequence, Transpose, Take, Drop, HStack}
+use Rattle.gl_calculus.specs.Formulas.Formula.{VStack, Filter, Unique, Lookup, Na}
+use Rattle.gl_calculus.specs.Values.Operators.{exact, strict, numeric, modulo, magnitude, agrees}
+use Rattle.gl_calculus.specs.Values.Operators.{plain, amount}
 use Rattle.gl_calculus.specs.Values.Lift.{shape, item, table, lift1, lift2, rows, width, from_rows}
 
 -- ---- over the elements of all arguments, in order
@@ -80,7 +88,8 @@ abbrev pub count : List Scalar → Scalar
 count xs = Int (pos (length (filter_map whole_number xs)))
 
 abbrev pub extreme : (ℤ → ℤ → ℤ) → List Scalar → Scalar
-extreme better xs = unless (first_fault sum_fault xs) (Int (best better (filter_map whole_number xs)))
+extreme better xs =
+    unless (first_fault sum_fault xs) (Int (best better (filter_map whole_number xs)))
 
 abbrev pub verdict : (List Bool → Bool) → List Scalar → Scalar
 verdict f xs = unless (first_fault truth_fault xs) (truth_of f (filter_map truth xs))
@@ -217,7 +226,8 @@ abbrev pub left_over_part : ℤ → ℤ → List (List Scalar) → List (List Sc
 left_over_part m n rs = map (left_over n) (left_over m rs)
 
 -- a part of the rows and of the columns, by two numbers
-abbrev pub part_of : (ℤ → ℤ → List (List Scalar) → List (List Scalar)) → Value → Value → Value → Try Value
+abbrev pub part_of : (ℤ → ℤ → List (List Scalar) → List (List Scalar)) →
+    Value → Value → Value → Try Value
 part_of part v u w = do
   no_error v
   m ← number u
@@ -271,7 +281,8 @@ same_row xs ys = false
 -- the rows without those that stand before
 abbrev pub new_rows : List (List Scalar) → List (List Scalar) → List (List Scalar)
 new_rows seen [] = []
-new_rows seen (r ∷ rs) = if list_any (same_row r) seen then new_rows seen rs else r ∷ new_rows (r ∷ seen) rs
+new_rows seen (r ∷ rs) =
+    if list_any (same_row r) seen then new_rows seen rs else r ∷ new_rows (r ∷ seen) rs
 
 abbrev pub unique : Value → Value
 unique (One x) = One x
@@ -295,7 +306,8 @@ lookup u keys v = do
   x ← sought u
   no_error keys
   no_error v
-  when (is_column_beside keys v && is_column_beside v keys) ErrKind.Value (One (looked_up x (elements keys) (elements v)))
+  when (is_column_beside keys v && is_column_beside v keys) ErrKind.Value
+      (One (looked_up x (elements keys) (elements v)))
 
 -- ---- all of them; the grammar allows no other numbers of arguments
 

@@ -1,5 +1,7 @@
 -- The operators on scalars.
-use Rattle.std.specs.Prelude.{ℕ, ◌^◌, ◌==◌, nat_lt, ℤ, pos, ◌+ℤ◌, ◌-ℤ◌, ◌*ℤ◌, neg_ℤ, int_lt, int_le, int_div, Bool, true, false, ◌&&◌, ◌||◌, not, List, [], ◌∷◌, ◌++◌, length, Option, Some, None, bytes_eq, codes, if◌then◌else◌}
+use Rattle.std.specs.Prelude.{ℕ, ◌^◌, ◌==◌, nat_lt, ℤ, pos, ◌+ℤ◌, ◌-ℤ◌, ◌*ℤ◌, neg_ℤ, int_lt, int_le}
+use Rattle.std.specs.Prelude.{int_div, Bool, true, false, ◌&&◌, ◌||◌, not, List, [], ◌∷◌, ◌++◌}
+use Rattle.std.specs.Prelude.{length, Option, Some, None, bytes_eq, codes, if◌then◌else◌}
 use Rattle.std.specs.Fmt.{signed_decimal}
 use Rattle.gl_calculus.specs.Grid.Limits.{max_text}
 use Rattle.gl_calculus.specs.Values.ErrKind.{ErrKind}
@@ -9,7 +11,9 @@ use Rattle.gl_calculus.specs.Formulas.Formula.{Op, Eq, Ne, Lt, Le, Gt, Ge, Join,
 
 -- an exact number, or #NUM! where it leaves the 64 bits
 abbrev pub exact : ℤ → Scalar
-exact n = if int_le (neg_ℤ (pos (2 ^ 63))) n && int_lt n (pos (2 ^ 63)) then Int n else Scalar.Err ErrKind.Num
+exact n =
+    if int_le (neg_ℤ (pos (2 ^ 63))) n && int_lt n (pos (2 ^ 63)) then Int n
+    else Scalar.Err ErrKind.Num
 
 -- An error of the first operand is the result, else one of the second; a sheet value is no operand.
 abbrev pub strict : (Scalar → Scalar → Scalar) → Scalar → Scalar → Scalar
@@ -44,11 +48,13 @@ abbrev pub floor_div : ℤ → ℤ → ℤ
 floor_div m n =
     let q = int_div m n in
     let r = m -ℤ (q *ℤ n) in
-    if same_int r (pos 0) || same_bool (int_lt r (pos 0)) (int_lt n (pos 0)) then q else (q -ℤ pos 1)
+    if same_int r (pos 0) || same_bool (int_lt r (pos 0)) (int_lt n (pos 0)) then q
+    else (q -ℤ pos 1)
 
 -- the remainder of that quotient, with the sign of the divisor
 abbrev pub modulo : ℤ → ℤ → Scalar
-modulo m n = if same_int n (pos 0) then Scalar.Err ErrKind.Div0 else exact (m -ℤ (n *ℤ floor_div m n))
+modulo m n =
+    if same_int n (pos 0) then Scalar.Err ErrKind.Div0 else exact (m -ℤ (n *ℤ floor_div m n))
 
 -- a rule on one number: an error passes, and anything else is no operand
 abbrev pub on_amount : (ℤ → Scalar) → Scalar → Scalar

@@ -2,7 +2,10 @@
 use Rattle.std.specs.Prelude.{◌==◌, ℤ, pos, negsuc, Bool, true, false, ◌&&◌, not, [], ◌∷◌, bytes_eq}
 use Rattle.gl_calculus.specs.Grid.Grid.{same_addr, same_range, same_size}
 use Rattle.gl_calculus.specs.Values.ErrKind.{ErrKind}
-use Rattle.gl_calculus.specs.Values.Value.{Permit, Permitted, Refused, Entry, Oracle, Scalar, Scalars, no_scalar, scalar_and, Value, One, Array, Overrides, no_override, override_and, SheetValue, sheet_value, Frame, Top, In}
+use Rattle.gl_calculus.specs.Values.Value.{Permit, Permitted, Refused, Entry, Oracle, Scalar}
+use Rattle.gl_calculus.specs.Values.Value.{Scalars, no_scalar, scalar_and, Value, One, Array}
+use Rattle.gl_calculus.specs.Values.Value.{Overrides, no_override, override_and, SheetValue}
+use Rattle.gl_calculus.specs.Values.Value.{sheet_value, Frame, Top, In}
 
 abbrev pub same_int : ℤ → ℤ → Bool
 same_int (pos m) (pos n) = m == n
@@ -60,11 +63,13 @@ abbrev mutual
 
   pub same_overrides : Overrides → Overrides → Bool
   same_overrides no_override no_override = true
-  same_overrides (override_and a u os) (override_and b v ps) = same_addr a b && same_value u v && same_overrides os ps
+  same_overrides (override_and a u os) (override_and b v ps) =
+      same_addr a b && same_value u v && same_overrides os ps
   same_overrides os ps = false
 
   pub same_sheet : SheetValue → SheetValue → Bool
-  same_sheet (sheet_value r os e j v) (sheet_value s ps f k w) = same_range r s && same_overrides os ps && same_frame e f && (j == k) && (v == w)
+  same_sheet (sheet_value r os e j v) (sheet_value s ps f k w) =
+      same_range r s && same_overrides os ps && same_frame e f && (j == k) && (v == w)
 
   pub same_frame : Frame → Frame → Bool
   same_frame Top Top = true
