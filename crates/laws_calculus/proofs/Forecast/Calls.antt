@@ -1,6 +1,6 @@
 -- The value of each function fits the shape of its call.
 use Rattle.std.proofs.Common.{◌≡◌, ℕ, zero, suc, ◌+◌, ◌-◌, ◌*◌, ◌≤◌, nat_lt, nat_le, ℤ, pos, negsuc, Bool, true, false, ◌&&◌, List, [], ◌∷◌, length, map, take, drop, Option, Some, None, option_map, Ok, Err, refl, ap, sym, subst, arith, if◌then◌else◌}
-use Rattle.std.specs.List.{flat_map, list_any}
+use Rattle.std.specs.List.{flat_map, list_any, items_where_true}
 use Rattle.std.proofs.lemmas.Bool.{ltb-true, and_parts}
 use Rattle.std.proofs.lemmas.List.{length-append, length-take, length-drop, length-map, map-append}
 use Rattle.gl_calculus.specs.Grid.Limits.{max_cells}
@@ -11,7 +11,7 @@ use Rattle.gl_calculus.specs.Formulas.Formula.{Fun, Formula, Formulas}
 use Rattle.gl_calculus.specs.Formulas.Formula as F
 use Rattle.gl_calculus.specs.Values.Operators.{modulo, magnitude, numeric}
 use Rattle.gl_calculus.specs.Values.Lift.{shape, item, is_small, table_if, rows, width, cut, rows_if, from_rows}
-use Rattle.gl_calculus.specs.Values.Functions.{Try, value_or_error, no_error, number, when, first_fault, truth_fault, extent, index, sequence, flipped, transpose, kept, left_over, take_last, some_rows, kept_part, left_over_part, part_of, padded, greatest_cols, vstack, hstack, is_column_beside, keeps, kept_rows, filter_rows, same_row, new_rows, unique, sought, looked_up, lookup, negation, is_error, is_blank, text_length, text_part, apply}
+use Rattle.gl_calculus.specs.Values.Functions.{Try, value_or_error, no_error, number, when, first_fault, truth_fault, extent, index, sequence, flipped, transpose, kept, left_over, take_last, some_rows, part_of, padded, greatest_cols, vstack, hstack, is_column_beside, keeps, filter_rows, unique, sought, looked_up, lookup, negation, is_error, is_blank, text_length, text_part, apply}
 use Rattle.gl_calculus.specs.Forecast as Fo
 use Rattle.gl_calculus.specs.Forecast.{Shape, full, any_size, under, beside}
 use Rattle.laws_calculus.proofs.Sound.Values.{IsSoundValue, AllSoundValues, parts_of}
@@ -20,6 +20,9 @@ use Rattle.laws_calculus.proofs.Sound.Arrays.{sequence_sound, hstack_sound, vsta
 use Rattle.laws_calculus.proofs.Sound.Functions.{Enough}
 use Rattle.laws_calculus.proofs.Sound.Rows.{AreRows, rows_kept, rows_left, rows_map, kept_length, kept_is, kept_sound, left_length, left_is, left_sound, value_rows, pad_rows, rows_append, rows_chosen, rows_new}
 use Rattle.laws_calculus.proofs.Forecast.Shapes.{Fits, AllFit, AtMost, fits_most, most_fits, IsPositive, AllPositive, full_positive, lift1_fits, lift2_fits, join_left, join_on}
+use lib.Pointwise.{pointwise}
+use Rattle.gl_calculus.specs.Values.Same.{same_scalar}
+use Rattle.gl_calculus.specs.Computation.Lists.{fresh, has_member}
 
 -- ---- arrays of rows
 
@@ -67,39 +70,36 @@ module _ (s : Shape) (v : Value) (pos' : IsPositive s) (sound : IsSoundValue v) 
   most : AtMost (full s) v
   most = let p = full_positive s pos' in fits_most s v fit sound p.0 p.1
 
-  part_fits : (part : ℤ → ℤ → List (List Scalar) → List (List Scalar)) → ((m n : ℤ) → (k : ℕ) × AreRows k (part m n (rows v)) × (k ≤ (shape v).cols) × (length (part m n (rows v)) ≤ (shape v).rows)) → (u w : Value) → Fits (Some (full s)) (value_or_error (part_of part v u w))
-  part_fits part g u w = by (no_error v) (number u) (number w) refl refl refl
+  part_fits : (some_of : ℤ → List (List Scalar) → List (List Scalar)) (part : ℤ → List Scalar → List Scalar) → ((m n : ℤ) → (k : ℕ) × AreRows k (map (part n) (some_of m (rows v))) × (k ≤ (shape v).cols) × (length (map (part n) (some_of m (rows v))) ≤ (shape v).rows)) → (u w : Value) → Fits (Some (full s)) (value_or_error (part_of some_of part v u w))
+  part_fits some_of part g u w = by (no_error v) (number u) (number w) refl refl refl
     where
-      by : (t : Try Value) (m n : Try ℤ) → no_error v ≡ t → number u ≡ m → number w ≡ n → Fits (Some (full s)) (value_or_error (part_of part v u w))
+      by : (t : Try Value) (m n : Try ℤ) → no_error v ≡ t → number u ≡ m → number w ≡ n → Fits (Some (full s)) (value_or_error (part_of some_of part v u w))
       by (Err k) m n e f q = rw e tt
       by (Ok x) (Err k) n e f q = rw (e, f) tt
       by (Ok x) (Ok m) (Err k) e f q = rw (e, f, q) tt
-      by (Ok x) (Ok m) (Ok n) e f q = let (k, a, l, c) = g m n in rw (e, f, q) (some_rows_fits ErrKind.Value k (part m n (rows v)) (full s) a (omega (arith, c, most.0)) (omega (arith, l, most.1)))
+      by (Ok x) (Ok m) (Ok n) e f q = let (k, a, l, c) = g m n in rw (e, f, q) (some_rows_fits ErrKind.Value k (map (part n) (some_of m (rows v))) (full s) a (omega (arith, c, most.0)) (omega (arith, l, most.1)))
 
-  pub take_fits : (u w : Value) → Fits (Some (full s)) (value_or_error (part_of kept_part v u w))
-  take_fits = part_fits kept_part (λ m n. (
+  pub take_fits : (u w : Value) → Fits (Some (full s)) (value_or_error (part_of kept kept v u w))
+  take_fits = part_fits kept kept (λ m n. (
     kept_length n (shape v).cols,
     rows_map (shape v).cols (kept n) (kept_length n) (kept_is n) (kept_sound n) (kept m (rows v)) (rows_kept (shape v).cols m (rows v) (value_rows v sound)),
     kept_within n (shape v).cols,
     omega (arith, length-map (kept m (rows v)) (kept n), kept_count m (rows v), row_count v),
   ))
 
-  pub drop_fits : (u w : Value) → Fits (Some (full s)) (value_or_error (part_of left_over_part v u w))
-  drop_fits = part_fits left_over_part (λ m n. (
+  pub drop_fits : (u w : Value) → Fits (Some (full s)) (value_or_error (part_of left_over left_over v u w))
+  drop_fits = part_fits left_over left_over (λ m n. (
     left_length n (shape v).cols,
     rows_map (shape v).cols (left_over n) (left_length n) (left_is n) (left_sound n) (left_over m (rows v)) (rows_left (shape v).cols m (rows v) (value_rows v sound)),
     left_within n (shape v).cols,
     omega (arith, length-map (left_over m (rows v)) (left_over n), left_count m (rows v), row_count v),
   ))
 
-  chosen_count : (ks : List Scalar) (rs : List (List Scalar)) → length (kept_rows ks rs) ≤ length rs
+  chosen_count : (bs : List Bool) (rs : List (List Scalar)) → length (items_where_true bs rs) ≤ length rs
   chosen_count [] rs = omega arith
-  chosen_count (k ∷ ks) [] = omega arith
-  chosen_count (k ∷ ks) (r ∷ rs) = by (keeps k) (chosen_count ks rs)
-    where
-      by : (b : Bool) → length (kept_rows ks rs) ≤ length rs → length (if b then r ∷ kept_rows ks rs else kept_rows ks rs) ≤ suc (length rs)
-      by true l = omega (arith, l)
-      by false l = omega (arith, l)
+  chosen_count (b ∷ bs) [] = omega arith
+  chosen_count (true ∷ bs) (r ∷ rs) = omega (arith, chosen_count bs rs)
+  chosen_count (false ∷ bs) (r ∷ rs) = omega (arith, chosen_count bs rs)
 
   pub filter_fits : (keep : Value) → Fits (Some (full s)) (value_or_error (filter_rows v keep))
   filter_fits keep = by (no_error v) (no_error keep) (is_column_beside keep v) (first_fault truth_fault (elements keep)) refl refl refl refl
@@ -111,13 +111,13 @@ module _ (s : Shape) (v : Value) (pos' : IsPositive s) (sound : IsSoundValue v) 
       by (Ok x) (Ok y) true (Some k) e f g i = rw (e, f, g, i) tt
       by (Ok x) (Ok y) true None e f g i =
           rw (e, f, g, i)
-          (some_rows_fits ErrKind.Na (shape v).cols (kept_rows (elements keep) (rows v)) (full s) (rows_chosen (shape v).cols (elements keep) (rows v) (value_rows v sound)) (omega (arith, chosen_count (elements keep) (rows v), row_count v, most.0)) most.1)
+          (some_rows_fits ErrKind.Na (shape v).cols (items_where_true (map keeps (elements keep)) (rows v)) (full s) (rows_chosen (shape v).cols (map keeps (elements keep)) (rows v) (value_rows v sound)) (omega (arith, chosen_count (map keeps (elements keep)) (rows v), row_count v, most.0)) most.1)
 
-new_count : (seen rs : List (List Scalar)) → length (new_rows seen rs) ≤ length rs
+new_count : (seen rs : List (List Scalar)) → length (fresh (pointwise same_scalar) seen rs) ≤ length rs
 new_count seen [] = omega arith
-new_count seen (r ∷ rs) = by (list_any (same_row r) seen) (new_count seen rs) (new_count (r ∷ seen) rs)
+new_count seen (r ∷ rs) = by (has_member (pointwise same_scalar) r seen) (new_count seen rs) (new_count (r ∷ seen) rs)
   where
-    by : (b : Bool) → length (new_rows seen rs) ≤ length rs → length (new_rows (r ∷ seen) rs) ≤ length rs → length (if b then new_rows seen rs else r ∷ new_rows (r ∷ seen) rs) ≤ suc (length rs)
+    by : (b : Bool) → length (fresh (pointwise same_scalar) seen rs) ≤ length rs → length (fresh (pointwise same_scalar) (r ∷ seen) rs) ≤ length rs → length (if b then fresh (pointwise same_scalar) seen rs else r ∷ fresh (pointwise same_scalar) (r ∷ seen) rs) ≤ suc (length rs)
     by true l k = omega (arith, l)
     by false l k = omega (arith, k)
 
@@ -125,7 +125,7 @@ pub unique_fits : (s : Shape) (v : Value) → IsSoundValue v → Fits s v → Fi
 unique_fits s (One x) p h = tt
 unique_fits None (Array z xs) p h = absurd h
 unique_fits (Some s) (Array z xs) p h =
-    from_rows_fits z.cols (new_rows [] (rows (Array z xs))) s (rows_new z.cols [] (rows (Array z xs)) (value_rows (Array z xs) p)) (omega (arith, new_count [] (rows (Array z xs)), row_count (Array z xs), h.0)) h.1
+    from_rows_fits z.cols (fresh (pointwise same_scalar) [] (rows (Array z xs))) s (rows_new z.cols [] (rows (Array z xs)) (value_rows (Array z xs) p)) (omega (arith, new_count [] (rows (Array z xs)), row_count (Array z xs), h.0)) h.1
 
 table_most : (b : Bool) (z : Size) (f : ℕ → ℕ → Scalar) (s : Size) → z.rows ≤ s.rows → z.cols ≤ s.cols → 1 ≤ s.rows → 1 ≤ s.cols → AtMost s (table_if b z f)
 table_most true z f s h k a b = (h, k)
