@@ -1,6 +1,7 @@
 -- What an oracle says of an address, and how the rounds give permits.
 use Rattle.std.specs.Prelude.{◌≡◌, ◌≢◌, ◌⊎◌, ℕ, ◌-◌, Bool, ◌&&◌, ◌||◌, not, find, map, List, []}
 use Rattle.std.specs.Prelude.{◌∷◌, Option, Some, None, IsTrue, IsFalse, true, false, if◌then◌else◌}
+use Rattle.std.specs.Prelude.{option_map, option_and_then}
 use Rattle.std.specs.List.{list_any, list_all}
 use Rattle.gl_calculus.specs.Computation.Lists.{Member}
 use Rattle.gl_calculus.specs.Grid.Grid.{Addr, AreInOrder, same_addr, is_before, Range, Size, area}
@@ -13,21 +14,18 @@ abbrev pub IsInOrder : Oracle → Type 0
 IsInOrder o = AreInOrder (map (λ x. x.root) o)
 
 abbrev pub entry_at : Oracle → Addr → Option Entry
-entry_at [] a = None
-entry_at (x ∷ xs) a = if same_addr a x.root then Some x else entry_at xs a
-
-abbrev pub permit_of : Option Entry → Option Permit
-permit_of None = None
-permit_of (Some x) = Some x.permit
+entry_at o a = find (λ x. same_addr a x.root) o
 
 -- the permit of the address's entry, if it has one
 abbrev pub status : Oracle → Addr → Option Permit
-status o a = permit_of (entry_at o a)
+status o a = option_map (λ x. x.permit) (entry_at o a)
+
+abbrev pub area_of : Entry → Range
+area_of x = area x.root x.size
 
 -- the entry is permitted, and its area exists and covers the address
 abbrev pub spills_over : Addr → Entry → Bool
-spills_over a x =
-    is_permitted x.permit && lies_in (area x.root x.size) grid && covers (area x.root x.size) a
+spills_over a x = is_permitted x.permit && lies_in (area_of x) grid && covers (area_of x) a
 
 -- a root, and the rows and columns from it to an address that its area covers
 pub record Cover : Type 0 where
@@ -69,9 +67,6 @@ grant_beside bound held taken (x ∷ xs) =
 abbrev pub grant : Range → (Addr → Bool) → Sizes → Oracle
 grant bound held xs = grant_beside bound held [] xs
 
-abbrev pub area_of : Entry → Range
-area_of x = area x.root x.size
-
 -- What permits of the entries keep, said without an order of granting.
 pub record ArePermits (bound : Range) (held : Addr → Bool) (w : Oracle) : Type 0 where
   -- a permitted area lies in the bound, has no content but its root, and meets no other one
@@ -90,8 +85,7 @@ pub record ArePermits (bound : Range) (held : Addr → Bool) (w : Oracle) : Type
 
 -- the roots and sizes of the entries
 abbrev pub sizes_of : Oracle → Sizes
-sizes_of [] = []
-sizes_of (x ∷ xs) = (x.root, x.size) ∷ sizes_of xs
+sizes_of o = map (λ x. (x.root, x.size)) o
 
 -- the least address at which the entries differ, or one has none
 abbrev pub first_difference : Oracle → Oracle → Option Addr
@@ -119,12 +113,11 @@ first_obstacle true None None = None
 abbrev pub obstacle : Range → (Addr → Bool) → Oracle → Addr → Range → Option Obstacle
 obstacle bound held w root r =
     first_obstacle (lies_in r bound) (find (λ b. held b && not (same_addr b root)) (addresses r))
-    (find (λ x. is_permitted x.permit && meets r (area x.root x.size)) w)
+    (find (λ x. is_permitted x.permit && meets r (area_of x)) w)
 
-abbrev pub blocker_of : Range → (Addr → Bool) → Oracle → Option Entry → Option Obstacle
-blocker_of bound held w None = None
-blocker_of bound held w (Some x) =
-    if is_permitted x.permit then None else obstacle bound held w x.root (area x.root x.size)
-
+-- what stands in the way of a root that isn't permitted
 abbrev pub blocker : Range → (Addr → Bool) → Oracle → Addr → Option Obstacle
-blocker bound held w root = blocker_of bound held w (entry_at w root)
+blocker bound held w root =
+    option_and_then
+    (λ x. if is_permitted x.permit then None else obstacle bound held w x.root (area_of x))
+    (entry_at w root)
