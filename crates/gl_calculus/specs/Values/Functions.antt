@@ -5,7 +5,7 @@ use Rattle.std.specs.Prelude.{map, flat_map, fold, take, drop, replicate, filter
 use Rattle.std.specs.Prelude.{None, Result, Ok, Err, encode_utf8_all, chars, if◌then◌else◌}
 use Rattle.std.specs.Prelude.{unwrap_or}
 use Rattle.std.specs.List.{list_any, list_all, reduce, items_where_true}
-use Rattle.std.specs.Option.{option_or}
+use Rattle.std.specs.Option.{option_or, option_map_or, ok_or}
 use Rattle.gl_calculus.specs.Grid.Grid.{Size, size}
 use Rattle.gl_calculus.specs.Values.ErrKind.{ErrKind}
 use Rattle.gl_calculus.specs.Values.Value.{Scalar, Blank, Int, Text, Sheet, Value, One, elements}
@@ -53,8 +53,7 @@ first_fault fault (x ∷ xs) = option_or (fault x) (first_fault fault xs)
 
 -- the fault as an error, or else the result
 abbrev pub unless : Option ErrKind → Scalar → Scalar
-unless (Some k) r = Scalar.Err k
-unless None r = r
+unless = option_map_or Scalar.Err
 
 abbrev pub lesser : ℤ → ℤ → ℤ
 lesser m n = if int_lt n m then n else m
@@ -68,7 +67,8 @@ truth_of f [] = Scalar.Err ErrKind.Value
 truth_of f (b ∷ bs) = Scalar.Bool (f (b ∷ bs))
 
 abbrev pub total : List Scalar → Scalar
-total xs = unless (first_fault sum_fault xs) (exact (fold ◌+ℤ◌ (pos 0) (filter_map whole_number xs)))
+total xs =
+    unless (first_fault sum_fault xs) (exact (fold ◌+ℤ◌ (pos 0) (filter_map whole_number xs)))
 
 abbrev pub count : List Scalar → Scalar
 count xs = Int (pos (length (filter_map whole_number xs)))
@@ -141,9 +141,8 @@ no_error v = Ok v
 
 -- an argument that is a number: a blank is 0
 abbrev pub number : Value → Try ℤ
-number (One (Int n)) = Ok n
-number (One Blank) = Ok (pos 0)
 number (One (Scalar.Err k)) = Err k
+number (One x) = ok_or (amount x) ErrKind.Value
 number v = Err ErrKind.Value
 
 abbrev pub no_fault : Option ErrKind → Try (Unit {0})
@@ -152,8 +151,7 @@ no_fault (Some k) = Err k
 
 -- the result where the test holds, else the error
 abbrev pub when : {X : Type 0} → Bool → ErrKind → X → Try X
-when true k x = Ok x
-when false k x = Err k
+when b k x = if b then Ok x else Err k
 
 abbrev pub extent : (Size → ℕ) → Value → Value
 extent f (One (Scalar.Err k)) = One (Scalar.Err k)
@@ -238,8 +236,7 @@ is_column_beside u v = ((shape u).cols == 1) && ((shape u).rows == (shape v).row
 
 -- the truth that keeps a row: a blank is FALSE
 abbrev pub keeps : Scalar → Bool
-keeps (Scalar.Bool b) = b
-keeps x = false
+keeps x = unwrap_or (truth x) false
 
 abbrev pub filter_rows : Value → Value → Try Value
 filter_rows v keep = do

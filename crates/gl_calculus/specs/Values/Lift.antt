@@ -57,8 +57,7 @@ reaches v i j =
 
 -- an element of the result is #N/A where one of the values doesn't reach it
 abbrev pub where_reached : Bool → Scalar → Scalar
-where_reached true x = x
-where_reached false x = Scalar.Err ErrKind.Na
+where_reached b x = if b then x else Scalar.Err ErrKind.Na
 
 abbrev pub lift2 : (Scalar → Scalar → Scalar) → Value → Value → Value
 lift2 f (One x) (One y) = One (f x y)

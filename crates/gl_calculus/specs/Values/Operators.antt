@@ -125,8 +125,7 @@ text t = if nat_lt max_text (length t) then Scalar.Err ErrKind.Size else Text t
 -- the plain text of a scalar that has one
 abbrev pub plain : Scalar → List ℕ
 plain (Int n) = signed_decimal n
-plain (Scalar.Bool true) = codes "TRUE"
-plain (Scalar.Bool false) = codes "FALSE"
+plain (Scalar.Bool b) = if b then codes "TRUE" else codes "FALSE"
 plain (Text t) = t
 plain x = []
 
