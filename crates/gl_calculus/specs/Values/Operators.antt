@@ -1,13 +1,15 @@
 -- The operators on scalars.
-use Rattle.std.specs.Prelude.{ℕ, ◌^◌, ◌==◌, nat_lt, ℤ, pos, ◌+ℤ◌, ◌-ℤ◌, ◌*ℤ◌, neg_ℤ, int_lt, int_le}
-use Rattle.std.specs.Prelude.{int_div, Bool, true, false, ◌&&◌, ◌||◌, not, List, [], ◌∷◌, ◌++◌}
-use Rattle.std.specs.Prelude.{length, Option, Some, None, bytes_eq, codes, if◌then◌else◌}
+use Rattle.std.specs.Prelude.{ℕ, ◌^◌, nat_lt, ℤ, pos, ◌+ℤ◌, ◌-ℤ◌, ◌*ℤ◌, neg_ℤ, int_lt, int_le}
+use Rattle.std.specs.Prelude.{int_div, Bool, true, false, ◌&&◌, ◌||◌, not, List, [], ◌++◌, length}
+use Rattle.std.specs.Prelude.{Option, Some, None, bytes_eq, codes, if◌then◌else◌}
 use Rattle.std.specs.Fmt.{signed_decimal}
 use Rattle.gl_calculus.specs.Grid.Limits.{max_text}
 use Rattle.gl_calculus.specs.Values.ErrKind.{ErrKind}
 use Rattle.gl_calculus.specs.Values.Value.{Scalar, Blank, Int, Text, Sheet}
 use Rattle.gl_calculus.specs.Values.Same.{same_int, same_bool}
 use Rattle.gl_calculus.specs.Formulas.Formula.{Op, Eq, Ne, Lt, Le, Gt, Ge, Join, Add, Sub, Mul, Div}
+use Rattle.std.specs.Ordering.{nat_cmp, is_lt}
+use Rattle.std.specs.Cmp.Lexicographic.{slice_cmp}
 
 -- an exact number, or #NUM! where it leaves the 64 bits
 abbrev pub exact : ℤ → Scalar
@@ -78,11 +80,6 @@ filled Blank (Text t) = Text []
 filled Blank (Scalar.Bool b) = Scalar.Bool false
 filled x y = x
 
-abbrev pub text_below : List ℕ → List ℕ → Bool
-text_below s [] = false
-text_below [] (c ∷ t) = true
-text_below (b ∷ s) (c ∷ t) = nat_lt b c || ((b == c) && text_below s t)
-
 abbrev pub equal : Scalar → Scalar → Bool
 equal Blank Blank = true
 equal (Int m) (Int n) = same_int m n
@@ -90,12 +87,13 @@ equal (Text s) (Text t) = bytes_eq s t
 equal (Scalar.Bool b) (Scalar.Bool c) = same_bool b c
 equal x y = false
 
--- every number is below every text, and every text below every truth value
+-- every number is below every text, and every text below every truth value; texts stand in the
+-- order of their bytes
 abbrev pub below : Scalar → Scalar → Bool
 below (Int m) (Int n) = int_lt m n
 below (Int m) (Text t) = true
 below (Int m) (Scalar.Bool c) = true
-below (Text s) (Text t) = text_below s t
+below (Text s) (Text t) = is_lt (slice_cmp nat_cmp s t)
 below (Text s) (Scalar.Bool c) = true
 below (Scalar.Bool false) (Scalar.Bool c) = c
 below x y = false
