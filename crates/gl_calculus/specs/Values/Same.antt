@@ -1,11 +1,12 @@
 -- Equality by structure, as a test.
-use Rattle.std.specs.Prelude.{◌==◌, ℤ, pos, negsuc, Bool, true, false, ◌&&◌, not, [], ◌∷◌, bytes_eq}
+use Rattle.std.specs.Prelude.{◌==◌, ℤ, pos, negsuc, Bool, true, false, ◌&&◌, not, bytes_eq}
 use Rattle.gl_calculus.specs.Grid.Grid.{same_addr, same_range, same_size}
 use Rattle.gl_calculus.specs.Values.ErrKind.{ErrKind}
 use Rattle.gl_calculus.specs.Values.Value.{Permit, Permitted, Refused, Entry, Oracle, Scalar}
 use Rattle.gl_calculus.specs.Values.Value.{Scalars, no_scalar, scalar_and, Value, One, Array}
 use Rattle.gl_calculus.specs.Values.Value.{Overrides, no_override, override_and, SheetValue}
 use Rattle.gl_calculus.specs.Values.Value.{sheet_value, Frame, Top, In}
+use lib.Pointwise.{pointwise}
 
 abbrev pub same_int : ℤ → ℤ → Bool
 same_int (pos m) (pos n) = m == n
@@ -37,9 +38,7 @@ abbrev pub same_entry : Entry → Entry → Bool
 same_entry x y = same_addr x.root y.root && same_size x.size y.size && same_permit x.permit y.permit
 
 abbrev pub same_oracle : Oracle → Oracle → Bool
-same_oracle [] [] = true
-same_oracle (x ∷ xs) (y ∷ ys) = same_entry x y && same_oracle xs ys
-same_oracle xs ys = false
+same_oracle = pointwise same_entry
 
 abbrev mutual
   pub same_scalar : Scalar → Scalar → Bool

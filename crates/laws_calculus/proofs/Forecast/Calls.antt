@@ -1,6 +1,6 @@
 -- The value of each function fits the shape of its call.
 use Rattle.std.proofs.Common.{◌≡◌, ℕ, zero, suc, ◌+◌, ◌-◌, ◌*◌, ◌≤◌, nat_lt, nat_le, ℤ, pos, negsuc, Bool, true, false, ◌&&◌, List, [], ◌∷◌, length, map, take, drop, Option, Some, None, option_map, Ok, Err, refl, ap, sym, subst, arith, if◌then◌else◌}
-use Rattle.std.specs.List.{flat_map, list_any, items_where_true}
+use Rattle.std.specs.List.{flat_map, items_where_true}
 use Rattle.std.proofs.lemmas.Bool.{ltb-true, and_parts}
 use Rattle.std.proofs.lemmas.List.{length-append, length-take, length-drop, length-map, map-append}
 use Rattle.gl_calculus.specs.Grid.Limits.{max_cells}

@@ -1,6 +1,6 @@
 -- Rows of sound scalars, equally long, and the arrays that are made of them.
 use Rattle.std.proofs.Common.{◌≡◌, ℕ, zero, suc, ◌-◌, ◌*◌, ◌<◌, ◌≤◌, min, ℤ, pos, negsuc, Bool, true, false, List, [], ◌∷◌, ◌++◌, length, map, take, drop, replicate, refl, ap, sym, ◌∙◌, arith, if◌then◌else◌}
-use Rattle.std.specs.List.{AllByRecursion, flat_map, list_any, items_where_true}
+use Rattle.std.specs.List.{AllByRecursion, flat_map, items_where_true}
 use Rattle.std.proofs.lemmas.Bool.{leb-true}
 use Rattle.std.proofs.lemmas.List.{length-append, length-take, length-drop, length-replicate}
 use Rattle.gl_calculus.specs.Grid.Limits.{max_cells}
