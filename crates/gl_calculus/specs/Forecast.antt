@@ -21,40 +21,41 @@ abbrev pub Shape : Type 0
 Shape = Option Size
 
 -- the extents of a shape, where a scalar counts as one row and one column
-abbrev pub full : Shape → Size
-full None = size 1 1
-full (Some s) = s
+abbrev pub size_of : Shape → Size
+size_of None = size 1 1
+size_of (Some s) = s
 
--- extents above the cells that an array may have are taken as these, since no array has more
-abbrev pub cut : Size → Size
-cut s = size (min s.rows max_cells) (min s.cols max_cells)
+-- the extents, none of them above the cells that an array may have, since no array has more
+abbrev pub limited : Size → Size
+limited s = size (min s.rows max_cells) (min s.cols max_cells)
 
 -- extents that no array exceeds
 abbrev pub any_size : Size
 any_size = size max_cells max_cells
 
 -- the greater extents of two shapes; none where both have none
-abbrev pub joined : Shape → Shape → Shape
-joined None None = None
-joined s t = Some (hull (full s) (full t))
+abbrev pub greater_shape : Shape → Shape → Shape
+greater_shape None None = None
+greater_shape s t = Some (hull (size_of s) (size_of t))
 
 -- the greatest extents of some shapes; none where all have none
-abbrev pub all_joined : List Shape → Shape
-all_joined [] = None
-all_joined (s ∷ ss) = joined s (all_joined ss)
+abbrev pub greatest_shape : List Shape → Shape
+greatest_shape [] = None
+greatest_shape (s ∷ ss) = greater_shape s (greatest_shape ss)
 
 -- rows and columns exchanged
 abbrev pub flipped : Size → Size
 flipped s = size s.cols s.rows
 
--- the extents of some shapes one under the other: the sum of the rows, the greatest columns
-abbrev pub under : List Shape → Size
-under [] = size 0 0
-under (s ∷ ss) = size ((full s).rows + (under ss).rows) (max (full s).cols (under ss).cols)
+-- the extents of VSTACK: the sum of the rows, the greatest columns
+abbrev pub vstack_size : List Shape → Size
+vstack_size [] = size 0 0
+vstack_size (s ∷ ss) =
+    size ((size_of s).rows + (vstack_size ss).rows) (max (size_of s).cols (vstack_size ss).cols)
 
--- the extents of some shapes side by side: the greatest rows, the sum of the columns
-abbrev pub beside : List Shape → Size
-beside ss = flipped (under (map (option_map flipped) ss))
+-- the extents of HSTACK: the greatest rows, the sum of the columns
+abbrev pub hstack_size : List Shape → Size
+hstack_size ss = flipped (vstack_size (map (option_map flipped) ss))
 
 -- the extent that a formula is where it is an integer as written, from 1 to the cells of an array
 abbrev pub written_extent : Formula → Option ℕ
@@ -72,7 +73,8 @@ sequence_size (F.Formulas.formula_and m (F.Formulas.formula_and n F.Formulas.no_
     written_size (written_extent m) (written_extent n)
 sequence_size fs = any_size
 
--- the shape of a call, by its arguments as they are written and by their shapes
+-- the shape of a call, by its arguments as they are written and by their shapes: surely a scalar,
+-- or by a rule of the function, or the greatest of its arguments
 abbrev pub call_shape : Fun → Formulas → List Shape → Shape
 call_shape F.Fun.Sum fs ss = None
 call_shape F.Fun.Count fs ss = None
@@ -89,12 +91,12 @@ call_shape F.Fun.This fs ss = None
 call_shape F.Fun.Sequence fs ss = Some (sequence_size fs)
 call_shape F.Fun.Transpose fs (s ∷ ss) = option_map flipped s
 call_shape F.Fun.Unique fs (s ∷ ss) = s
-call_shape F.Fun.Take fs (s ∷ ss) = Some (full s)
-call_shape F.Fun.Drop fs (s ∷ ss) = Some (full s)
-call_shape F.Fun.Filter fs (s ∷ ss) = Some (full s)
-call_shape F.Fun.HStack fs ss = Some (cut (beside ss))
-call_shape F.Fun.VStack fs ss = Some (cut (under ss))
-call_shape f fs ss = all_joined ss
+call_shape F.Fun.Take fs (s ∷ ss) = Some (size_of s)
+call_shape F.Fun.Drop fs (s ∷ ss) = Some (size_of s)
+call_shape F.Fun.Filter fs (s ∷ ss) = Some (size_of s)
+call_shape F.Fun.HStack fs ss = Some (limited (hstack_size ss))
+call_shape F.Fun.VStack fs ss = Some (limited (vstack_size ss))
+call_shape f fs ss = greatest_shape ss
 
 -- the variables that are bound, each with its shape, the innermost first
 abbrev pub Shapes : Type 0
@@ -114,12 +116,11 @@ module _ (spilled : Addr → Shape) where
     shape bs (F.Formula.Bool b) = None
     shape bs (F.Formula.At a) = None
     shape bs (F.Formula.Spill a) = spilled a
-    shape bs (F.Formula.Area r) = Some (cut (extents r))
+    shape bs (F.Formula.Area r) = Some (limited (extents r))
     shape bs (F.Formula.Var name) = bound_shape bs name
     shape bs (F.Formula.Neg f) = shape bs f
-    shape bs (F.Formula.Chain level f rest) =
-        joined (shape bs f) (all_joined (operand_shapes bs rest))
-    shape bs (F.Formula.Compare op f g) = joined (shape bs f) (shape bs g)
+    shape bs (F.Formula.Chain level f rest) = greatest_shape (shape bs f ∷ operand_shapes bs rest)
+    shape bs (F.Formula.Compare op f g) = greater_shape (shape bs f) (shape bs g)
     shape bs (F.Formula.Call f xs) = call_shape f xs (shapes bs xs)
     shape bs (F.Formula.Let name f body) = shape ((name, shape bs f) ∷ bs) body
 
@@ -215,17 +216,16 @@ module _ (S : Cells) where
   abbrev pub covering : Addr → List Addr
   covering a = filter (has_box (λ b. covers b a)) (formula_addresses S)
 
-  -- what the value of an address with this content depends on: the formula there, or, without
-  -- content, what may spill over it
-  abbrev pub address_nodes : Addr → Option Content → List Node
-  address_nodes a (Some (Form f)) = cell_nodes a
-  address_nodes a (Some (Const x)) = []
-  address_nodes a None = flat_map cell_nodes (covering a)
-
   -- what `a#` depends on, by the content of the address: nothing without a formula
   abbrev pub spill_nodes : Addr → Option Content → List Node
   spill_nodes a (Some (Form f)) = cell_nodes a
   spill_nodes a c = []
+
+  -- what the value of an address with this content depends on: the formula there, or, without
+  -- content, what may spill over it
+  abbrev pub address_nodes : Addr → Option Content → List Node
+  address_nodes a None = flat_map cell_nodes (covering a)
+  address_nodes a c = spill_nodes a c
 
   -- what a piece of a formula depends on
   abbrev pub piece_nodes : Piece → List Node
@@ -299,14 +299,11 @@ pub data First (P : Addr → Type 0) : List Addr → Addr → Type 0 where
   behind : {a b : Addr} {rest : List Addr} → (P b → ⊥) → First P rest a → First P (b ∷ rest) a
 
 module _ (S : Cells) where
-  -- the same, as a property
-  abbrev pub SomeUsesSheets : Addr → Type 0
-  SomeUsesSheets a = IsTrue (uses_sheets S a)
-
   -- the forecast of a sheet: unknown where some formula makes sheets; else a circle where some
   -- node depends on itself; else yes
   pub data IsForecast : Forecast → Type 0 where
-    unknown : {a : Addr} → First SomeUsesSheets (formula_addresses S) a → IsForecast (Unknown a)
+    unknown : {a : Addr} → First (λ a. IsTrue (uses_sheets S a)) (formula_addresses S) a →
+        IsForecast (Unknown a)
     circle : {a : Addr} → IsFalse (list_any (uses_sheets S) (formula_addresses S)) →
         First (IsInCircle S) (formula_addresses S) a → IsForecast (Circle a)
     yes : {h : ℕ} → IsFalse (list_any (uses_sheets S) (formula_addresses S)) →
