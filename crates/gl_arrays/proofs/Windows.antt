@@ -80,6 +80,6 @@ left_window v m n r c a k b l h er ec ea ek eb el =
     (windows v (left_over m) (left_over n) (left_start m (shape v).rows) (left_count m (shape v).rows) (left_start n (shape v).cols) (left_count n (shape v).cols) h (left_is (row v) m (shape v).rows) (λ g. left_is g n (shape v).cols))
 
 pub part_window : (part : Part) (v : Value) (m n : ℤ) (r c a k b l : ℕ) → IsTrue (is_sound_value v) → r ≡ (shape v).rows → c ≡ (shape v).cols → a ≡ start_of part m r → k ≡ count_of part m r → b ≡ start_of part n c → l ≡ count_of part n c
-    → window v a k b l ≡ rule_of part m n (rows v)
+    → window v a k b l ≡ map (rule_of part n) (rule_of part m (rows v))
 part_window Kept = kept_window
 part_window LeftOver = left_window

@@ -131,7 +131,7 @@ fn spans(part: Part, v: &Value, m: &Value, n: &Value) -> Result<(Span, Span), Er
 fn part_of(alloc: Global, part: Part, v: &Value, m: &Value, n: &Value) -> Result<Value, NoMemory>
     requires { IsTrue (is_sound_value (value_tree v.now)) }
     ensures sound { IfOk result (λ r. IsTrue (is_sound_value (value_tree r))) }
-    ensures value { IsPart result (rule_of part) v.now m.now n.now }
+    ensures value { IsPart result (rule_of part) (rule_of part) v.now m.now n.now }
 {
     match spans(part, v, m, n) {
         Ok((rows, cols)) => window(alloc, v, rows, cols),
