@@ -1,7 +1,7 @@
 -- The operators on scalars.
 use Rattle.std.specs.Prelude.{ℕ, ◌^◌, nat_lt, ℤ, pos, ◌+ℤ◌, ◌-ℤ◌, ◌*ℤ◌, neg_ℤ, int_lt, int_le}
 use Rattle.std.specs.Prelude.{int_div, Bool, true, false, ◌&&◌, ◌||◌, not, List, [], ◌++◌, length}
-use Rattle.std.specs.Prelude.{Option, Some, None, bytes_eq, codes, if◌then◌else◌}
+use Rattle.std.specs.Prelude.{Option, Some, None, bytes_eq, codes, if◌then◌else◌, int_rem}
 use Rattle.std.specs.Fmt.{signed_decimal}
 use Rattle.gl_calculus.specs.Grid.Limits.{max_text}
 use Rattle.gl_calculus.specs.Values.ErrKind.{ErrKind}
@@ -10,6 +10,7 @@ use Rattle.gl_calculus.specs.Values.Same.{same_int, same_bool}
 use Rattle.gl_calculus.specs.Formulas.Formula.{Op, Eq, Ne, Lt, Le, Gt, Ge, Join, Add, Sub, Mul, Div}
 use Rattle.std.specs.Ordering.{nat_cmp, is_lt}
 use Rattle.std.specs.Cmp.Lexicographic.{slice_cmp}
+use Rattle.std.specs.Option.{option_map_or}
 
 -- an exact number, or #NUM! where it leaves the 64 bits
 abbrev pub exact : ℤ → Scalar
@@ -45,25 +46,18 @@ numeric f = strict (λ x y. on_amounts f (amount x) (amount y))
 abbrev pub quotient : ℤ → ℤ → Scalar
 quotient m n = if same_int n (pos 0) then Scalar.Err ErrKind.Div0 else exact (int_div m n)
 
--- the quotient rounded down
-abbrev pub floor_div : ℤ → ℤ → ℤ
-floor_div m n =
-    let q = int_div m n in
-    let r = m -ℤ (q *ℤ n) in
-    if same_int r (pos 0) || same_bool (int_lt r (pos 0)) (int_lt n (pos 0)) then q
-    else (q -ℤ pos 1)
-
--- the remainder of that quotient, with the sign of the divisor
+-- the remainder with the sign of the divisor
 abbrev pub modulo : ℤ → ℤ → Scalar
 modulo m n =
-    if same_int n (pos 0) then Scalar.Err ErrKind.Div0 else exact (m -ℤ (n *ℤ floor_div m n))
+    let r = int_rem m n in
+    if same_int n (pos 0) then Scalar.Err ErrKind.Div0
+    else if same_int r (pos 0) || same_bool (int_lt r (pos 0)) (int_lt n (pos 0)) then exact r
+    else exact (r +ℤ n)
 
 -- a rule on one number: an error passes, and anything else is no operand
 abbrev pub on_amount : (ℤ → Scalar) → Scalar → Scalar
-on_amount f Blank = f (pos 0)
-on_amount f (Int n) = f n
 on_amount f (Scalar.Err k) = Scalar.Err k
-on_amount f x = Scalar.Err ErrKind.Value
+on_amount f x = option_map_or f (amount x) (Scalar.Err ErrKind.Value)
 
 abbrev pub negate : Scalar → Scalar
 negate = on_amount (λ n. exact (neg_ℤ n))
