@@ -30,16 +30,11 @@ spread v i j = item v (if (shape v).rows == 1 then 0 else i) (if (shape v).cols 
 abbrev pub is_small : Size → Bool
 is_small s = nat_le (s.rows * s.cols) max_cells
 
--- the array of these extents, if it is small, with an element for each row and column
-abbrev pub table_if : Bool → Size → (ℕ → ℕ → Scalar) → Value
-table_if true s f =
-    Array s
-    (scalars (flat_map (λ i. map (f i) (range_with_len 0 s.cols)) (range_with_len 0 s.rows)))
-table_if false s f = One (Scalar.Err ErrKind.Size)
-
--- the same, or #SIZE! where it isn't small
+-- the array of these extents with an element for each row and column, or #SIZE! if it isn't small
 abbrev pub table : Size → (ℕ → ℕ → Scalar) → Value
-table s = table_if (is_small s) s
+table s f =
+    let xs = flat_map (λ i. map (f i) (range_with_len 0 s.cols)) (range_with_len 0 s.rows) in
+    if is_small s then Array s (scalars xs) else One (Scalar.Err ErrKind.Size)
 
 -- the greater extents
 abbrev pub hull : Size → Size → Size
@@ -87,11 +82,8 @@ abbrev pub width : List (List Scalar) → ℕ
 width [] = 0
 width (r ∷ rs) = length r
 
--- the array of these rows, which are equally long, if it is small
-abbrev pub rows_if : Bool → List (List Scalar) → Value
-rows_if true rs = Array (size (length rs) (width rs)) (scalars (flat_map (λ r. r) rs))
-rows_if false rs = One (Scalar.Err ErrKind.Size)
-
--- the same, or #SIZE! where it isn't small
+-- the array of these rows, which are equally long, or #SIZE! if it isn't small
 abbrev pub from_rows : List (List Scalar) → Value
-from_rows rs = rows_if (is_small (size (length rs) (width rs))) rs
+from_rows rs =
+    let s = size (length rs) (width rs) in
+    if is_small s then Array s (scalars (flat_map (λ r. r) rs)) else One (Scalar.Err ErrKind.Size)

@@ -10,7 +10,7 @@ use Rattle.gl_calculus.specs.Values.Value.{Scalar, Value, One, Array, items, ele
 use Rattle.gl_calculus.specs.Formulas.Formula.{Fun, Formula, Formulas}
 use Rattle.gl_calculus.specs.Formulas.Formula as F
 use Rattle.gl_calculus.specs.Values.Operators.{modulo, magnitude, numeric}
-use Rattle.gl_calculus.specs.Values.Lift.{shape, item, is_small, table_if, rows, width, cut, rows_if, from_rows}
+use Rattle.gl_calculus.specs.Values.Lift.{shape, item, is_small, rows, width, cut, from_rows}
 use Rattle.gl_calculus.specs.Values.Functions.{Try, value_or_error, no_error, number, when, first_fault, truth_fault, extent, index, sequence, flipped, transpose, kept, left_over, take_last, some_rows, part_of, padded, greatest_cols, vstack, hstack, is_column_beside, keeps, filter_rows, unique, sought, looked_up, lookup, negation, is_error, is_blank, text_length, text_part, apply}
 use Rattle.gl_calculus.specs.Forecast as Fo
 use Rattle.gl_calculus.specs.Forecast.{Shape, size_of, any_size, vstack_size, hstack_size}
@@ -23,6 +23,7 @@ use Rattle.laws_calculus.proofs.Forecast.Shapes.{Fits, AllFit, AtMost, fits_most
 use lib.Pointwise.{pointwise}
 use Rattle.gl_calculus.specs.Values.Same.{same_scalar}
 use Rattle.gl_calculus.specs.Computation.Lists.{fresh, has_member}
+use Rattle.gl_calculus.proofs.Tables.{table_if, rows_if}
 
 -- ---- arrays of rows
 

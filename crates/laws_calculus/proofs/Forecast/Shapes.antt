@@ -3,11 +3,12 @@ use Rattle.std.proofs.Common.{◌≡◌, ℕ, ◌≤◌, max, Bool, true, false,
 use Rattle.std.specs.List.{AllByRecursion}
 use Rattle.gl_calculus.specs.Grid.Grid.{Size, size}
 use Rattle.gl_calculus.specs.Values.Value.{Scalar, Value, One, Array}
-use Rattle.gl_calculus.specs.Values.Lift.{shape, is_small, table_if, table, hull, lift1, lift2, lift3}
+use Rattle.gl_calculus.specs.Values.Lift.{shape, is_small, table, hull, lift1, lift2, lift3}
 use Rattle.gl_calculus.specs.Forecast as Fo
 use Rattle.gl_calculus.specs.Forecast.{Shape, size_of, greater_shape, greatest_shape}
 use Rattle.laws_calculus.proofs.Sound.Values.{IsSoundValue}
 use Rattle.laws_calculus.proofs.Sound.Lift.{shape_positive}
+use Rattle.gl_calculus.proofs.Tables.{table_if}
 
 -- a scalar fits any shape; an array fits one that is as large
 abbrev pub Fits : Shape → Value → Type 0

@@ -7,13 +7,14 @@ use Rattle.gl_calculus.specs.Grid.Limits.{max_cells}
 use Rattle.gl_calculus.specs.Grid.Grid.{size}
 use Rattle.gl_calculus.specs.Values.ErrKind.{ErrKind}
 use Rattle.gl_calculus.specs.Values.Value.{Scalar, Value, One, Array, items}
-use Rattle.gl_calculus.specs.Values.Lift.{shape, is_small, rows, width, cut, rows_if, from_rows}
+use Rattle.gl_calculus.specs.Values.Lift.{shape, is_small, rows, width, cut, from_rows}
 use Rattle.gl_calculus.specs.Values.Functions.{kept, left_over, padded}
 use Rattle.laws_calculus.proofs.Sound.Values.{AllSound, IsSoundValue, parts_of, array_sound, all_append, all_take, all_drop, all_replicate}
 use Rattle.laws_calculus.proofs.Sound.Lift.{one_more_row}
 use lib.Pointwise.{pointwise}
 use Rattle.gl_calculus.specs.Values.Same.{same_scalar}
 use Rattle.gl_calculus.specs.Computation.Lists.{distinct, fresh, has_member}
+use Rattle.gl_calculus.proofs.Tables.{rows_if}
 
 -- rows of n sound scalars each
 abbrev pub AreRows : ℕ → List (List Scalar) → Type 0
