@@ -1,6 +1,6 @@
 -- Arrays, and operators on scalars lifted to values.
-use Rattle.std.specs.Prelude.{ℕ, zero, suc, ◌+◌, ◌*◌, ◌==◌, max, nat_lt, nat_le, Bool, true, false}
-use Rattle.std.specs.Prelude.{◌&&◌, ◌||◌, List, [], ◌∷◌, length, map, flat_map, get_or, take, drop}
+use Rattle.std.specs.Prelude.{ℕ, zero, suc, ◌+◌, ◌*◌, ◌==◌, max, nat_lt, nat_le, Bool, ◌&&◌, ◌||◌}
+use Rattle.std.specs.Prelude.{List, [], ◌∷◌, length, map, flat_map, get_or, take, drop}
 use Rattle.std.specs.Prelude.{if◌then◌else◌}
 use Rattle.std.specs.List.{range_with_len}
 use Rattle.gl_calculus.specs.Grid.Limits.{max_cells}
@@ -47,8 +47,7 @@ lift1 f v = table (shape v) (λ i j. f (item v i j))
 -- row i and column j are within the extents, where an extent of 1 repeats
 abbrev pub reaches : Value → ℕ → ℕ → Bool
 reaches v i j =
-    ((shape v).rows == 1 || nat_lt i (shape v).rows)
-    && ((shape v).cols == 1 || nat_lt j (shape v).cols)
+    let s = shape v in (s.rows == 1 || nat_lt i s.rows) && (s.cols == 1 || nat_lt j s.cols)
 
 -- an element of the result is #N/A where one of the values doesn't reach it
 abbrev pub where_reached : Bool → Scalar → Scalar
