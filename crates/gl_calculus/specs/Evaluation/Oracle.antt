@@ -8,6 +8,7 @@ use Rattle.gl_calculus.specs.Grid.Grid.{Addr, AreInOrder, same_addr, is_before, 
 use Rattle.gl_calculus.specs.Grid.Grid.{addresses, covers, lies_in, meets, grid}
 use Rattle.gl_calculus.specs.Values.Value.{Permit, Permitted, Refused, Entry, Oracle}
 use Rattle.gl_calculus.specs.Values.Same.{is_permitted, same_entry}
+use Rattle.std.specs.Option.{option_or}
 
 -- the roots increase strictly, in row-major order
 abbrev pub IsInOrder : Oracle → Type 0
@@ -105,9 +106,7 @@ pub data Obstacle : Type 0 where
 -- the first that holds: the area leaves the bound, there is other content, a permitted area meets
 abbrev pub first_obstacle : Bool → Option Addr → Option Entry → Option Obstacle
 first_obstacle false b x = Some Edge
-first_obstacle true (Some b) x = Some (Content b)
-first_obstacle true None (Some x) = Some (Root x.root)
-first_obstacle true None None = None
+first_obstacle true b x = option_or (option_map Content b) (option_map (λ y. Root y.root) x)
 
 -- what stands in the way of a root that would have this area
 abbrev pub obstacle : Range → (Addr → Bool) → Oracle → Addr → Range → Option Obstacle
