@@ -270,17 +270,12 @@ module _ (S : Cells) where
 
 -- ---- the forecast
 
--- SHEET, UPDATE, VIEW or G
-abbrev pub makes_sheets : Fun → Bool
-makes_sheets F.Fun.Sheet = true
-makes_sheets F.Fun.Update = true
-makes_sheets F.Fun.View = true
-makes_sheets F.Fun.G = true
-makes_sheets f = false
-
--- a piece that is a call of one of these four
+-- a piece that is a call of SHEET, UPDATE, VIEW or G
 abbrev pub piece_makes : Piece → Bool
-piece_makes (Calls f) = makes_sheets f
+piece_makes (Calls F.Fun.Sheet) = true
+piece_makes (Calls F.Fun.Update) = true
+piece_makes (Calls F.Fun.View) = true
+piece_makes (Calls F.Fun.G) = true
 piece_makes p = false
 
 -- the address has a formula that calls one of these four

@@ -23,7 +23,7 @@ use Rattle.laws_calculus.proofs.Sound.Lift.{lift1_sound, lift2_sound, lift3_soun
 use Rattle.laws_calculus.proofs.Sound.Functions.{Enough, apply_sound}
 use Rattle.laws_calculus.proofs.Sound.Evaluation.{chosen_sound, replaced_sound, takes_enough}
 use Rattle.gl_calculus.specs.Forecast as Fo
-use Rattle.gl_calculus.specs.Forecast.{Shape, Shapes, shape, shapes, operand_shapes, greater_shape, greatest_shape, Node, Entry, Piece, Reads, pieces, all_pieces, operand_pieces, piece_nodes, piece_makes, makes_sheets, spilled_shape}
+use Rattle.gl_calculus.specs.Forecast.{Shape, Shapes, shape, shapes, operand_shapes, greater_shape, greatest_shape, Node, Entry, Piece, Reads, pieces, all_pieces, operand_pieces, piece_nodes, piece_makes, spilled_shape, Calls}
 use Rattle.laws_calculus.proofs.Forecast.Alike.{both_return, alike_weaken}
 use Rattle.laws_calculus.proofs.Forecast.Oracles.{IsFit}
 use Rattle.laws_calculus.proofs.Forecast.Shapes.{Fits, AllFit, IsPositive, AllPositive, join_left, join_right, join_on, lift1_fits, lift2_fits, lift3_fits}
@@ -173,7 +173,7 @@ module _ (version : Version) (S : Cells) (fit : AreFit S) (w w' : Oracle) (fits 
   plain : (sb : Shapes) (f : Formula) (q : Eval Value) → Good (IsFrom sb f) q → Good (IsOf (shape sp sb f)) q
   plain sb f q g = alike_weaken (Gets (IsFrom sb f)) (Gets (IsOf (shape sp sb f))) (elim [ Ok v ↦ λ h. (h.0, h.1) | Err b ↦ λ h. absurd h ]) g
 
-  call_good : (sb : Shapes) (f : Fun) (fs : Formulas) (xs : List Argument) → makes_sheets f ≡ false → Enough f (length xs) → AllPositive (shapes sp sb fs) → Goods sb fs xs → Good (IsOf (Fo.call_shape f fs (shapes sp sb fs))) (E.call version Top f xs)
+  call_good : (sb : Shapes) (f : Fun) (fs : Formulas) (xs : List Argument) → piece_makes (Calls f) ≡ false → Enough f (length xs) → AllPositive (shapes sp sb fs) → Goods sb fs xs → Good (IsOf (Fo.call_shape f fs (shapes sp sb fs))) (E.call version Top f xs)
   call_good sb F.Fun.If (F.Formulas.formula_and a (F.Formulas.formula_and b (F.Formulas.formula_and d F.Formulas.no_formula))) (x ∷ y ∷ z ∷ []) m e p h =
       good_then (IsOf (shape sp sb a)) (IsOf (greater_shape (shape sp sb a) (greater_shape (shape sp sb b) (greater_shape (shape sp sb d) None)))) x.eval _ (plain sb a x.eval h.0)
       (λ v k. choose_good (shape sp sb a) (shape sp sb b) (shape sp sb d) p.0 p.1.0 p.1.1.0 y.eval z.eval (plain sb b y.eval h.1.0) (plain sb d z.eval h.1.1.0) v k)
