@@ -10,7 +10,10 @@ use Rattle.gl_calculus.specs.Grid.Limits.{max_cells}
 use Rattle.gl_calculus.specs.Grid.Grid.{Addr, is_before, Range, single, Size, size, extents, area}
 use Rattle.gl_calculus.specs.Grid.Grid.{addresses, covers, meets}
 use Rattle.gl_calculus.specs.Formulas.Formula.{Formula, Formulas, Operands, Fun, Content, Const}
-use Rattle.gl_calculus.specs.Formulas.Formula.{Form, Cells, content, formula_addresses}
+use Rattle.gl_calculus.specs.Formulas.Formula.{Form, Cells, content, formula_addresses, Sum, Count}
+use Rattle.gl_calculus.specs.Formulas.Formula.{Min, Max, And, Or, Rows, Columns, Index, Lookup, Na}
+use Rattle.gl_calculus.specs.Formulas.Formula.{This, Sequence, Transpose, Unique, Take, Drop}
+use Rattle.gl_calculus.specs.Formulas.Formula.{Filter, HStack, VStack, Sheet, Update, View, G}
 use Rattle.gl_calculus.specs.Formulas.Formula as F
 use Rattle.gl_calculus.specs.Values.Lift.{hull}
 
@@ -73,29 +76,31 @@ sequence_size (F.Formulas.formula_and m (F.Formulas.formula_and n F.Formulas.no_
     written_size (written_extent m) (written_extent n)
 sequence_size fs = any_size
 
--- the shape of a call, by its arguments as they are written and by their shapes: surely a scalar,
--- or by a rule of the function, or the greatest of its arguments
+-- the shape of a call, by its arguments as they are written and by their shapes
 abbrev pub call_shape : Fun → Formulas → List Shape → Shape
-call_shape F.Fun.Sum fs ss = None
-call_shape F.Fun.Count fs ss = None
-call_shape F.Fun.Min fs ss = None
-call_shape F.Fun.Max fs ss = None
-call_shape F.Fun.And fs ss = None
-call_shape F.Fun.Or fs ss = None
-call_shape F.Fun.Rows fs ss = None
-call_shape F.Fun.Columns fs ss = None
-call_shape F.Fun.Index fs ss = None
-call_shape F.Fun.Lookup fs ss = None
-call_shape F.Fun.Na fs ss = None
-call_shape F.Fun.This fs ss = None
-call_shape F.Fun.Sequence fs ss = Some (sequence_size fs)
-call_shape F.Fun.Transpose fs (s ∷ ss) = option_map flipped s
-call_shape F.Fun.Unique fs (s ∷ ss) = s
-call_shape F.Fun.Take fs (s ∷ ss) = Some (size_of s)
-call_shape F.Fun.Drop fs (s ∷ ss) = Some (size_of s)
-call_shape F.Fun.Filter fs (s ∷ ss) = Some (size_of s)
-call_shape F.Fun.HStack fs ss = Some (limited (hstack_size ss))
-call_shape F.Fun.VStack fs ss = Some (limited (vstack_size ss))
+-- a scalar, whatever the arguments are
+call_shape Sum fs ss = None
+call_shape Count fs ss = None
+call_shape Min fs ss = None
+call_shape Max fs ss = None
+call_shape And fs ss = None
+call_shape Or fs ss = None
+call_shape Rows fs ss = None
+call_shape Columns fs ss = None
+call_shape Index fs ss = None
+call_shape Lookup fs ss = None
+call_shape Na fs ss = None
+call_shape This fs ss = None
+-- by a rule of its own
+call_shape Sequence fs ss = Some (sequence_size fs)
+call_shape Transpose fs (s ∷ ss) = option_map flipped s
+call_shape Unique fs (s ∷ ss) = s
+call_shape Take fs (s ∷ ss) = Some (size_of s)
+call_shape Drop fs (s ∷ ss) = Some (size_of s)
+call_shape Filter fs (s ∷ ss) = Some (size_of s)
+call_shape HStack fs ss = Some (limited (hstack_size ss))
+call_shape VStack fs ss = Some (limited (vstack_size ss))
+-- at most the greatest of the arguments
 call_shape f fs ss = greatest_shape ss
 
 -- the variables that are bound, each with its shape, the innermost first
@@ -272,10 +277,10 @@ module _ (S : Cells) where
 
 -- a piece that is a call of SHEET, UPDATE, VIEW or G
 abbrev pub piece_makes : Piece → Bool
-piece_makes (Calls F.Fun.Sheet) = true
-piece_makes (Calls F.Fun.Update) = true
-piece_makes (Calls F.Fun.View) = true
-piece_makes (Calls F.Fun.G) = true
+piece_makes (Calls Sheet) = true
+piece_makes (Calls Update) = true
+piece_makes (Calls View) = true
+piece_makes (Calls G) = true
 piece_makes p = false
 
 -- the address has a formula that calls one of these four
