@@ -9,11 +9,11 @@ use Rattle.gl_calculus.specs.Computation.Lists.{Member}
 use Rattle.gl_calculus.specs.Grid.Limits.{max_cells}
 use Rattle.gl_calculus.specs.Grid.Grid.{Addr, is_before, Range, single, Size, size, extents, area}
 use Rattle.gl_calculus.specs.Grid.Grid.{addresses, covers, meets}
-use Rattle.gl_calculus.specs.Formulas.Formula.{Formula, Formulas, Operands, Fun, Content, Const}
-use Rattle.gl_calculus.specs.Formulas.Formula.{Form, Cells, content, formula_addresses, Sum, Count}
-use Rattle.gl_calculus.specs.Formulas.Formula.{Min, Max, And, Or, Rows, Columns, Index, Lookup, Na}
-use Rattle.gl_calculus.specs.Formulas.Formula.{This, Sequence, Transpose, Unique, Take, Drop}
-use Rattle.gl_calculus.specs.Formulas.Formula.{Filter, HStack, VStack, Sheet, Update, View, G}
+use Rattle.gl_calculus.specs.Formulas.Formula.{Formula, Formulas, Operands, Fun, Content, Form}
+use Rattle.gl_calculus.specs.Formulas.Formula.{Cells, content, formula_addresses, Sum, Count, Min}
+use Rattle.gl_calculus.specs.Formulas.Formula.{Max, And, Or, Rows, Columns, Index, Lookup, Na, This}
+use Rattle.gl_calculus.specs.Formulas.Formula.{Sequence, Transpose, Unique, Take, Drop, Filter}
+use Rattle.gl_calculus.specs.Formulas.Formula.{HStack, VStack, Sheet, Update, View, G}
 use Rattle.gl_calculus.specs.Formulas.Formula as F
 use Rattle.gl_calculus.specs.Values.Lift.{hull}
 

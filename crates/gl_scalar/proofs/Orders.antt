@@ -6,7 +6,6 @@ use Rattle.std.specs.Cmp.Lexicographic.{slice_cmp}
 use Rattle.std.specs.Ordering.{nat_cmp, int_cmp, bool_cmp, is_lt, is_eq, is_gt}
 use Rattle.std.specs.declared.cmp.Ordering.{Ordering}
 use Rattle.std.specs.declared.cmp.Ordering.TheVariants.{Less, Equal, Greater}
-use Rattle.gl_calculus.specs.Values.Operators as O
 use Rattle.gl_calculus.specs.Values.Value as V
 use Rattle.gl_value.specs.Ints.{int_test}
 use Rattle.gl_scalar.specs.Rules.{Stands, is_less, is_equal, is_greater}
