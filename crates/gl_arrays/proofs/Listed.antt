@@ -1,13 +1,13 @@
 -- The rows that a list names, and those that a column of truths keeps.
-use Rattle.std.proofs.Common.{◌≡◌, ℕ, zero, suc, ◌+◌, ◌<◌, ◌≤◌, Bool, true, false, cond, None, slice_get, List, [], ◌∷◌, ◌++◌, length, map, filter, refl, ap, sym, ◌∙◌, arith, IsTrue, if◌then◌else◌}
-use Rattle.std.specs.List.{range_with_len}
+use Rattle.std.proofs.Common.{◌≡◌, ℕ, zero, suc, ◌+◌, ◌<◌, ◌≤◌, Bool, true, false, cond, None, slice_get, List, [], ◌∷◌, ◌++◌, length, map, filter, refl, ap, sym, ◌∙◌, arith, IsTrue}
+use Rattle.std.specs.List.{range_with_len, items_where_true}
 use Rattle.std.proofs.lemmas.List.{map-id}
 use Rattle.std.proofs.lemmas.List.FromFn.{length-map-range_with_len, filter_of_map_range_with_len_more}
 use Rattle.gl_calculus.specs.Grid.Grid.{size}
 use Rattle.gl_calculus.specs.Values.ErrKind.{ErrKind}
 use Rattle.gl_calculus.specs.Values.Value.{Scalar, Value, elements}
 use Rattle.gl_calculus.specs.Values.Lift.{item, shape, table, rows, width, from_rows}
-use Rattle.gl_calculus.specs.Values.Functions.{is_column_beside, keeps, kept_rows, some_rows, value_or_error, when}
+use Rattle.gl_calculus.specs.Values.Functions.{is_column_beside, keeps, some_rows, value_or_error, when}
 use Rattle.gl_calculus.specs.Evaluation.Sound.{is_sound_value}
 use Rattle.gl_arrays.specs.Parts.{row, picked, keeps_row, column_from}
 use Rattle.gl_arrays.proofs.Ranges.{map_same, map_shift}
@@ -50,21 +50,21 @@ some_listed k v ks h l = sym (ap (λ b. value_or_error (when b k (from_rows (map
 
 -- ---- kept rows
 
-kept_step : (b : Bool) (r : ℕ → List Scalar) (x : ℕ) (xs : List ℕ) (zs : List (List Scalar)) → zs ≡ map r xs → (if b then r x ∷ zs else zs) ≡ map r (cond b (x ∷ xs) xs)
-kept_step true r x xs zs e = ap (λ ys. r x ∷ ys) e
-kept_step false r x xs zs e = e
+kept_step : (b : Bool) (r : ℕ → List Scalar) (x : ℕ) (xs : List ℕ) (bs : List Bool) (zs : List (List Scalar)) → items_where_true bs zs ≡ map r xs → items_where_true (b ∷ bs) (r x ∷ zs) ≡ map r (cond b (x ∷ xs) xs)
+kept_step true r x xs bs zs e = ap (λ ys. r x ∷ ys) e
+kept_step false r x xs bs zs e = e
 
-kept_map : (k : ℕ → Scalar) (r : ℕ → List Scalar) (a n : ℕ) → kept_rows (map k (range_with_len a n)) (map r (range_with_len a n)) ≡ map r (filter (λ i. keeps (k i)) (range_with_len a n))
+kept_map : (k : ℕ → Scalar) (r : ℕ → List Scalar) (a n : ℕ) → items_where_true (map keeps (map k (range_with_len a n))) (map r (range_with_len a n)) ≡ map r (filter (λ i. keeps (k i)) (range_with_len a n))
 kept_map k r a zero = refl
 kept_map k r a (suc n) =
-    kept_step (keeps (k a)) r a (filter (λ i. keeps (k i)) (range_with_len (a + 1) n)) (kept_rows (map k (range_with_len (a + 1) n)) (map r (range_with_len (a + 1) n))) (kept_map k r (a + 1) n)
+    kept_step (keeps (k a)) r a (filter (λ i. keeps (k i)) (range_with_len (a + 1) n)) (map keeps (map k (range_with_len (a + 1) n))) (map r (range_with_len (a + 1) n)) (kept_map k r (a + 1) n)
 
-pub kept_are : (v keep : Value) → IsTrue (is_sound_value v) → IsTrue (is_sound_value keep) → IsTrue (is_column_beside keep v) → kept_rows (elements keep) (rows v) ≡ map (row v) (filter (keeps_row keep) (range_with_len 0 (shape keep).rows))
+pub kept_are : (v keep : Value) → IsTrue (is_sound_value v) → IsTrue (is_sound_value keep) → IsTrue (is_column_beside keep v) → items_where_true (map keeps (elements keep)) (rows v) ≡ map (row v) (filter (keeps_row keep) (range_with_len 0 (shape keep).rows))
 kept_are v keep h k b =
     let c = is_column keep v b in
-    ap (λ ks. kept_rows ks (rows v)) (column_is keep k c.0)
-    ∙ ap (λ rs. kept_rows (column_from keep 0 (shape keep).rows) rs) (rows_are v h)
-    ∙ ap (λ n. kept_rows (column_from keep 0 (shape keep).rows) (map (row v) (range_with_len 0 n))) (sym c.1)
+    ap (λ ks. items_where_true (map keeps ks) (rows v)) (column_is keep k c.0)
+    ∙ ap (λ rs. items_where_true (map keeps (column_from keep 0 (shape keep).rows)) rs) (rows_are v h)
+    ∙ ap (λ n. items_where_true (map keeps (column_from keep 0 (shape keep).rows)) (map (row v) (range_with_len 0 n))) (sym c.1)
     ∙ kept_map (λ i. item keep i 0) (row v) 0 (shape keep).rows
 
 pub filter_more : (p : ℕ → Bool) (i : ℕ) → filter p (range_with_len 0 (i + 1)) ≡ filter p (range_with_len 0 i) ++ cond (p i) (i ∷ []) []

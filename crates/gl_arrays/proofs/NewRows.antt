@@ -1,10 +1,9 @@
 -- The rows without those that stand before.
-use Rattle.std.proofs.Common.{◌≡◌, ℕ, zero, suc, ◌+◌, ◌-◌, ◌<◌, ◌≤◌, Bool, true, false, not, ◌||◌, ◌&&◌, List, [], ◌∷◌, ◌++◌, append_assoc, length, IsTrue, map, refl, ap, sym, ◌∙◌, arith, if◌then◌else◌}
+use Rattle.std.proofs.Common.{◌≡◌, ℕ, zero, suc, ◌+◌, ◌-◌, ◌<◌, ◌≤◌, Bool, true, false, not, ◌||◌, ◌&&◌, List, [], ◌∷◌, ◌++◌, append_assoc, length, IsTrue, map, refl, ap, sym, ◌∙◌, arith, if◌then◌else◌, cond}
 use Rattle.std.specs.List.{list_any, range_with_len}
 use Rattle.std.proofs.lemmas.List.{append-nil, map-append}
 use lib.Pointwise.{pointwise}
 use Rattle.gl_calculus.specs.Values.Value as V
-use Rattle.gl_calculus.specs.Values.Functions.{same_row, new_rows}
 use Rattle.gl_calculus.specs.Values.Same.{same_scalar}
 use Rattle.gl_calculus.specs.Values.Lift.{rows, shape}
 use Rattle.gl_calculus.specs.Evaluation.Sound.{is_sound_value}
@@ -14,6 +13,13 @@ use Rattle.gl_arrays.proofs.Tables.{rows_are, extents_small}
 use Rattle.gl_value.specs.declared.Scalar.{Scalar}
 use Rattle.gl_value.specs.contracts.ScalarPartialEq.TheImpl.{ghosts as scalar}
 use Rattle.gl_value.proofs.DerivedEq.{eq_is_scalar}
+use Rattle.gl_calculus.specs.Computation.Lists.{has_member, fresh}
+
+abbrev same_row : List V.Scalar → List V.Scalar → Bool
+same_row = pointwise same_scalar
+
+abbrev new_rows : List (List V.Scalar) → List (List V.Scalar) → List (List V.Scalar)
+new_rows = fresh same_row
 
 -- the code's test of two rows is that of their plain elements
 pub same_rows : (xs ys : List Scalar) → pointwise scalar.eq xs ys ≡ same_row (map scalar_tree xs) (map scalar_tree ys)
@@ -24,40 +30,38 @@ same_rows (x ∷ xs) (y ∷ ys) =
     ap (λ b. b && pointwise scalar.eq xs ys) (eq_is_scalar x y)
     ∙ ap (λ b. same_scalar (scalar_tree x) (scalar_tree y) && b) (same_rows xs ys)
 
-or_swap : (a b : Bool) → (a || (b || false)) ≡ (b || a)
-or_swap true true = refl
-or_swap true false = refl
-or_swap false true = refl
-or_swap false false = refl
-
-or_rest : (a b c d : Bool) → c ≡ (d || b) → (a || c) ≡ (d || (a || b))
+or_rest : (a b c d : Bool) → c ≡ cond d true b → cond a true c ≡ cond d true (cond a true b)
 or_rest true b c true e = refl
 or_rest true b c false e = refl
 or_rest false b c d e = e
 
-any_last : {X : Type 0} (p : X → Bool) (xs : List X) (x : X) → list_any p (xs ++ x ∷ []) ≡ list_any p (x ∷ xs)
-any_last p [] x = refl
-any_last p (y ∷ ys) x = or_rest (p y) (list_any p ys) (list_any p (ys ++ x ∷ [])) (p x) (any_last p ys x)
+last_member : {X : Type 0} (same : X → X → Bool) (x : X) (xs : List X) (y : X) → has_member same x (xs ++ y ∷ []) ≡ has_member same x (y ∷ xs)
+last_member same x [] y = refl
+last_member same x (z ∷ zs) y = or_rest (same x z) (has_member same x zs) (has_member same x (zs ++ y ∷ [])) (same x y) (last_member same x zs y)
 
-new_rows_same : (s t rs : List (List V.Scalar)) → ((r : List V.Scalar) → list_any (same_row r) s ≡ list_any (same_row r) t) → new_rows s rs ≡ new_rows t rs
+new_rows_same : (s t rs : List (List V.Scalar)) → ((r : List V.Scalar) → has_member same_row r s ≡ has_member same_row r t) → new_rows s rs ≡ new_rows t rs
 new_rows_same s t [] h = refl
 new_rows_same s t (r ∷ rs) h =
     ap (λ b. if b then new_rows s rs else r ∷ new_rows (r ∷ s) rs) (h r)
-    ∙ ap (λ ys. if list_any (same_row r) t then ys else r ∷ new_rows (r ∷ s) rs) (new_rows_same s t rs h)
-    ∙ ap (λ ys. if list_any (same_row r) t then new_rows t rs else r ∷ ys) (new_rows_same (r ∷ s) (r ∷ t) rs (λ q. ap (λ b. same_row q r || b) (h q)))
+    ∙ ap (λ ys. if has_member same_row r t then ys else r ∷ new_rows (r ∷ s) rs) (new_rows_same s t rs h)
+    ∙ ap (λ ys. if has_member same_row r t then new_rows t rs else r ∷ ys) (new_rows_same (r ∷ s) (r ∷ t) rs (λ q. ap (λ b. cond (same_row q r) true b) (h q)))
 
-pub row_seen : (s rs : List (List V.Scalar)) (r : List V.Scalar) → list_any (same_row r) s ≡ true → new_rows s (r ∷ rs) ≡ new_rows s rs
+pub row_seen : (s rs : List (List V.Scalar)) (r : List V.Scalar) → has_member same_row r s ≡ true → new_rows s (r ∷ rs) ≡ new_rows s rs
 row_seen s rs r h = rw h refl
 
-pub row_new : (s rs : List (List V.Scalar)) (r : List V.Scalar) → list_any (same_row r) s ≡ false → new_rows s (r ∷ rs) ≡ r ∷ new_rows (s ++ r ∷ []) rs
-row_new s rs r h = rw h (ap (λ ys. r ∷ ys) (new_rows_same (r ∷ s) (s ++ r ∷ []) rs (λ q. sym (any_last (same_row q) s r))))
+pub row_new : (s rs : List (List V.Scalar)) (r : List V.Scalar) → has_member same_row r s ≡ false → new_rows s (r ∷ rs) ≡ r ∷ new_rows (s ++ r ∷ []) rs
+row_new s rs r h = rw h (ap (λ ys. r ∷ ys) (new_rows_same (r ∷ s) (s ++ r ∷ []) rs (λ q. sym (last_member same_row q s r))))
 
 -- ---- a walk over the rows
 
+any_step : (a b p q : Bool) → a ≡ b → p ≡ q → (a || p) ≡ cond b true q
+any_step a true p q e h = rw e refl
+any_step a false p q e h = rw e h
+
 module _ {T : Type 0} (plain : T → List V.Scalar) (same : T → T → Bool) (exact : (x y : T) → same x y ≡ same_row (plain x) (plain y)) where
-  seen_is : (x : T) (ks : List T) → list_any (same x) ks ≡ list_any (same_row (plain x)) (map plain ks)
+  seen_is : (x : T) (ks : List T) → list_any (same x) ks ≡ has_member same_row (plain x) (map plain ks)
   seen_is x [] = refl
-  seen_is x (k ∷ ks) = ap (λ b. b || list_any (same x) ks) (exact x k) ∙ ap (λ b. same_row (plain x) (plain k) || b) (seen_is x ks)
+  seen_is x (k ∷ ks) = any_step (same x k) (same_row (plain x) (plain k)) (list_any (same x) ks) (has_member same_row (plain x) (map plain ks)) (exact x k) (seen_is x ks)
 
   pub row_added : (f : ℕ → List V.Scalar) (ks after : List T) (x : T) (found : List ℕ) (i n : ℕ) (g : List (List V.Scalar)) → i < n → plain x ≡ f i → list_any (same x) ks ≡ false → after ≡ ks ++ x ∷ []
       → map f found ++ new_rows (map plain ks) (map f (range_with_len i (n - i))) ≡ g
@@ -67,7 +71,7 @@ module _ {T : Type 0} (plain : T → List V.Scalar) (same : T → T → Bool) (e
       let more : n - i ≡ suc m = omega arith in
       let s = map plain ks in
       let rs = map f (range_with_len (i + 1) m) in
-      let unseen : list_any (same_row (f i)) s ≡ false = ap (λ r. list_any (same_row r) s) (sym e) ∙ sym (seen_is x ks) ∙ off in
+      let unseen : has_member same_row (f i) s ≡ false = ap (λ r. has_member same_row r s) (sym e) ∙ sym (seen_is x ks) ∙ off in
       let later : map plain after ≡ s ++ f i ∷ [] = ap (map plain) a ∙ map-append plain ks (x ∷ []) ∙ ap (λ r. s ++ r ∷ []) e in
       ap (λ ys. ys ++ new_rows (map plain after) rs) (map-append f found (i ∷ []))
       ∙ append_assoc (map f found) (f i ∷ []) (new_rows (map plain after) rs)
@@ -83,7 +87,7 @@ module _ {T : Type 0} (plain : T → List V.Scalar) (same : T → T → Bool) (e
       let more : n - i ≡ suc m = omega arith in
       let s = map plain ks in
       let rs = map f (range_with_len (i + 1) m) in
-      let seen : list_any (same_row (f i)) s ≡ true = ap (λ r. list_any (same_row r) s) (sym e) ∙ sym (seen_is x ks) ∙ on in
+      let seen : has_member same_row (f i) s ≡ true = ap (λ r. has_member same_row r s) (sym e) ∙ sym (seen_is x ks) ∙ on in
       ap (λ t. map f found ++ new_rows (map plain t) rs) a
       ∙ ap (λ ys. map f found ++ ys) (sym (row_seen s rs (f i) seen))
       ∙ rw more at k

@@ -1,5 +1,5 @@
 -- The elements of a value of one column.
-use Rattle.std.proofs.Common.{◌≡◌, Option, Some, None, Result, Ok, Err, ℕ, zero, suc, ◌+◌, ◌*◌, ◌-◌, ◌<◌, ◌≤◌, ◌==◌, true, false, length, get_or, refl, ap, sym, ◌∙◌, arith, IsTrue, if◌then◌else◌}
+use Rattle.std.proofs.Common.{◌≡◌, Option, Some, None, Result, Ok, Err, ℕ, zero, suc, ◌+◌, ◌*◌, ◌-◌, ◌<◌, ◌≤◌, ◌==◌, true, false, length, get_or, refl, ap, sym, ◌∙◌, arith, IsTrue, if◌then◌else◌, map}
 use Rattle.std.specs.Option.{option_or}
 use Rattle.std.proofs.lemmas.Bool.{and_parts, eqb-true}
 use Rattle.std.proofs.lemmas.List.FromFn.{fill_by_all}
@@ -7,12 +7,13 @@ use Rattle.gl_calculus.specs.Values.ErrKind.{ErrKind}
 use Rattle.gl_calculus.specs.Values.Value.{Scalar, Value, One, Array, items, elements}
 use Rattle.gl_calculus.specs.Values.Lift.{item, shape, rows}
 use Rattle.gl_calculus.specs.Values.Operators.{agrees}
-use Rattle.gl_calculus.specs.Values.Functions.{is_column_beside, looked_up, first_fault, truth_fault, no_fault, no_error, some_rows, kept_rows, filter_rows}
+use Rattle.gl_calculus.specs.Values.Functions.{is_column_beside, looked_up, first_fault, truth_fault, no_fault, no_error, some_rows, filter_rows, keeps}
 use Rattle.gl_value.specs.declared.ErrKind as Code
 use Rattle.gl_arrays.specs.Answers.{continued}
 use Rattle.gl_calculus.specs.Evaluation.Sound.{is_sound_value}
 use Rattle.gl_arrays.specs.Parts.{column_from, are_columns}
 use Rattle.gl_arrays.proofs.Tables.{count, item_in}
+use Rattle.std.specs.List.{items_where_true}
 
 pub is_column : (u v : Value) → IsTrue (is_column_beside u v) → ((shape u).cols ≡ 1) × ((shape u).rows ≡ (shape v).rows)
 is_column u v h =
@@ -81,6 +82,6 @@ fault_found v i n m k h z fault e =
 
 -- the tests of FILTER, the last of which looks for faults
 pub filter_tests : (r : Result (Unit {0}) Code.ErrKind) (v keep : Value) → Ok v ≡ no_error v → Ok keep ≡ no_error keep → is_column_beside keep v ≡ true
-    → continued (λ u. Ok u) r ≡ no_fault (first_fault truth_fault (elements keep)) → continued (λ u. some_rows ErrKind.Na (kept_rows (elements keep) (rows v))) r ≡ filter_rows v keep
+    → continued (λ u. Ok u) r ≡ no_fault (first_fault truth_fault (elements keep)) → continued (λ u. some_rows ErrKind.Na (items_where_true (map keeps (elements keep)) (rows v))) r ≡ filter_rows v keep
 filter_tests (Ok u) v keep e f on g = rw (← e, ← f, on, ← g) refl
 filter_tests (Err k) v keep e f on g = rw (← e, ← f, on, ← g) refl

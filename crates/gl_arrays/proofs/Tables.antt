@@ -9,11 +9,12 @@ use Rattle.std.proofs.lemmas.List.Folds.{flat_map-map}
 use Rattle.gl_calculus.specs.Grid.Grid.{Size, size}
 use Rattle.gl_calculus.specs.Values.ErrKind.{ErrKind}
 use Rattle.gl_calculus.specs.Values.Value.{Scalar, Scalars, Value, One, Array, items, scalars}
-use Rattle.gl_calculus.specs.Values.Lift.{item, shape, is_small, table, table_if, cut, rows, width, rows_if, from_rows}
+use Rattle.gl_calculus.specs.Values.Lift.{item, shape, is_small, table, cut, rows, width, from_rows}
 use Rattle.gl_calculus.specs.Values.Functions.{some_rows, value_or_error, when}
 use Rattle.gl_calculus.specs.Evaluation.Sound.{is_size, are_sound, is_sound_value}
 use Rattle.gl_arrays.specs.Parts.{row}
 use Rattle.gl_arrays.proofs.Ranges.{flat_map_same, map_same, map_shift, get_or_rows, count_rows}
+use Rattle.gl_calculus.proofs.Tables.{table_if, rows_if}
 
 pub size_of : (m n : ℕ) (s : Size) → m ≡ s.rows → n ≡ s.cols → size m n ≡ s
 size_of m n s e f = λ i. record { rows = e i; cols = f i }

@@ -6,7 +6,7 @@ use Rattle.std.proofs.lemmas.List.FromFn.{length-map-range_with_len}
 use Rattle.gl_calculus.specs.Values.ErrKind.{ErrKind}
 use Rattle.gl_calculus.specs.Values.Value.{Scalar, Value}
 use Rattle.gl_calculus.specs.Values.Lift.{item, shape, rows}
-use Rattle.gl_calculus.specs.Values.Functions.{kept, left_over, kept_part, left_over_part}
+use Rattle.gl_calculus.specs.Values.Functions.{kept, left_over}
 use Rattle.gl_calculus.specs.Evaluation.Sound.{is_sound_value}
 use Rattle.gl_arrays.specs.Parts.{row, window, kept_start, kept_count, left_start, left_count, start_of, count_of, rule_of}
 use Rattle.gl_arrays.specs.declared.parts.Part.{Part}
@@ -68,18 +68,18 @@ windows v p q a m b n h e f =
     )
 
 kept_window : (v : Value) (m n : ℤ) (r c a k b l : ℕ) → IsTrue (is_sound_value v) → r ≡ (shape v).rows → c ≡ (shape v).cols → a ≡ kept_start m r → k ≡ kept_count m r → b ≡ kept_start n c → l ≡ kept_count n c
-    → window v a k b l ≡ kept_part m n (rows v)
+    → window v a k b l ≡ map (kept n) (kept m (rows v))
 kept_window v m n r c a k b l h er ec ea ek eb el =
     rw (ea, ek, eb, el, er, ec)
     (windows v (kept m) (kept n) (kept_start m (shape v).rows) (kept_count m (shape v).rows) (kept_start n (shape v).cols) (kept_count n (shape v).cols) h (kept_is (row v) m (shape v).rows) (λ g. kept_is g n (shape v).cols))
 
 left_window : (v : Value) (m n : ℤ) (r c a k b l : ℕ) → IsTrue (is_sound_value v) → r ≡ (shape v).rows → c ≡ (shape v).cols → a ≡ left_start m r → k ≡ left_count m r → b ≡ left_start n c → l ≡ left_count n c
-    → window v a k b l ≡ left_over_part m n (rows v)
+    → window v a k b l ≡ map (left_over n) (left_over m (rows v))
 left_window v m n r c a k b l h er ec ea ek eb el =
     rw (ea, ek, eb, el, er, ec)
     (windows v (left_over m) (left_over n) (left_start m (shape v).rows) (left_count m (shape v).rows) (left_start n (shape v).cols) (left_count n (shape v).cols) h (left_is (row v) m (shape v).rows) (λ g. left_is g n (shape v).cols))
 
 pub part_window : (part : Part) (v : Value) (m n : ℤ) (r c a k b l : ℕ) → IsTrue (is_sound_value v) → r ≡ (shape v).rows → c ≡ (shape v).cols → a ≡ start_of part m r → k ≡ count_of part m r → b ≡ start_of part n c → l ≡ count_of part n c
-    → window v a k b l ≡ rule_of part m n (rows v)
+    → window v a k b l ≡ map (rule_of part n) (rule_of part m (rows v))
 part_window Kept = kept_window
 part_window LeftOver = left_window

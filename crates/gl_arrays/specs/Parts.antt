@@ -4,7 +4,7 @@ use Rattle.std.specs.List.{range_with_len}
 use Rattle.gl_calculus.specs.Values.ErrKind.{ErrKind}
 use Rattle.gl_calculus.specs.Values.Value.{Scalar, Int, Value}
 use Rattle.gl_calculus.specs.Values.Lift.{item, shape}
-use Rattle.gl_calculus.specs.Values.Functions.{Try, when, is_column_beside, keeps, kept_part, left_over_part, part_of, value_or_error}
+use Rattle.gl_calculus.specs.Values.Functions.{Try, when, is_column_beside, keeps, part_of, value_or_error, kept, left_over}
 use Rattle.gl_plane.specs.declared.NoMemory.{NoMemory}
 use Rattle.gl_value.specs.View.{value_tree}
 use Rattle.gl_value.specs.declared.Value as Code
@@ -59,13 +59,13 @@ abbrev pub count_of : Part → ℤ → ℕ → ℕ
 count_of Kept n extent = kept_count n extent
 count_of LeftOver n extent = left_count n extent
 
-abbrev pub rule_of : Part → ℤ → ℤ → List (List Scalar) → List (List Scalar)
-rule_of Kept m n rows = kept_part m n rows
-rule_of LeftOver m n rows = left_over_part m n rows
+abbrev pub rule_of : {X : Type 0} → Part → ℤ → List X → List X
+rule_of Kept n xs = kept n xs
+rule_of LeftOver n xs = left_over n xs
 
--- the answer is what a rule makes of the rows of the value by two numbers
-abbrev pub IsPart : Result Code.Value NoMemory → (ℤ → ℤ → List (List Scalar) → List (List Scalar)) → Code.Value → Code.Value → Code.Value → Type 0
-IsPart r rule v m n = IfOk r (λ w. value_tree w ≡ value_or_error (part_of rule (value_tree v) (value_tree m) (value_tree n)))
+-- the answer is a part of the rows of the value, and of each of them a part, by two numbers
+abbrev pub IsPart : Result Code.Value NoMemory → (ℤ → List (List Scalar) → List (List Scalar)) → (ℤ → List Scalar → List Scalar) → Code.Value → Code.Value → Code.Value → Type 0
+IsPart r some_of part v m n = IfOk r (λ w. value_tree w ≡ value_or_error (part_of some_of part (value_tree v) (value_tree m) (value_tree n)))
 
 -- m rows from row a on of n columns from column b on
 abbrev pub window : Value → ℕ → ℕ → ℕ → ℕ → List (List Scalar)

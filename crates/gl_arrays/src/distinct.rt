@@ -1,11 +1,13 @@
 //! Rows without those that stand before.
-ghost use Rattle.std.specs.Prelude.{◌≡◌, ◌≤◌, [], IsTrue, IfOk, vec_len, map};
+ghost use Rattle.std.specs.Prelude.{◌≡◌, ◌≤◌, IsTrue, IfOk, vec_len, map};
 ghost use Rattle.gl_calculus.specs.Grid.Limits.{max_cells};
 ghost use Rattle.gl_calculus.specs.Values.Lift.{from_rows};
 ghost use Rattle.gl_calculus.specs.Evaluation.Sound.{is_sound_value};
 ghost use Rattle.gl_calculus.specs.Values.Lift as L;
 ghost use Rattle.gl_calculus.specs.Values.Functions as F;
 ghost use Rattle.gl_value.specs.View.{scalar_tree, value_tree};
+ghost use lib.Pointwise.{pointwise};
+ghost use Rattle.gl_calculus.specs.{Computation.Lists.distinct, Values.Same.same_scalar};
 ghost use Rattle.gl_arrays.specs.Parts.{row};
 
 use crate::elements::item;
@@ -35,7 +37,8 @@ fn new_rows(alloc: Global, v: &Value) -> Result<Vec<u16>, NoMemory>
     ensures few { IfOk result (λ ks. vec_len ks ≤ max_cells) }
     ensures some { IfOk result (λ ks. 1 ≤ vec_len ks) }
     ensures rows { IfOk result (λ ks.
-        map (row (value_tree v.now)) ks.items ≡ F.new_rows [] (L.rows (value_tree v.now))) }
+        map (row (value_tree v.now)) ks.items
+        ≡ distinct (pointwise same_scalar) (L.rows (value_tree v.now))) }
 {
     let rows = extents(v).0;
     let mut seen = IndexSet::new(alloc);
@@ -53,7 +56,8 @@ fn distinct(alloc: Global, v: &Value) -> Result<Value, NoMemory>
     requires { IsTrue (is_sound_value (value_tree v.now)) }
     ensures sound { IfOk result (λ r. IsTrue (is_sound_value (value_tree r))) }
     ensures value { IfOk result (λ r.
-        value_tree r ≡ from_rows (F.new_rows [] (L.rows (value_tree v.now)))) }
+        value_tree r
+        ≡ from_rows (distinct (pointwise same_scalar) (L.rows (value_tree v.now)))) }
 {
     let rows = new_rows(alloc, v)?;
     listed_rows(alloc, v, &rows)

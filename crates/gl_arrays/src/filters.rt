@@ -1,6 +1,6 @@
 //! Rows that a column of truths keeps.
-ghost use Rattle.std.specs.Prelude.{◌≡◌, ◌≤◌, IsTrue, IfOk, OnOk, Ok, vec_len, option_map, filter};
-ghost use Rattle.std.specs.List.{range_with_len};
+ghost use Rattle.std.specs.Prelude.{◌≡◌, ◌≤◌, IsTrue, IfOk, OnOk, Ok, vec_len, option_map, filter, map};
+ghost use Rattle.std.specs.List.{items_where_true, range_with_len};
 ghost use Rattle.gl_calculus.specs.Grid.Limits.{max_cells};
 ghost use Rattle.gl_calculus.specs.Values.Value.{elements};
 ghost use Rattle.gl_calculus.specs.Values.Lift.{shape};
@@ -89,7 +89,8 @@ fn can_filter(v: &Value, keep: &Value) -> Result<(), ErrKind>
     ensures value { continued
         (λ u.
         F.some_rows E.ErrKind.Na
-        (F.kept_rows (elements (value_tree keep.now)) (L.rows (value_tree v.now)))) result
+        (items_where_true
+        (map F.keeps (elements (value_tree keep.now))) (L.rows (value_tree v.now)))) result
         ≡ F.filter_rows (value_tree v.now) (value_tree keep.now) }
 {
     no_error(v)?;
@@ -110,7 +111,8 @@ fn filtered(alloc: Global, v: &Value, keep: &Value) -> Result<Value, NoMemory>
         value_tree r
         ≡ F.value_or_error
         (F.some_rows E.ErrKind.Na
-        (F.kept_rows (elements (value_tree keep.now)) (L.rows (value_tree v.now))))) }
+        (items_where_true
+        (map F.keeps (elements (value_tree keep.now))) (L.rows (value_tree v.now))))) }
 {
     let kept = kept_rows(alloc, keep)?;
     if kept.len() == 0 {

@@ -117,7 +117,8 @@ fn spans(part: Part, v: &Value, m: &Value, n: &Value) -> Result<(Span, Span), Er
         (λ s.
         F.some_rows E.ErrKind.Value
         (window (value_tree v.now) s.0.start s.0.count s.1.start s.1.count)) result
-        ≡ F.part_of (rule_of part) (value_tree v.now) (value_tree m.now) (value_tree n.now) }
+        ≡ F.part_of (rule_of part) (rule_of part)
+        (value_tree v.now) (value_tree m.now) (value_tree n.now) }
 {
     no_error(v)?;
     let m = number(m)?;
@@ -130,7 +131,7 @@ fn spans(part: Part, v: &Value, m: &Value, n: &Value) -> Result<(Span, Span), Er
 fn part_of(alloc: Global, part: Part, v: &Value, m: &Value, n: &Value) -> Result<Value, NoMemory>
     requires { IsTrue (is_sound_value (value_tree v.now)) }
     ensures sound { IfOk result (λ r. IsTrue (is_sound_value (value_tree r))) }
-    ensures value { IsPart result (rule_of part) v.now m.now n.now }
+    ensures value { IsPart result (rule_of part) (rule_of part) v.now m.now n.now }
 {
     match spans(part, v, m, n) {
         Ok((rows, cols)) => window(alloc, v, rows, cols),
@@ -146,7 +147,7 @@ fn part_of(alloc: Global, part: Part, v: &Value, m: &Value, n: &Value) -> Result
 pub fn take(alloc: Global, v: &Value, m: &Value, n: &Value) -> Result<Value, NoMemory>
     requires value { IsTrue (is_sound_value (value_tree v.now)) }
     ensures sound { IfOk result (λ r. IsTrue (is_sound_value (value_tree r))) }
-    ensures value { IsPart result F.kept_part v.now m.now n.now }
+    ensures value { IsPart result F.kept F.kept v.now m.now n.now }
 {
     part_of(alloc, Part::Kept, v, m, n)
 }
@@ -159,7 +160,7 @@ pub fn take(alloc: Global, v: &Value, m: &Value, n: &Value) -> Result<Value, NoM
 pub fn drop_part(alloc: Global, v: &Value, m: &Value, n: &Value) -> Result<Value, NoMemory>
     requires value { IsTrue (is_sound_value (value_tree v.now)) }
     ensures sound { IfOk result (λ r. IsTrue (is_sound_value (value_tree r))) }
-    ensures value { IsPart result F.left_over_part v.now m.now n.now }
+    ensures value { IsPart result F.left_over F.left_over v.now m.now n.now }
 {
     part_of(alloc, Part::LeftOver, v, m, n)
 }

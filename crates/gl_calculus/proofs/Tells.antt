@@ -1,5 +1,5 @@
 -- The differences of two oracles are told exactly.
-use Rattle.std.proofs.Common.{◌≡◌, ◌⊎◌, inl, inr, ◌+◌, ◌-◌, ◌≤◌, ◌<◌, ◌==◌, List, [], ◌∷◌, ◌++◌, map, Bool, true, false, ◌&&◌, ◌||◌, not, Option, Some, None, if◌then◌else◌, refl, sym, ◌∙◌, subst, ap, arith}
+use Rattle.std.proofs.Common.{◌≡◌, ◌⊎◌, inl, inr, ◌+◌, ◌-◌, ◌≤◌, ◌<◌, ◌==◌, List, [], ◌∷◌, ◌++◌, map, Bool, true, false, ◌&&◌, ◌||◌, not, Option, Some, None, if◌then◌else◌, refl, sym, ◌∙◌, subst, ap, arith, option_map}
 use Rattle.std.specs.Prelude.{nat_lt, nat_le, flat_map}
 use Rattle.std.specs.List.{list_any}
 use Rattle.std.proofs.lemmas.Bool.{cases_order, eq-eqb, leb-true, le-leb, lt-ltb}
@@ -8,7 +8,7 @@ use Rattle.gl_calculus.proofs.Members.{either, left, right}
 use Rattle.gl_calculus.specs.Grid.Grid.{Addr, addr, same_addr, AreInOrder, Range, range, single, area, covers, meets, Size}
 use Rattle.gl_calculus.specs.Values.Value.{Permit, Entry, Oracle}
 use Rattle.gl_calculus.specs.Values.Same.{is_permitted, same_permit}
-use Rattle.gl_calculus.specs.Evaluation.Oracle.{IsInOrder, entry_at, permit_of, status, Cover, cover, spills_over, area_of}
+use Rattle.gl_calculus.specs.Evaluation.Oracle.{IsInOrder, entry_at, status, Cover, cover, spills_over, area_of}
 use Rattle.gl_calculus.specs.Calculation.Memory.{same_status, same_cover, differs_at}
 use Rattle.gl_calculus.proofs.Tests.{both, and_true, addr_exact, addr_same, bool_same, status_exact, cover_exact}
 use Rattle.gl_calculus.proofs.Grants.{Before, before_of, before_trans, not_same, clash}
@@ -323,8 +323,8 @@ module _ (w v : Oracle) (p : Addr) (ow : IsInOrder w) (ov : IsInOrder v) (aw : A
     where
       at_root : p ≡ x.root → Differs w v p
       at_root q = inl (λ h.
-          let a : status w p ≡ Some x.permit = ap (status w) q ∙ ap permit_of (entry_found w ow x m) in
-          let b : status v p ≡ None = ap (status v) q ∙ ap permit_of e in
+          let a : status w p ≡ Some x.permit = ap (status w) q ∙ ap (option_map (λ (z : Entry). z.permit)) (entry_found w ow x m) in
+          let b : status v p ≡ None = ap (status v) q ∙ ap (option_map (λ (z : Entry). z.permit)) e in
           let c : Some x.permit ≡ None = sym a ∙ h ∙ b in
           cc c)
 
@@ -387,8 +387,8 @@ module _ (w v : Oracle) (p : Addr) (ow : IsInOrder w) (ov : IsInOrder v) (aw : A
     told_status false s l =
         let q = single_only x.root p (one_any (covers (single x.root) p) l) in
         inl (λ h.
-        let a : status w p ≡ Some x.permit = ap (status w) q ∙ ap permit_of (entry_found w ow x m) in
-        let b : status v p ≡ Some y.permit = ap (status v) q ∙ ap permit_of e in
+        let a : status w p ≡ Some x.permit = ap (status w) q ∙ ap (option_map (λ (z : Entry). z.permit)) (entry_found w ow x m) in
+        let b : status v p ≡ Some y.permit = ap (status v) q ∙ ap (option_map (λ (z : Entry). z.permit)) e in
         let c : Some y.permit ≡ Some x.permit = sym b ∙ sym h ∙ a in
         let d : y.permit ≡ x.permit = cc c in
         clash (subst (λ k. same_permit y.permit k ≡ true) d (bool_same (is_permitted y.permit))) s)
@@ -439,7 +439,7 @@ module _ (w v : Oracle) (p : Addr) (ow : IsInOrder w) (ov : IsInOrder v) (aw : A
       right (covers (single x.root) p) (listed p (if spills x then area_of x ∷ [] else [])) (ap (λ b. listed p (if b then area_of x ∷ [] else [])) a ∙ one_is (covers (area_of x) p) c)
 
   -- another status
-  status_listed : (x y : Option Entry) → entry_at w p ≡ x → entry_at v p ≡ y → same_status (permit_of y) (permit_of x) ≡ false → listed p (differences w v) ≡ true
+  status_listed : (x y : Option Entry) → entry_at w p ≡ x → entry_at v p ≡ y → same_status (option_map (λ (z : Entry). z.permit) y) (option_map (λ (z : Entry). z.permit) x) ≡ false → listed p (differences w v) ≡ true
   status_listed None None d e f = absurd (cc f)
   status_listed (Some x) None d e f =
       let (m, q) = entry_there w p x d in

@@ -1,11 +1,19 @@
 -- The forecast of a sheet: whether its calculation surely settles, told from its formulas alone.
-use Rattle.std.specs.Prelude.{◌≡◌, ◌⊎◌, ◌≤◌, ℕ, zero, suc, ◌+◌, max, min, nat_lt, nat_le, pos, Bool, true, false, ◌&&◌, IsTrue, IsFalse, List, [], ◌∷◌, ◌++◌, map, flat_map, filter, Option, Some, None, option_map, bytes_eq, if◌then◌else◌}
+use Rattle.std.specs.Prelude.{◌≡◌, ◌⊎◌, ◌≤◌, ℕ, zero, suc, ◌+◌, max, min, nat_lt, nat_le, pos, Bool}
+use Rattle.std.specs.Prelude.{true, false, ◌&&◌, IsTrue, IsFalse, List, [], ◌∷◌, ◌++◌, map}
+use Rattle.std.specs.Prelude.{flat_map, filter, Option, Some, None, option_map, bytes_eq}
+use Rattle.std.specs.Prelude.{if◌then◌else◌}
 use Rattle.std.specs.List.{list_any}
 use Rattle.std.specs.Option.{option_to_list}
 use Rattle.gl_calculus.specs.Computation.Lists.{Member}
 use Rattle.gl_calculus.specs.Grid.Limits.{max_cells}
-use Rattle.gl_calculus.specs.Grid.Grid.{Addr, is_before, Range, single, Size, size, extents, area, addresses, covers, meets}
-use Rattle.gl_calculus.specs.Formulas.Formula.{Formula, Formulas, Operands, Fun, Content, Const, Form, Cells, content, formula_addresses}
+use Rattle.gl_calculus.specs.Grid.Grid.{Addr, is_before, Range, single, Size, size, extents, area}
+use Rattle.gl_calculus.specs.Grid.Grid.{addresses, covers, meets}
+use Rattle.gl_calculus.specs.Formulas.Formula.{Formula, Formulas, Operands, Fun, Content, Form}
+use Rattle.gl_calculus.specs.Formulas.Formula.{Cells, content, formula_addresses, Sum, Count, Min}
+use Rattle.gl_calculus.specs.Formulas.Formula.{Max, And, Or, Rows, Columns, Index, Lookup, Na, This}
+use Rattle.gl_calculus.specs.Formulas.Formula.{Sequence, Transpose, Unique, Take, Drop, Filter}
+use Rattle.gl_calculus.specs.Formulas.Formula.{HStack, VStack, Sheet, Update, View, G}
 use Rattle.gl_calculus.specs.Formulas.Formula as F
 use Rattle.gl_calculus.specs.Values.Lift.{hull}
 
@@ -16,40 +24,41 @@ abbrev pub Shape : Type 0
 Shape = Option Size
 
 -- the extents of a shape, where a scalar counts as one row and one column
-abbrev pub full : Shape → Size
-full None = size 1 1
-full (Some s) = s
+abbrev pub size_of : Shape → Size
+size_of None = size 1 1
+size_of (Some s) = s
 
--- extents above the cells that an array may have are taken as these, since no array has more
-abbrev pub cut : Size → Size
-cut s = size (min s.rows max_cells) (min s.cols max_cells)
+-- the extents, none of them above the cells that an array may have, since no array has more
+abbrev pub limited : Size → Size
+limited s = size (min s.rows max_cells) (min s.cols max_cells)
 
 -- extents that no array exceeds
 abbrev pub any_size : Size
 any_size = size max_cells max_cells
 
 -- the greater extents of two shapes; none where both have none
-abbrev pub joined : Shape → Shape → Shape
-joined None None = None
-joined s t = Some (hull (full s) (full t))
+abbrev pub greater_shape : Shape → Shape → Shape
+greater_shape None None = None
+greater_shape s t = Some (hull (size_of s) (size_of t))
 
 -- the greatest extents of some shapes; none where all have none
-abbrev pub all_joined : List Shape → Shape
-all_joined [] = None
-all_joined (s ∷ ss) = joined s (all_joined ss)
+abbrev pub greatest_shape : List Shape → Shape
+greatest_shape [] = None
+greatest_shape (s ∷ ss) = greater_shape s (greatest_shape ss)
 
 -- rows and columns exchanged
 abbrev pub flipped : Size → Size
 flipped s = size s.cols s.rows
 
--- the extents of some shapes one under the other: the sum of the rows, the greatest columns
-abbrev pub under : List Shape → Size
-under [] = size 0 0
-under (s ∷ ss) = size ((full s).rows + (under ss).rows) (max (full s).cols (under ss).cols)
+-- the extents of VSTACK: the sum of the rows, the greatest columns
+abbrev pub vstack_size : List Shape → Size
+vstack_size [] = size 0 0
+vstack_size (s ∷ ss) =
+    size ((size_of s).rows + (vstack_size ss).rows) (max (size_of s).cols (vstack_size ss).cols)
 
--- the extents of some shapes side by side: the greatest rows, the sum of the columns
-abbrev pub beside : List Shape → Size
-beside ss = flipped (under (map (option_map flipped) ss))
+-- the extents of HSTACK: the greatest rows, the sum of the columns
+abbrev pub hstack_size : List Shape → Size
+hstack_size ss = flipped (vstack_size (map (option_map flipped) ss))
 
 -- the extent that a formula is where it is an integer as written, from 1 to the cells of an array
 abbrev pub written_extent : Formula → Option ℕ
@@ -63,32 +72,36 @@ written_size m n = any_size
 
 -- the extents of SEQUENCE by its arguments: those written, or any
 abbrev pub sequence_size : Formulas → Size
-sequence_size (F.Formulas.formula_and m (F.Formulas.formula_and n F.Formulas.no_formula)) = written_size (written_extent m) (written_extent n)
+sequence_size (F.Formulas.formula_and m (F.Formulas.formula_and n F.Formulas.no_formula)) =
+    written_size (written_extent m) (written_extent n)
 sequence_size fs = any_size
 
 -- the shape of a call, by its arguments as they are written and by their shapes
 abbrev pub call_shape : Fun → Formulas → List Shape → Shape
-call_shape F.Fun.Sum fs ss = None
-call_shape F.Fun.Count fs ss = None
-call_shape F.Fun.Min fs ss = None
-call_shape F.Fun.Max fs ss = None
-call_shape F.Fun.And fs ss = None
-call_shape F.Fun.Or fs ss = None
-call_shape F.Fun.Rows fs ss = None
-call_shape F.Fun.Columns fs ss = None
-call_shape F.Fun.Index fs ss = None
-call_shape F.Fun.Lookup fs ss = None
-call_shape F.Fun.Na fs ss = None
-call_shape F.Fun.This fs ss = None
-call_shape F.Fun.Sequence fs ss = Some (sequence_size fs)
-call_shape F.Fun.Transpose fs (s ∷ ss) = option_map flipped s
-call_shape F.Fun.Unique fs (s ∷ ss) = s
-call_shape F.Fun.Take fs (s ∷ ss) = Some (full s)
-call_shape F.Fun.Drop fs (s ∷ ss) = Some (full s)
-call_shape F.Fun.Filter fs (s ∷ ss) = Some (full s)
-call_shape F.Fun.HStack fs ss = Some (cut (beside ss))
-call_shape F.Fun.VStack fs ss = Some (cut (under ss))
-call_shape f fs ss = all_joined ss
+-- a scalar, whatever the arguments are
+call_shape Sum fs ss = None
+call_shape Count fs ss = None
+call_shape Min fs ss = None
+call_shape Max fs ss = None
+call_shape And fs ss = None
+call_shape Or fs ss = None
+call_shape Rows fs ss = None
+call_shape Columns fs ss = None
+call_shape Index fs ss = None
+call_shape Lookup fs ss = None
+call_shape Na fs ss = None
+call_shape This fs ss = None
+-- by a rule of its own
+call_shape Sequence fs ss = Some (sequence_size fs)
+call_shape Transpose fs (s ∷ ss) = option_map flipped s
+call_shape Unique fs (s ∷ ss) = s
+call_shape Take fs (s ∷ ss) = Some (size_of s)
+call_shape Drop fs (s ∷ ss) = Some (size_of s)
+call_shape Filter fs (s ∷ ss) = Some (size_of s)
+call_shape HStack fs ss = Some (limited (hstack_size ss))
+call_shape VStack fs ss = Some (limited (vstack_size ss))
+-- at most the greatest of the arguments
+call_shape f fs ss = greatest_shape ss
 
 -- the variables that are bound, each with its shape, the innermost first
 abbrev pub Shapes : Type 0
@@ -108,11 +121,11 @@ module _ (spilled : Addr → Shape) where
     shape bs (F.Formula.Bool b) = None
     shape bs (F.Formula.At a) = None
     shape bs (F.Formula.Spill a) = spilled a
-    shape bs (F.Formula.Area r) = Some (cut (extents r))
+    shape bs (F.Formula.Area r) = Some (limited (extents r))
     shape bs (F.Formula.Var name) = bound_shape bs name
     shape bs (F.Formula.Neg f) = shape bs f
-    shape bs (F.Formula.Chain level f rest) = joined (shape bs f) (all_joined (operand_shapes bs rest))
-    shape bs (F.Formula.Compare op f g) = joined (shape bs f) (shape bs g)
+    shape bs (F.Formula.Chain level f rest) = greatest_shape (shape bs f ∷ operand_shapes bs rest)
+    shape bs (F.Formula.Compare op f g) = greater_shape (shape bs f) (shape bs g)
     shape bs (F.Formula.Call f xs) = call_shape f xs (shapes bs xs)
     shape bs (F.Formula.Let name f body) = shape ((name, shape bs f) ∷ bs) body
 
@@ -208,17 +221,16 @@ module _ (S : Cells) where
   abbrev pub covering : Addr → List Addr
   covering a = filter (has_box (λ b. covers b a)) (formula_addresses S)
 
-  -- what the value of an address with this content depends on: the formula there, or, without
-  -- content, what may spill over it
-  abbrev pub address_nodes : Addr → Option Content → List Node
-  address_nodes a (Some (Form f)) = cell_nodes a
-  address_nodes a (Some (Const x)) = []
-  address_nodes a None = flat_map cell_nodes (covering a)
-
   -- what `a#` depends on, by the content of the address: nothing without a formula
   abbrev pub spill_nodes : Addr → Option Content → List Node
   spill_nodes a (Some (Form f)) = cell_nodes a
   spill_nodes a c = []
+
+  -- what the value of an address with this content depends on: the formula there, or, without
+  -- content, what may spill over it
+  abbrev pub address_nodes : Addr → Option Content → List Node
+  address_nodes a None = flat_map cell_nodes (covering a)
+  address_nodes a c = spill_nodes a c
 
   -- what a piece of a formula depends on
   abbrev pub piece_nodes : Piece → List Node
@@ -239,7 +251,8 @@ module _ (S : Cells) where
   -- cell and on the entries of the rivals
   abbrev pub dependences : Node → List Node
   dependences (Value a) = flat_map piece_nodes (content_pieces (content S a))
-  dependences (Entry a) = Value a ∷ flat_map (λ r. map Entry (rivals a r)) (option_to_list (box S a))
+  dependences (Entry a) =
+      Value a ∷ flat_map (λ r. map Entry (rivals a r)) (option_to_list (box S a))
 
   -- the first node depends on the second by one step or more
   pub data Leads : Node → Node → Type 0 where
@@ -262,17 +275,12 @@ module _ (S : Cells) where
 
 -- ---- the forecast
 
--- SHEET, UPDATE, VIEW or G
-abbrev pub makes_sheets : Fun → Bool
-makes_sheets F.Fun.Sheet = true
-makes_sheets F.Fun.Update = true
-makes_sheets F.Fun.View = true
-makes_sheets F.Fun.G = true
-makes_sheets f = false
-
--- a piece that is a call of one of these four
+-- a piece that is a call of SHEET, UPDATE, VIEW or G
 abbrev pub piece_makes : Piece → Bool
-piece_makes (Calls f) = makes_sheets f
+piece_makes (Calls Sheet) = true
+piece_makes (Calls Update) = true
+piece_makes (Calls View) = true
+piece_makes (Calls G) = true
 piece_makes p = false
 
 -- the address has a formula that calls one of these four
@@ -291,14 +299,11 @@ pub data First (P : Addr → Type 0) : List Addr → Addr → Type 0 where
   behind : {a b : Addr} {rest : List Addr} → (P b → ⊥) → First P rest a → First P (b ∷ rest) a
 
 module _ (S : Cells) where
-  -- the same, as a property
-  abbrev pub SomeUsesSheets : Addr → Type 0
-  SomeUsesSheets a = IsTrue (uses_sheets S a)
-
   -- the forecast of a sheet: unknown where some formula makes sheets; else a circle where some
   -- node depends on itself; else yes
   pub data IsForecast : Forecast → Type 0 where
-    unknown : {a : Addr} → First SomeUsesSheets (formula_addresses S) a → IsForecast (Unknown a)
+    unknown : {a : Addr} → First (λ a. IsTrue (uses_sheets S a)) (formula_addresses S) a →
+        IsForecast (Unknown a)
     circle : {a : Addr} → IsFalse (list_any (uses_sheets S) (formula_addresses S)) →
         First (IsInCircle S) (formula_addresses S) a → IsForecast (Circle a)
     yes : {h : ℕ} → IsFalse (list_any (uses_sheets S) (formula_addresses S)) →

@@ -7,13 +7,14 @@ use Rattle.gl_calculus.specs.Grid.Grid.{Addr, same_addr, Range, area, addresses,
 use Rattle.gl_calculus.specs.Values.Value.{Permitted, Refused, Oracle, SheetValue, In, region}
 use Rattle.gl_calculus.specs.Formulas.Formula.{Content, Cells, content}
 use Rattle.gl_calculus.specs.Evaluation.Oracle.{Sizes, is_free, grant_beside, grant}
-use Rattle.gl_calculus.specs.Evaluation.Facts.{Fact, fact, facts, find_fact, or_nothing, fact_at}
+use Rattle.gl_calculus.specs.Evaluation.Facts.{Fact, fact, facts, find_fact, fact_at}
 use Rattle.gl_calculus.specs.Evaluation.Reference.{Held, own_content}
 use Rattle.gl_calculus.specs.Evaluation.Evaluation.{held_by, next_in, takes_a_round, copy_budget}
 use Rattle.gl_calculus.proofs.Tests.{addr_exact, addr_same}
 use Rattle.gl_demand.specs.Blocks.{has_content_in}
 use Rattle.gl_demand.specs.Places.{filled_places}
 use Rattle.gl_demand.proofs.Firsts.{covered_member}
+use Rattle.std.specs.Prelude.{unwrap_or}
 
 -- ---- permits depend on which addresses have content
 
@@ -73,8 +74,8 @@ module _ (S : Cells) (w : Oracle) where
         none c = rw e refl
 
     held_at_fact : (a : Addr) (o : Option Fact) → (o ≡ Some (fact S w a)) ⊎ ((o ≡ None) × (Member a (addresses (region s)) → ⊥)) → find_fact (facts S w (region s)) a ≡ o → is_some (held_by s (fact_at (facts S w (region s)) a)) ≡ has_content_in S s a
-    held_at_fact a o (inl h) e = ap (λ p. is_some (held_by s (or_nothing a p))) (e ∙ h)
-    held_at_fact a o (inr (h, n)) e = ap (λ p. is_some (held_by s (or_nothing a p))) (e ∙ h) ∙ (outside (covers (region s) a) a (record { address = a; content = None; status = None; cover = None }) refl (λ t. n (covered_member (region s) a t)) refl)
+    held_at_fact a o (inl h) e = ap (λ (p : Option Fact). is_some (held_by s (unwrap_or p (record { address = a; content = None; status = None; cover = None })))) (e ∙ h)
+    held_at_fact a o (inr (h, n)) e = ap (λ (p : Option Fact). is_some (held_by s (unwrap_or p (record { address = a; content = None; status = None; cover = None })))) (e ∙ h) ∙ (outside (covers (region s) a) a (record { address = a; content = None; status = None; cover = None }) refl (λ t. n (covered_member (region s) a t)) refl)
 
     pub content_by_facts : (a : Addr) → is_some (held_by s (fact_at (facts S w (region s)) a)) ≡ has_content_in S s a
     content_by_facts a = held_at_fact a (find_fact (facts S w (region s)) a) (fact_found (addresses (region s)) a) refl

@@ -5,7 +5,7 @@ use Rattle.std.specs.declared.rc.RcStr.{RcStr}
 use Rattle.std.specs.declared.alloc.Global.{Global}
 use Rattle.gl_calculus.specs.Grid.Grid.{Addr, Size}
 use Rattle.gl_calculus.specs.Formulas.Formula.{Cells, content, formula_addresses}
-use Rattle.gl_calculus.specs.Forecast.{Shape, Shapes, any_size, flipped, under, cut, spilled_shape, content_shape}
+use Rattle.gl_calculus.specs.Forecast.{Shape, Shapes, any_size, flipped, vstack_size, limited, spilled_shape, content_shape}
 use Rattle.gl_flow.specs.Places.{shape_in}
 
 -- the variables that are bound, innermost first, with their shapes
@@ -25,8 +25,8 @@ turned false s = s
 
 -- shapes stacked one under the other, each turned first, with extents that no array exceeds
 abbrev pub stacked : Bool → List Shape → Size
-stacked true ss = cut (under (map (option_map flipped) ss))
-stacked false ss = cut (under ss)
+stacked true ss = limited (vstack_size (map (option_map flipped) ss))
+stacked false ss = limited (vstack_size ss)
 
 -- the shape of each formula cell
 abbrev pub shapes_at : Cells → ℕ → List Shape

@@ -2,7 +2,7 @@
 ghost use Rattle.std.specs.Prelude.{◌≡◌, ◌+◌, max, Option};
 ghost use Rattle.gl_calculus.specs.Grid.Grid.{extents, size};
 ghost use Rattle.gl_calculus.specs.Values.Lift.{hull};
-ghost use Rattle.gl_calculus.specs.Forecast.{any_size, cut, full, joined, flipped};
+ghost use Rattle.gl_calculus.specs.Forecast.{any_size, flipped, greater_shape, limited, size_of};
 
 use gl_plane::Range;
 use std::marker::Model;
@@ -39,7 +39,7 @@ pub fn any() -> Extents
 
 /// The extents of a range.
 pub fn extents_of(r: &Range) -> Extents
-    ensures { result ≡ cut (extents r.now) }
+    ensures { result ≡ limited (extents r.now) }
 {
     let first = r.first();
     let last = r.last();
@@ -51,7 +51,7 @@ pub fn extents_of(r: &Range) -> Extents
 
 /// A scalar counts as one row and one column.
 pub fn full(s: Option<Extents>) -> Extents
-    ensures { result ≡ full s }
+    ensures { result ≡ size_of s }
 {
     match s {
         Some(e) => e,
@@ -61,7 +61,7 @@ pub fn full(s: Option<Extents>) -> Extents
 
 /// The greater extents of two shapes; none where both have none.
 pub fn joined(s: Option<Extents>, t: Option<Extents>) -> Option<Extents>
-    ensures { result ≡ joined s t }
+    ensures { result ≡ greater_shape s t }
 {
     match s {
         None => match t {
@@ -93,7 +93,7 @@ pub fn flipped(s: Extents) -> Extents
 
 /// One more shape below.
 pub fn below(above: Extents, s: Extents) -> Extents
-    ensures { result ≡ cut (size (above.rows + s.rows) (max above.cols s.cols)) }
+    ensures { result ≡ limited (size (above.rows + s.rows) (max above.cols s.cols)) }
 {
     Extents {
         rows: (u32::from(above.rows) + u32::from(s.rows)).min(u32::from(MOST)) as u16,

@@ -256,7 +256,7 @@ fn arguments(
 ) -> Result<Option<Extents>, NoMemory>
     ensures { IfOk result (λ s.
         s
-        ≡ Fo.all_joined
+        ≡ Fo.greatest_shape
         (Fo.shapes (spilled_at spilled.now.any spilled.now.places.now spilled.now.shapes.now)
         (bindings_of bindings.now) (argument_trees xs.now))) }
 {
@@ -278,7 +278,7 @@ fn operands(
 ) -> Result<Option<Extents>, NoMemory>
     ensures { IfOk result (λ s.
         s
-        ≡ Fo.all_joined
+        ≡ Fo.greatest_shape
         (Fo.operand_shapes
         (spilled_at spilled.now.any spilled.now.places.now spilled.now.shapes.now)
         (bindings_of bindings.now) (operand_trees xs.now))) }
@@ -333,7 +333,7 @@ fn flat(s: Option<Option<Extents>>) -> Option<Extents>
 
 /// The extents of a shape, where there is one.
 fn full_shape(s: Option<Option<Extents>>) -> Option<Extents>
-    ensures { result ≡ option_map Fo.full s }
+    ensures { result ≡ option_map Fo.size_of s }
 {
     match s {
         Some(s) => Some(full(s)),

@@ -8,7 +8,7 @@ use gl_ast::{Formula, Fun, Op};
 
 /// SHEET, UPDATE, VIEW or G.
 fn makes(fun: Fun) -> bool
-    ensures { result ≡ Fo.makes_sheets (fun_tree fun) }
+    ensures { result ≡ Fo.piece_makes (Fo.Piece.Calls (fun_tree fun)) }
 {
     match fun {
         Fun::Sheet | Fun::Update | Fun::View | Fun::G => true,

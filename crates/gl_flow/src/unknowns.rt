@@ -1,5 +1,5 @@
 //! Formula cells of which nothing is told.
-ghost use Rattle.std.specs.Prelude.{◌≡◌, false, IfSome, IfNone};
+ghost use Rattle.std.specs.Prelude.{◌≡◌, false, IsTrue, IfSome, IfNone};
 ghost use Rattle.std.specs.List.{list_any};
 ghost use Rattle.gl_cells.specs.Sheet.{sheet};
 ghost use Rattle.gl_calculus.specs.Forecast as Fo;
@@ -22,7 +22,7 @@ fn uses_sheets(cells: &Cells, a: Addr) -> bool
 /// The first of these addresses whose formula does.
 pub fn first_unknown(cells: &Cells, places: &[Addr]) -> Option<Addr>
     ensures some { IfSome result (λ a.
-        Fo.First (Fo.SomeUsesSheets (sheet cells.now)) places.now a) }
+        Fo.First (λ b. IsTrue (Fo.uses_sheets (sheet cells.now) b)) places.now a) }
     ensures none { IfNone result (list_any (Fo.uses_sheets (sheet cells.now)) places.now ≡ false) }
 {
     for a in places {

@@ -14,28 +14,38 @@ fits : (z : ℤ) → FitsSigned w64 z → O.exact z ≡ V.Scalar.Int z
 fits (pos n) h = grind (arith, nat_tests)
 fits (negsuc n) h = grind (arith, nat_tests)
 
-rest_is : (m n : ℤ) → m -ℤ (int_div m n *ℤ n) ≡ int_rem m n
-rest_is m n = omega (arith, ints, quot-rem m n)
+-- the remainder is 0 or has the sign of the divisor
+abbrev has_sign : ℤ → ℤ → Bool
+has_sign r n = same_int r (pos 0) || same_bool (int_lt r (pos 0)) (int_lt n (pos 0))
 
--- the divisor goes into the number once less where the remainder has the other sign
-unfolded : (m n r : ℤ) (b : Bool) → same_int n (pos 0) ≡ false → m -ℤ (int_div m n *ℤ n) ≡ r → (same_int r (pos 0) || same_bool (int_lt r (pos 0)) (int_lt n (pos 0))) ≡ b
-    → O.modulo m n ≡ O.exact (m -ℤ (n *ℤ (if b then int_div m n else (int_div m n -ℤ pos 1))))
-unfolded m n r b e f g = rw (e, f, g) refl
+unfolded : (m n : ℤ) (b : Bool) → same_int n (pos 0) ≡ false → has_sign (int_rem m n) n ≡ b → O.modulo m n ≡ (if b then O.exact (int_rem m n) else O.exact (int_rem m n +ℤ n))
+unfolded m n b e g = rw (e, g) refl
 
-pub kept : (m n r : ℤ) → same_int n (pos 0) ≡ false → r ≡ int_rem m n → (same_int r (pos 0) || same_bool (int_lt r (pos 0)) (int_lt n (pos 0))) ≡ true → FitsSigned w64 r → V.Scalar.Int r ≡ O.modulo m n
-kept m n r e f g h =
-    let s : m -ℤ (int_div m n *ℤ n) ≡ r = rest_is m n ∙ sym f in
-    let t : m -ℤ (n *ℤ int_div m n) ≡ r = omega (arith, ints, s) in
-    sym (unfolded m n r true e s g ∙ ap O.exact t ∙ fits r h)
+pub kept : (m n r : ℤ) → same_int n (pos 0) ≡ false → r ≡ int_rem m n → has_sign r n ≡ true → FitsSigned w64 r → V.Scalar.Int r ≡ O.modulo m n
+kept m n r e f g h = sym (unfolded m n true e (ap (λ z. has_sign z n) (sym f) ∙ g) ∙ ap O.exact (sym f) ∙ fits r h)
+
+pub added : (m n r : ℤ) → same_int n (pos 0) ≡ false → r ≡ int_rem m n → has_sign r n ≡ false → FitsSigned w64 (r +ℤ n) → V.Scalar.Int (r +ℤ n) ≡ O.modulo m n
+added m n r e f g h = sym (unfolded m n false e (ap (λ z. has_sign z n) (sym f) ∙ g) ∙ ap (λ z. O.exact (z +ℤ n)) (sym f) ∙ fits (r +ℤ n) h)
+
+-- ---- the remainder is what the divisor leaves as often as the quotient rounded down says
+
+-- the quotient rounded down: once less where the remainder has the other sign
+abbrev floor_div : ℤ → ℤ → ℤ
+floor_div m n = if has_sign (int_rem m n) n then int_div m n else (int_div m n -ℤ pos 1)
 
 once_less : (q n : ℤ) → n *ℤ (q -ℤ pos 1) ≡ q *ℤ n -ℤ n
 once_less q n = let e : q -ℤ pos 1 ≡ pred_ℤ q = -ℤ_one q in *ℤ_comm n (q -ℤ pos 1) ∙ ap (λ z. z *ℤ n) e ∙ pred_ℤ-*ℤ q n
 
-pub added : (m n r : ℤ) → same_int n (pos 0) ≡ false → r ≡ int_rem m n → (same_int r (pos 0) || same_bool (int_lt r (pos 0)) (int_lt n (pos 0))) ≡ false → FitsSigned w64 (r +ℤ n) → V.Scalar.Int (r +ℤ n) ≡ O.modulo m n
-added m n r e f g h =
-    let s : m -ℤ (int_div m n *ℤ n) ≡ r = rest_is m n ∙ sym f in
-    let t : m -ℤ (n *ℤ (int_div m n -ℤ pos 1)) ≡ r +ℤ n = omega (arith, ints, s, once_less (int_div m n) n) in
-    sym (unfolded m n r false e s g ∙ ap O.exact t ∙ fits (r +ℤ n) h)
+pub rounded_down : (m n : ℤ) → same_int n (pos 0) ≡ false → O.modulo m n ≡ O.exact (m -ℤ (n *ℤ floor_div m n))
+rounded_down m n e = by (has_sign (int_rem m n) n) refl
+  where
+    by : (b : Bool) → has_sign (int_rem m n) n ≡ b → O.modulo m n ≡ O.exact (m -ℤ (n *ℤ floor_div m n))
+    by true g =
+        let t : m -ℤ (n *ℤ int_div m n) ≡ int_rem m n = omega (arith, ints, quot-rem m n) in
+        unfolded m n true e g ∙ ap O.exact (sym t) ∙ ap (λ b. O.exact (m -ℤ (n *ℤ (if b then int_div m n else (int_div m n -ℤ pos 1))))) (sym g)
+    by false g =
+        let t : m -ℤ (n *ℤ (int_div m n -ℤ pos 1)) ≡ int_rem m n +ℤ n = omega (arith, ints, quot-rem m n, once_less (int_div m n) n) in
+        unfolded m n false e g ∙ ap O.exact (sym t) ∙ ap (λ b. O.exact (m -ℤ (n *ℤ (if b then int_div m n else (int_div m n -ℤ pos 1))))) (sym g)
 
 nonzero_by : (n : ℤ) (b : Bool) → same_int n (pos 0) ≡ b → (n ≡ pos 0 → ⊥) → b ≡ false
 nonzero_by n false e h = refl

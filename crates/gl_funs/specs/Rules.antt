@@ -1,9 +1,9 @@
 -- The functions taken apart as the code takes them.
-use Rattle.std.specs.Prelude.{ℕ, ℤ, pos, ◌+ℤ◌, Bool, ◌&&◌, ◌||◌, List, fold, filter_map, take, Option, Some, None, Result, IfOk, IsTrue, encode_utf8_all, chars}
+use Rattle.std.specs.Prelude.{ℕ, ℤ, pos, ◌+ℤ◌, Bool, ◌&&◌, ◌||◌, List, fold, filter_map, take, Option, Some, None, Result, IfOk, IsTrue, encode_utf8_all, chars, unwrap_or}
 use Rattle.gl_calculus.specs.Values.ErrKind.{ErrKind}
 use Rattle.gl_calculus.specs.Values.Value.{Scalar, Int, Text}
 use Rattle.gl_calculus.specs.Values.Operators.{exact, plain}
-use Rattle.gl_calculus.specs.Values.Functions.{first_fault, sum_fault, truth_fault, unless, whole_number, truth, best, truth_of, lesser, greater, all_true, some_true, take_last}
+use Rattle.gl_calculus.specs.Values.Functions.{first_fault, sum_fault, truth_fault, unless, whole_number, truth, truth_of, lesser, greater, take_last}
 use Rattle.gl_calculus.specs.Evaluation.Sound.{is_sound_scalar}
 use Rattle.gl_plane.specs.declared.NoMemory.{NoMemory}
 use Rattle.gl_value.specs.View.{scalar_tree}
@@ -14,6 +14,7 @@ use Rattle.gl_funs.specs.declared.texts.Side.{Side}
 use Rattle.gl_funs.specs.declared.texts.Side.TheVariants.{First, Last}
 use Rattle.gl_funs.specs.declared.truths.Quantity.{Quantity}
 use Rattle.gl_funs.specs.declared.truths.Quantity.TheVariants.{All, Any}
+use Rattle.std.specs.List.{list_all, list_any, reduce}
 
 -- the sum of some elements and of what was added before
 abbrev pub total_from : ℤ → List Scalar → Scalar
@@ -21,7 +22,7 @@ total_from n xs = unless (first_fault sum_fault xs) (exact (fold (λ i j. i +ℤ
 
 -- the best of some numbers and of the best before, if there is one
 abbrev pub best_from : (ℤ → ℤ → ℤ) → Option ℤ → List ℤ → ℤ
-best_from better None ns = best better ns
+best_from better None ns = unwrap_or (reduce better ns) (pos 0)
 best_from better (Some n) ns = fold better n ns
 
 abbrev pub better : End → ℤ → ℤ → ℤ
@@ -45,8 +46,8 @@ joins All = ◌&&◌
 joins Any = ◌||◌
 
 abbrev pub rule_of : Quantity → List Bool → Bool
-rule_of All = all_true
-rule_of Any = some_true
+rule_of All = list_all (λ b. b)
+rule_of Any = list_any (λ b. b)
 
 -- the truth that is known, or #VALUE!
 abbrev pub known_truth : Option Bool → Scalar

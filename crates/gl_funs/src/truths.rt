@@ -1,5 +1,6 @@
 //! AND, OR and NOT, and the tests of one scalar.
 ghost use Rattle.std.specs.Prelude.{◌≡◌, IsTrue, Bool, List, ◌∷◌, Some};
+ghost use Rattle.std.specs.List.{list_all, list_any};
 ghost use Rattle.gl_calculus.specs.Evaluation.Sound.{is_sound_scalar};
 ghost use Rattle.gl_calculus.specs.Values.Functions as F;
 ghost use Rattle.gl_value.specs.View.{scalar_tree};
@@ -22,7 +23,7 @@ enum Quantity {
 /// result where there is one. Blanks are passed over.
 pub fn all(values: &[Value]) -> Scalar
     requires { AreArguments values.now }
-    ensures value { scalar_tree result ≡ F.verdict F.all_true (elements_of values.now) }
+    ensures value { scalar_tree result ≡ F.verdict (list_all (λ b. b)) (elements_of values.now) }
     ensures sound { IsTrue (is_sound_scalar (scalar_tree result)) }
 {
     verdict(Quantity::All, values)
@@ -71,7 +72,7 @@ fn truth(verdict: Option<bool>) -> Scalar
 /// Whether some truth value among the elements is TRUE. Errors are those of `all`.
 pub fn any(values: &[Value]) -> Scalar
     requires { AreArguments values.now }
-    ensures value { scalar_tree result ≡ F.verdict F.some_true (elements_of values.now) }
+    ensures value { scalar_tree result ≡ F.verdict (list_any (λ b. b)) (elements_of values.now) }
     ensures sound { IsTrue (is_sound_scalar (scalar_tree result)) }
 {
     verdict(Quantity::Any, values)

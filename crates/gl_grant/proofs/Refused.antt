@@ -6,7 +6,7 @@ use Rattle.gl_calculus.specs.Computation.Lists.{Member}
 use Rattle.gl_calculus.specs.Grid.Grid.{Addr, Range, same_addr, is_before, addresses, covers, lies_in, meets}
 use Rattle.gl_calculus.specs.Values.Value.{Permit, Permitted, Refused, Entry, Oracle}
 use Rattle.gl_calculus.specs.Values.Same.{is_permitted}
-use Rattle.gl_calculus.specs.Evaluation.Oracle.{entry_at, permit_of, status, area_of, Obstacle, first_obstacle, obstacle, ArePermits}
+use Rattle.gl_calculus.specs.Evaluation.Oracle.{entry_at, status, area_of, Obstacle, first_obstacle, obstacle, ArePermits}
 use Rattle.gl_calculus.proofs.Tests.{addr_exact}
 use Rattle.gl_grant.proofs.Free.{none_found}
 use Rattle.gl_calculus.proofs.Grants.{clash, all_covered}
@@ -67,5 +67,5 @@ module _ (bound : Range) (held : Addr → Bool) (w : Oracle) (ok : ArePermits bo
       option_map tree found ≡ obstacle bound held w x.root (area_of x) → (found ≡ None) ↔ (status w root ≡ Some Permitted)
   none_where_permitted tree found root x e q v = (
     λ f. absurd (has_obstacle x (entry_member w root x e) q (sym v ∙ ap (option_map tree) f)),
-    λ s. let t : ◌≡◌ {A = Option Permit} (Some Refused) (Some Permitted) = sym (ap Some q) ∙ sym (ap permit_of e) ∙ s in absurd (cc t),
+    λ s. let t : ◌≡◌ {A = Option Permit} (Some Refused) (Some Permitted) = sym (ap Some q) ∙ sym (ap (option_map (λ (x : Entry). x.permit)) e) ∙ s in absurd (cc t),
   )

@@ -1,12 +1,11 @@
 -- What `cmp` answers at numbers, texts and truth values is how they stand to each other.
-use Rattle.std.proofs.Common.{◌≡◌, ℕ, ℤ, pos, negsuc, Bool, true, false, List, Some, refl, sym, ◌∙◌, arith, int_lt, bytes_eq, cond}
+use Rattle.std.proofs.Common.{◌≡◌, ℕ, ℤ, pos, negsuc, Bool, true, false, List, Some, refl, sym, ◌∙◌, arith, int_lt, bytes_eq, cond, [], ◌∷◌, ◌==◌, nat_lt, ◌||◌, ◌&&◌}
 use Rattle.std.proofs.lemmas.Bool.Decides.{nat_tests}
 use Rattle.std.proofs.lemmas.Cmp.{same_from_slice_cmp}
 use Rattle.std.specs.Cmp.Lexicographic.{slice_cmp}
 use Rattle.std.specs.Ordering.{nat_cmp, int_cmp, bool_cmp, is_lt, is_eq, is_gt}
 use Rattle.std.specs.declared.cmp.Ordering.{Ordering}
 use Rattle.std.specs.declared.cmp.Ordering.TheVariants.{Less, Equal, Greater}
-use Rattle.gl_calculus.specs.Values.Operators as O
 use Rattle.gl_calculus.specs.Values.Value as V
 use Rattle.gl_value.specs.Ints.{int_test}
 use Rattle.gl_scalar.specs.Rules.{Stands, is_less, is_equal, is_greater}
@@ -53,20 +52,26 @@ stands_int m n = record {
 
 -- ---- texts
 
-text_less : (s t : List ℕ) (o : Ordering) → o ≡ slice_cmp nat_cmp s t → is_lt o ≡ O.text_below s t
-text_less = same_from_slice_cmp nat_cmp is_lt O.text_below refl (λ _ _. refl) (λ _ _. refl) (λ x y xs ys o h. grind (arith, nat_tests))
+-- the first text is below the second
+abbrev text_below : List ℕ → List ℕ → Bool
+text_below s [] = false
+text_below [] (c ∷ t) = true
+text_below (b ∷ s) (c ∷ t) = nat_lt b c || ((b == c) && text_below s t)
 
-text_greater : (s t : List ℕ) (o : Ordering) → o ≡ slice_cmp nat_cmp s t → is_gt o ≡ O.text_below t s
-text_greater = same_from_slice_cmp nat_cmp is_gt (λ s t. O.text_below t s) refl (λ _ _. refl) (λ _ _. refl) (λ x y xs ys o h. grind (arith, nat_tests))
+text_less : (s t : List ℕ) (o : Ordering) → o ≡ slice_cmp nat_cmp s t → is_lt o ≡ text_below s t
+text_less = same_from_slice_cmp nat_cmp is_lt text_below refl (λ _ _. refl) (λ _ _. refl) (λ x y xs ys o h. grind (arith, nat_tests))
+
+text_greater : (s t : List ℕ) (o : Ordering) → o ≡ slice_cmp nat_cmp s t → is_gt o ≡ text_below t s
+text_greater = same_from_slice_cmp nat_cmp is_gt (λ s t. text_below t s) refl (λ _ _. refl) (λ _ _. refl) (λ x y xs ys o h. grind (arith, nat_tests))
 
 text_equal : (s t : List ℕ) (o : Ordering) → o ≡ slice_cmp nat_cmp s t → is_eq o ≡ bytes_eq s t
 text_equal = same_from_slice_cmp nat_cmp is_eq bytes_eq refl (λ _ _. refl) (λ _ _. refl) (λ x y xs ys o h. grind (arith, nat_tests))
 
 pub stands_text : (s t : List ℕ) → Stands (Some (slice_cmp nat_cmp s t)) (V.Scalar.Text s) (V.Scalar.Text t)
 stands_text s t = let o = slice_cmp nat_cmp s t in record {
-  less = sym (text_less s t o refl) ∙ less_is o;
+  less = less_is o;
   equal = sym (text_equal s t o refl) ∙ equal_is o;
-  greater = sym (text_greater s t o refl) ∙ greater_is o;
+  greater = text_less t s (slice_cmp nat_cmp t s) refl ∙ sym (text_greater s t o refl) ∙ greater_is o;
 }
 
 -- ---- truth values

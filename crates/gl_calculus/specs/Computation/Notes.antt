@@ -12,12 +12,15 @@ pub record Note (K O A : Type 0) : Type 0 where
 -- `j` is `k` or reached from it through reads of notes
 pub data IsReached {K O A : Type 0} (notes : List (Note K O A)) : K → K → Type 0 where
   Here : {k : K} → IsReached notes k k
-  Through : {k j : K} (n : Note K O A) (i : K) → Member n notes → k ≡ n.key → Member i n.reads → IsReached notes i j → IsReached notes k j
+  Through : {k j : K} (n : Note K O A) (i : K) → Member n notes → k ≡ n.key →
+      Member i n.reads → IsReached notes i j → IsReached notes k j
 
 -- the key and all that is reached from it have notes, and none of these looked at a touched place
 abbrev pub IsKept : {K O A : Type 0} → (A → Bool) → List (Note K O A) → K → Type 0
 IsKept {K} {O} {A} touched notes k =
-    (j : K) → IsReached notes k j → (n : Note K O A) × Member n notes × (n.key ≡ j) × ((a : A) → Member a n.looked → touched a ≡ false)
+    (j : K) → IsReached notes k j →
+    (n : Note K O A) × Member n notes × (n.key ≡ j)
+    × ((a : A) → Member a n.looked → touched a ≡ false)
 
 -- the keys of notes
 abbrev pub note_keys : {K O A : Type 0} → List (Note K O A) → List K

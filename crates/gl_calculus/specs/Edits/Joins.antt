@@ -8,7 +8,8 @@ use Rattle.gl_calculus.specs.Edits.Replicas.{Edit, Replica, is_earlier}
 abbrev pub IsUpTo : Edit → Edit → Type 0
 IsUpTo e r = (e ≡ r) ⊎ ((e.place ≡ r.place) × IsTrue (is_earlier e.stamp r.stamp))
 
--- The join of edits: of each address that occurs the one with the greatest stamp, in the order of addresses.
+-- The join of edits: of each address that occurs the one with the greatest stamp, in the order of
+-- addresses.
 pub record IsJoin (es rs : List Edit) : Type 0 where
   pub ordered : AreInOrder (map (λ r. r.place) rs)
   pub among : (r : Edit) → Member r rs → Member r es
@@ -16,10 +17,12 @@ pub record IsJoin (es rs : List Edit) : Type 0 where
 
 -- no two edits of one address and one stamp differ
 abbrev pub IsSound : List Edit → Type 0
-IsSound es = (d e : Edit) → Member d es → Member e es → d.place ≡ e.place → d.stamp ≡ e.stamp → d ≡ e
+IsSound es =
+    (d e : Edit) → Member d es → Member e es → d.place ≡ e.place → d.stamp ≡ e.stamp → d ≡ e
 
 abbrev pub HaveSameMembers : List Edit → List Edit → Type 0
-HaveSameMembers ds es = ((e : Edit) → Member e ds → Member e es) × ((e : Edit) → Member e es → Member e ds)
+HaveSameMembers ds es =
+    ((e : Edit) → Member e ds → Member e es) × ((e : Edit) → Member e es → Member e ds)
 
 -- the greatest time, 0 of no edits
 abbrev pub latest : List Edit → ℕ

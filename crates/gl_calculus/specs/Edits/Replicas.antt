@@ -1,5 +1,7 @@
 -- Stamped edits, and the replica that keeps the latest one of each address.
-use Rattle.std.specs.Prelude.{◌≡◌, ◌≢◌, ℕ, ◌+◌, ◌==◌, max, nat_lt, nat_le, Bool, ◌&&◌, ◌||◌, IsTrue, ⊤, List, [], ◌∷◌, length, Option, Some, None, if◌then◌else◌, count_by, is_none}
+use Rattle.std.specs.Prelude.{◌≡◌, ◌≢◌, ℕ, ◌+◌, ◌==◌, max, nat_lt, nat_le, Bool, ◌&&◌, ◌||◌, IsTrue}
+use Rattle.std.specs.Prelude.{⊤, List, [], ◌∷◌, length, Option, Some, None, if◌then◌else◌, count_by}
+use Rattle.std.specs.Prelude.{is_none, find, fold, map}
 use Rattle.std.specs.List.{AllByRecursion}
 use Rattle.gl_calculus.specs.Grid.Grid.{Addr, same_addr, is_before}
 use Rattle.gl_calculus.specs.Formulas.Formula.{Content, Cells}
@@ -35,9 +37,7 @@ pub data Judged : Type 0 where
 
 abbrev pub IsJudged : Option Edit → Edit → Judged → Type 0
 IsJudged None e Wins = ⊤
-IsJudged None e Loses = ⊥
-IsJudged None e Same = ⊥
-IsJudged None e Conflict = ⊥
+IsJudged None e j = ⊥
 IsJudged (Some r) e Wins = IsTrue (is_earlier r.stamp e.stamp)
 IsJudged (Some r) e Loses = IsTrue (is_earlier e.stamp r.stamp)
 IsJudged (Some r) e Same = (r.stamp ≡ e.stamp) × (r.content ≡ e.content)
@@ -49,8 +49,7 @@ IsTakeable o e = (j : Judged) × IsJudged o e j × (j ≢ Conflict)
 
 -- the register of an address, of registers in the order of their addresses
 abbrev pub register_at : List Edit → Addr → Option Edit
-register_at [] a = None
-register_at (r ∷ rs) a = if same_addr a r.place then Some r else register_at rs a
+register_at rs a = find (λ r. same_addr a r.place) rs
 
 -- with an edit: the later of two at one address stays
 abbrev pub with_edit : List Edit → Edit → List Edit
@@ -80,23 +79,23 @@ new_replica n = record { site = n; clock = 0; registers = [] }
 abbrev pub next_stamp : Replica → Option Stamp
 next_stamp r = if nat_lt r.clock max_time then Some (stamp (r.clock + 1) r.site) else None
 
--- the replica that has taken an edit, and one edit after the other
+-- the replica that has taken an edit, or one edit after the other
 abbrev pub taking : Replica → Edit → Replica
-taking r e = record { site = r.site; clock = max r.clock e.stamp.time; registers = with_edit r.registers e }
+taking r e =
+    record { site = r.site; clock = max r.clock e.stamp.time; registers = with_edit r.registers e }
 
 abbrev pub taking_all : Replica → List Edit → Replica
-taking_all r [] = r
-taking_all r (e ∷ es) = taking_all (taking r e) es
+taking_all = fold taking
 
 -- each edit is no conflict with what those before it leave
 abbrev pub AreTakeable : Replica → List Edit → Type 0
 AreTakeable r [] = ⊤
-AreTakeable r (e ∷ es) = IsTakeable (register_at r.registers e.place) e × AreTakeable (taking r e) es
+AreTakeable r (e ∷ es) =
+    IsTakeable (register_at r.registers e.place) e × AreTakeable (taking r e) es
 
 -- the edits that changes of its own are
 abbrev pub stamped : Stamp → Changes → List Edit
-stamped s [] = []
-stamped s (c ∷ cs) = record { stamp = s; place = c.0; content = c.1 } ∷ stamped s cs
+stamped s cs = map (λ c. record { stamp = s; place = c.0; content = c.1 }) cs
 
 abbrev pub has_room : Replica → Bool
 has_room r = nat_le (length r.registers) max_registers

@@ -1,5 +1,6 @@
 -- Edits of a sheet.
 use Rattle.std.specs.Prelude.{not, List, [], ◌∷◌, filter, if◌then◌else◌, map, Option, Some, None}
+use Rattle.std.specs.Prelude.{fold}
 use Rattle.gl_calculus.specs.Grid.Grid.{Addr, same_addr, is_before, Range, covers, single}
 use Rattle.gl_calculus.specs.Formulas.Formula.{Cells, Content}
 use Rattle.gl_calculus.specs.Edits.Replicas.{Changes}
@@ -7,11 +8,12 @@ use Rattle.gl_calculus.specs.Formulas.Formula as F
 
 abbrev pub with_content : Cells → Addr → F.Content → Cells
 with_content [] a c = (a, c) ∷ []
-with_content (x ∷ xs) a c = if same_addr a x.0 then (a, c) ∷ xs else if is_before a x.0 then (a, c) ∷ x ∷ xs else x ∷ with_content xs a c
+with_content (x ∷ xs) a c =
+    if same_addr a x.0 then (a, c) ∷ xs
+    else if is_before a x.0 then (a, c) ∷ x ∷ xs else x ∷ with_content xs a c
 
 abbrev pub with_contents : Cells → Cells → Cells
-with_contents S [] = S
-with_contents S (x ∷ xs) = with_contents (with_content S x.0 x.1) xs
+with_contents = fold (λ (S : Cells) (x : Addr × Content). with_content S x.0 x.1)
 
 abbrev pub without : Cells → Range → Cells
 without S r = filter (λ x. not (covers r x.0)) S
@@ -25,8 +27,7 @@ with_change S a (Some c) = with_content S a c
 with_change S a None = without S (single a)
 
 abbrev pub with_changes : Cells → Changes → Cells
-with_changes S [] = S
-with_changes S (c ∷ cs) = with_changes (with_change S c.0 c.1) cs
+with_changes = fold (λ (S : Cells) (c : Addr × Option Content). with_change S c.0 c.1)
 
 abbrev pub settings : Cells → Changes
 settings cs = map (λ c. (c.0, Some c.1)) cs

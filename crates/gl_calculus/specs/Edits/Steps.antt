@@ -42,7 +42,11 @@ latest_step (d ∷ ds) = Some d
 
 -- the latest step is undone, or done again
 abbrev pub MovesBack : History → History → Type 0
-MovesBack h k = (d : Step) × (ds : List Step) × (h.done ≡ d ∷ ds) × (k ≡ record { done = ds; undone = d ∷ h.undone })
+MovesBack h k =
+    (d : Step) × (ds : List Step) × (h.done ≡ d ∷ ds)
+    × (k ≡ record { done = ds; undone = d ∷ h.undone })
 
 abbrev pub MovesForward : History → History → Type 0
-MovesForward h k = (u : Step) × (us : List Step) × (h.undone ≡ u ∷ us) × (k ≡ record { done = u ∷ h.done; undone = us })
+MovesForward h k =
+    (u : Step) × (us : List Step) × (h.undone ≡ u ∷ us)
+    × (k ≡ record { done = u ∷ h.done; undone = us })

@@ -1,5 +1,5 @@
 -- What the sheet and the oracle of the top say of an address. Evaluation sees nothing else of them.
-use Rattle.std.specs.Prelude.{List, [], ◌∷◌, map, Option, Some, None, if◌then◌else◌}
+use Rattle.std.specs.Prelude.{List, map, Option, None, find, unwrap_or}
 use Rattle.gl_calculus.specs.Grid.Grid.{Addr, same_addr, Range, addresses}
 use Rattle.gl_calculus.specs.Values.Value.{Permit, Oracle}
 use Rattle.gl_calculus.specs.Formulas.Formula.{Content, Cells, content}
@@ -20,13 +20,9 @@ facts S w r = map (fact S w) (addresses r)
 
 -- the fact of an address among these
 abbrev pub find_fact : List Fact → Addr → Option Fact
-find_fact [] a = None
-find_fact (x ∷ xs) a = if same_addr x.address a then Some x else find_fact xs a
+find_fact xs a = find (λ x. same_addr x.address a) xs
 
 -- the same, where an address without fact holds nothing
-abbrev pub or_nothing : Addr → Option Fact → Fact
-or_nothing a (Some x) = x
-or_nothing a None = record { address = a; content = None; status = None; cover = None }
-
 abbrev pub fact_at : List Fact → Addr → Fact
-fact_at xs a = or_nothing a (find_fact xs a)
+fact_at xs a =
+    unwrap_or (find_fact xs a) (record { address = a; content = None; status = None; cover = None })

@@ -25,7 +25,8 @@ pub data Outcome : Type 0 where
   Settled : Oracle → Outcome
   Abort : Budget → Outcome
 
--- an evaluation: it demands keys and looks at ranges, of which it sees the facts; it comes to a result, or to a spent budget, which ends it
+-- an evaluation: it demands keys and looks at ranges, of which it sees the facts; it comes to a
+-- result, or to a spent budget, which ends it
 abbrev pub Eval : Type 0 → Type 0
 Eval R = Evaluation Key Outcome Range (List Fact) (Result R Budget)
 

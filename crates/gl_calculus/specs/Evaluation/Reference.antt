@@ -1,9 +1,11 @@
 -- How an address, a range and a spilled array are read in a frame.
-use Rattle.std.specs.Prelude.{ℕ, Bool, true, false, List, [], ◌∷◌, Option, Some, None, if◌then◌else◌}
+use Rattle.std.specs.Prelude.{ℕ, Bool, true, false, List, [], ◌∷◌, Option, Some, None}
+use Rattle.std.specs.Prelude.{if◌then◌else◌}
 use Rattle.gl_calculus.specs.Computation.Evaluation.{LookAt, Demand}
 use Rattle.gl_calculus.specs.Grid.Grid.{Addr, Range, single, extents, covers}
 use Rattle.gl_calculus.specs.Values.ErrKind.{ErrKind}
-use Rattle.gl_calculus.specs.Values.Value.{Permit, Permitted, Refused, Scalar, Blank, Value, One, Array, scalars, sheet_value, Frame, Top, In, region}
+use Rattle.gl_calculus.specs.Values.Value.{Permit, Permitted, Refused, Scalar, Blank, Value, One}
+use Rattle.gl_calculus.specs.Values.Value.{Array, scalars, sheet_value, Frame, Top, In, region}
 use Rattle.gl_calculus.specs.Values.Sheet.{override_at}
 use Rattle.gl_calculus.specs.Formulas.Formula.{Formula, Content, Const, Form}
 use Rattle.gl_calculus.specs.Evaluation.Oracle.{status, Cover, cover}
@@ -16,7 +18,8 @@ use Rattle.gl_calculus.specs.Evaluation.Key.{Cell, Eval, give, ◌>>=◌, own_va
 -- the frame in which an address is read: the nearest outward whose region has it, or the top
 abbrev pub home : Frame → Addr → Frame
 home Top a = Top
-home (In (sheet_value r os e k w) o) a = if covers r a then In (sheet_value r os e k w) o else home e a
+home (In (sheet_value r os e k w) o) a =
+    if covers r a then In (sheet_value r os e k w) o else home e a
 
 -- what an address holds in a frame: a value that is given, or a formula
 pub data Held : Type 0 where

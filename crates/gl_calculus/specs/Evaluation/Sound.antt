@@ -1,9 +1,12 @@
 -- What every value, frame and key that the program makes keeps.
-use Rattle.std.specs.Prelude.{◌≡◌, ℕ, ◌*◌, ◌==◌, max, nat_lt, nat_le, Bool, true, false, ◌&&◌, length, Some}
+use Rattle.std.specs.Prelude.{◌≡◌, ℕ, ◌*◌, ◌==◌, max, nat_lt, nat_le, Bool, true, false, ◌&&◌}
+use Rattle.std.specs.Prelude.{length, Some}
 use Rattle.std.specs.Str.{is_utf8}
 use Rattle.gl_calculus.specs.Grid.Limits.{max_text, max_cells, max_rank, max_weight}
 use Rattle.gl_calculus.specs.Grid.Grid.{is_before, Range, covers, Size}
-use Rattle.gl_calculus.specs.Values.Value.{Scalar, Text, Sheet, Scalars, no_scalar, scalar_and, Value, One, Array, Overrides, no_override, override_and, SheetValue, sheet_value, Frame, Top, In, items, elements}
+use Rattle.gl_calculus.specs.Values.Value.{Scalar, Text, Sheet, Scalars, no_scalar, scalar_and}
+use Rattle.gl_calculus.specs.Values.Value.{Value, One, Array, Overrides, no_override, override_and}
+use Rattle.gl_calculus.specs.Values.Value.{SheetValue, sheet_value, Frame, Top, In, items, elements}
 use Rattle.gl_calculus.specs.Values.Sheet.{rank_above, frame_rank, weight}
 use Rattle.gl_calculus.specs.Formulas.Formula.{Formula, Cells, content}
 use Rattle.gl_calculus.specs.Evaluation.Key.{Key, Cell, Settle, Outcome}
@@ -16,7 +19,8 @@ is_size s = nat_lt 0 s.rows && nat_lt 0 s.cols && nat_le (s.rows * s.cols) max_c
 abbrev pub are_inside : Range → Overrides → Bool
 are_inside r no_override = true
 are_inside r (override_and a v no_override) = covers r a
-are_inside r (override_and a v (override_and b u os)) = covers r a && is_before a b && are_inside r (override_and b u os)
+are_inside r (override_and a v (override_and b u os)) =
+    covers r a && is_before a b && are_inside r (override_and b u os)
 
 -- one above each rank that stands in the overrides, or 0
 abbrev pub overrides_rank : Overrides → ℕ
@@ -41,11 +45,13 @@ abbrev mutual
   are_sound_overrides no_override = true
   are_sound_overrides (override_and a v os) = is_sound_value v && are_sound_overrides os
 
-  -- overrides in order inside the region; a rank above those of the parent and of the overrides; rank and weight within their limits; the weight is that of the parts
+  -- overrides in order inside the region; a rank above those of the parent and of the overrides;
+  -- rank and weight within their limits; the weight is that of the parts
   pub is_sound_sheet : SheetValue → Bool
   is_sound_sheet (sheet_value r os e k w) =
       are_inside r os && are_sound_overrides os && is_sound_frame e
-      && nat_lt (frame_rank e) k && nat_le (overrides_rank os) k && nat_le k max_rank && nat_le w max_weight && (w == weight (sheet_value r os e k w))
+      && nat_lt (frame_rank e) k && nat_le (overrides_rank os) k && nat_le k max_rank
+      && nat_le w max_weight && (w == weight (sheet_value r os e k w))
 
   pub is_sound_frame : Frame → Bool
   is_sound_frame Top = true

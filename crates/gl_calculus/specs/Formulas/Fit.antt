@@ -4,7 +4,8 @@ use Rattle.std.specs.List.{AllByRecursion}
 use Rattle.std.specs.Str.{is_utf8}
 use Rattle.gl_calculus.specs.Grid.Limits.{max_text}
 use Rattle.gl_calculus.specs.Grid.Grid.{extents}
-use Rattle.gl_calculus.specs.Formulas.Formula.{Formula, Formulas, Operands, Fun, Content, Const, Form, Cells}
+use Rattle.gl_calculus.specs.Formulas.Formula.{Formula, Formulas, Operands, Fun, Content, Const}
+use Rattle.gl_calculus.specs.Formulas.Formula.{Form, Cells}
 use Rattle.gl_calculus.specs.Formulas.Formula as F
 use Rattle.gl_calculus.specs.Evaluation.Sound.{is_size, is_sound_scalar}
 

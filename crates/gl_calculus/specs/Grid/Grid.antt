@@ -1,5 +1,6 @@
 -- The grid: addresses, ranges and sizes, as numbers that count from 1.
-use Rattle.std.specs.Prelude.{ℕ, ◌+◌, ◌-◌, ◌==◌, nat_lt, nat_le, Bool, ◌&&◌, ◌||◌, IsTrue, ⊤, List, [], ◌∷◌, map, flat_map}
+use Rattle.std.specs.Prelude.{ℕ, ◌+◌, ◌-◌, ◌==◌, nat_lt, nat_le, Bool, ◌&&◌, ◌||◌, IsTrue, ⊤, List}
+use Rattle.std.specs.Prelude.{[], ◌∷◌, map, flat_map}
 use Rattle.std.specs.List.{range_with_len}
 use Rattle.gl_calculus.specs.Grid.Limits.{grid_cols, grid_rows}
 
@@ -59,18 +60,22 @@ shifted a i j = addr (a.col + j) (a.row + i)
 
 -- the addresses of a range, in row-major order
 abbrev pub addresses : Range → List Addr
-addresses r = flat_map (λ i. map (λ j. addr j i) (range_with_len r.first.col (extents r).cols)) (range_with_len r.first.row (extents r).rows)
+addresses r =
+    flat_map (λ i. map (λ j. addr j i) (range_with_len r.first.col (extents r).cols))
+    (range_with_len r.first.row (extents r).rows)
+
+-- some address is in both
+abbrev pub meets : Range → Range → Bool
+meets r s =
+    (nat_le r.first.row s.last.row && nat_le s.first.row r.last.row)
+    && (nat_le r.first.col s.last.col && nat_le s.first.col r.last.col)
 
 abbrev pub covers : Range → Addr → Bool
-covers r a = (nat_le r.first.row a.row && nat_le a.row r.last.row) && (nat_le r.first.col a.col && nat_le a.col r.last.col)
+covers r a = meets r (single a)
 
 -- every address of the first is one of the second
 abbrev pub lies_in : Range → Range → Bool
 lies_in r s = covers s r.first && covers s r.last
-
--- some address is in both
-abbrev pub meets : Range → Range → Bool
-meets r s = (nat_le r.first.row s.last.row && nat_le s.first.row r.last.row) && (nat_le r.first.col s.last.col && nat_le s.first.col r.last.col)
 
 -- the whole grid: an area exists exactly where it lies in here
 abbrev pub grid : Range

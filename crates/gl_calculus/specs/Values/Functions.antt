@@ -1,14 +1,24 @@
 -- The functions whose arguments are all evaluated.
-use Rattle.std.specs.Prelude.{ℕ, suc, ◌+◌, ◌-◌, ◌*◌, ◌==◌, max, nat_lt, ℤ, pos, negsuc, ◌+ℤ◌, int_lt, Bool, true, false, ◌&&◌, ◌||◌, not, List, [], ◌∷◌, ◌++◌, length, map, flat_map, fold, take, drop, replicate, filter_map, Option, Some, None, Result, Ok, Err, encode_utf8_all, chars, if◌then◌else◌}
-use Rattle.std.specs.List.{list_any}
-use Rattle.std.specs.Option.{option_or}
+use Rattle.std.specs.Prelude.{ℕ, suc, ◌+◌, ◌-◌, ◌*◌, ◌==◌, max, nat_lt, ℤ, pos, negsuc, ◌+ℤ◌}
+use Rattle.std.specs.Prelude.{int_lt, Bool, true, false, ◌&&◌, not, List, [], ◌∷◌, ◌++◌, length}
+use Rattle.std.specs.Prelude.{map, flat_map, fold, take, drop, replicate, filter_map, Option, Some}
+use Rattle.std.specs.Prelude.{None, Result, Ok, Err, encode_utf8_all, chars, if◌then◌else◌}
+use Rattle.std.specs.Prelude.{unwrap_or}
+use Rattle.std.specs.List.{list_any, list_all, reduce, items_where_true}
+use Rattle.std.specs.Option.{option_or, option_map_or, ok_or}
 use Rattle.gl_calculus.specs.Grid.Grid.{Size, size}
 use Rattle.gl_calculus.specs.Values.ErrKind.{ErrKind}
 use Rattle.gl_calculus.specs.Values.Value.{Scalar, Blank, Int, Text, Sheet, Value, One, elements}
 use Rattle.gl_calculus.specs.Values.Same.{same_scalar}
-use Rattle.gl_calculus.specs.Formulas.Formula.{Fun, Sum, Count, Min, Max, And, Or, Not, IsError, IsBlank, Abs, Mod, Len, Left, Right, Rows, Columns, Index, Sequence, Transpose, Take, Drop, HStack, VStack, Filter, Unique, Lookup, Na}
-use Rattle.gl_calculus.specs.Values.Operators.{exact, strict, numeric, modulo, magnitude, agrees, plain, amount}
+use Rattle.gl_calculus.specs.Formulas.Formula.{Fun, Sum, Count, Min, Max, And, Or, Not, IsError}
+use Rattle.gl_calculus.specs.Formulas.Formula.{IsBlank, Abs, Mod, Len, Left, Right, Rows, Columns}
+use Rattle.gl_calculus.specs.Formulas.Formula.{Index, Sequence, Transpose, Take, Drop, HStack}
+use Rattle.gl_calculus.specs.Formulas.Formula.{VStack, Filter, Unique, Lookup, Na}
+use Rattle.gl_calculus.specs.Values.Operators.{exact, strict, numeric, modulo, magnitude, agrees}
+use Rattle.gl_calculus.specs.Values.Operators.{plain, amount}
 use Rattle.gl_calculus.specs.Values.Lift.{shape, item, table, lift1, lift2, rows, width, from_rows}
+use Rattle.gl_calculus.specs.Computation.Lists.{distinct}
+use lib.Pointwise.{pointwise}
 
 -- ---- over the elements of all arguments, in order
 
@@ -43,11 +53,7 @@ first_fault fault (x ∷ xs) = option_or (fault x) (first_fault fault xs)
 
 -- the fault as an error, or else the result
 abbrev pub unless : Option ErrKind → Scalar → Scalar
-unless (Some k) r = Scalar.Err k
-unless None r = r
-
-abbrev pub sum_of : List ℤ → ℤ
-sum_of = fold (λ m n. m +ℤ n) (pos 0)
+unless = option_map_or Scalar.Err
 
 abbrev pub lesser : ℤ → ℤ → ℤ
 lesser m n = if int_lt n m then n else m
@@ -55,32 +61,23 @@ lesser m n = if int_lt n m then n else m
 abbrev pub greater : ℤ → ℤ → ℤ
 greater m n = if int_lt m n then n else m
 
--- the best number, or 0 of none
-abbrev pub best : (ℤ → ℤ → ℤ) → List ℤ → ℤ
-best better [] = pos 0
-best better (n ∷ ns) = fold better n ns
-
-abbrev pub all_true : List Bool → Bool
-all_true [] = true
-all_true (b ∷ bs) = b && all_true bs
-
-abbrev pub some_true : List Bool → Bool
-some_true [] = false
-some_true (b ∷ bs) = b || some_true bs
-
 -- the truth of some truth values; of none #VALUE!
 abbrev pub truth_of : (List Bool → Bool) → List Bool → Scalar
 truth_of f [] = Scalar.Err ErrKind.Value
 truth_of f (b ∷ bs) = Scalar.Bool (f (b ∷ bs))
 
 abbrev pub total : List Scalar → Scalar
-total xs = unless (first_fault sum_fault xs) (exact (sum_of (filter_map whole_number xs)))
+total xs =
+    unless (first_fault sum_fault xs) (exact (fold ◌+ℤ◌ (pos 0) (filter_map whole_number xs)))
 
 abbrev pub count : List Scalar → Scalar
 count xs = Int (pos (length (filter_map whole_number xs)))
 
+-- the best number, or 0 of none
 abbrev pub extreme : (ℤ → ℤ → ℤ) → List Scalar → Scalar
-extreme better xs = unless (first_fault sum_fault xs) (Int (best better (filter_map whole_number xs)))
+extreme better xs =
+    let best = reduce better (filter_map whole_number xs) in
+    unless (first_fault sum_fault xs) (Int (unwrap_or best (pos 0)))
 
 abbrev pub verdict : (List Bool → Bool) → List Scalar → Scalar
 verdict f xs = unless (first_fault truth_fault xs) (truth_of f (filter_map truth xs))
@@ -144,9 +141,8 @@ no_error v = Ok v
 
 -- an argument that is a number: a blank is 0
 abbrev pub number : Value → Try ℤ
-number (One (Int n)) = Ok n
-number (One Blank) = Ok (pos 0)
 number (One (Scalar.Err k)) = Err k
+number (One x) = ok_or (amount x) ErrKind.Value
 number v = Err ErrKind.Value
 
 abbrev pub no_fault : Option ErrKind → Try (Unit {0})
@@ -155,8 +151,7 @@ no_fault (Some k) = Err k
 
 -- the result where the test holds, else the error
 abbrev pub when : {X : Type 0} → Bool → ErrKind → X → Try X
-when true k x = Ok x
-when false k x = Err k
+when b k x = if b then Ok x else Err k
 
 abbrev pub extent : (Size → ℕ) → Value → Value
 extent f (One (Scalar.Err k)) = One (Scalar.Err k)
@@ -210,19 +205,14 @@ left_over (negsuc n) xs = take (length xs - suc n) xs
 abbrev pub some_rows : ErrKind → List (List Scalar) → Try Value
 some_rows k rs = when (nat_lt 0 (width rs)) k (from_rows rs)
 
-abbrev pub kept_part : ℤ → ℤ → List (List Scalar) → List (List Scalar)
-kept_part m n rs = map (kept n) (kept m rs)
-
-abbrev pub left_over_part : ℤ → ℤ → List (List Scalar) → List (List Scalar)
-left_over_part m n rs = map (left_over n) (left_over m rs)
-
--- a part of the rows and of the columns, by two numbers
-abbrev pub part_of : (ℤ → ℤ → List (List Scalar) → List (List Scalar)) → Value → Value → Value → Try Value
-part_of part v u w = do
+-- a part of the rows, and of each of them a part, by two numbers
+abbrev pub part_of : (ℤ → List (List Scalar) → List (List Scalar)) →
+    (ℤ → List Scalar → List Scalar) → Value → Value → Value → Try Value
+part_of some_of part v u w = do
   no_error v
   m ← number u
   n ← number w
-  some_rows ErrKind.Value (part m n (rows v))
+  some_rows ErrKind.Value (map (part n) (some_of m (rows v)))
 
 -- rows of one width, with #N/A where one is shorter
 abbrev pub padded : ℕ → List Scalar → List Scalar
@@ -246,14 +236,7 @@ is_column_beside u v = ((shape u).cols == 1) && ((shape u).rows == (shape v).row
 
 -- the truth that keeps a row: a blank is FALSE
 abbrev pub keeps : Scalar → Bool
-keeps (Scalar.Bool b) = b
-keeps x = false
-
--- the rows whose truth is TRUE
-abbrev pub kept_rows : List Scalar → List (List Scalar) → List (List Scalar)
-kept_rows [] rs = []
-kept_rows ks [] = []
-kept_rows (k ∷ ks) (r ∷ rs) = if keeps k then r ∷ kept_rows ks rs else kept_rows ks rs
+keeps x = unwrap_or (truth x) false
 
 abbrev pub filter_rows : Value → Value → Try Value
 filter_rows v keep = do
@@ -261,21 +244,12 @@ filter_rows v keep = do
   no_error keep
   ks ← when (is_column_beside keep v) ErrKind.Value (elements keep)
   no_fault (first_fault truth_fault ks)
-  some_rows ErrKind.Na (kept_rows ks (rows v))
+  some_rows ErrKind.Na (items_where_true (map keeps ks) (rows v))
 
-abbrev pub same_row : List Scalar → List Scalar → Bool
-same_row [] [] = true
-same_row (x ∷ xs) (y ∷ ys) = same_scalar x y && same_row xs ys
-same_row xs ys = false
-
--- the rows without those that stand before
-abbrev pub new_rows : List (List Scalar) → List (List Scalar) → List (List Scalar)
-new_rows seen [] = []
-new_rows seen (r ∷ rs) = if list_any (same_row r) seen then new_rows seen rs else r ∷ new_rows (r ∷ seen) rs
-
+-- the distinct rows, equal by structure
 abbrev pub unique : Value → Value
 unique (One x) = One x
-unique v = from_rows (new_rows [] (rows v))
+unique v = from_rows (distinct (pointwise same_scalar) (rows v))
 
 -- what LOOKUP looks for: any scalar but an error or a sheet value
 abbrev pub sought : Value → Try Scalar
@@ -295,7 +269,8 @@ lookup u keys v = do
   x ← sought u
   no_error keys
   no_error v
-  when (is_column_beside keys v && is_column_beside v keys) ErrKind.Value (One (looked_up x (elements keys) (elements v)))
+  when (is_column_beside keys v && is_column_beside v keys) ErrKind.Value
+      (One (looked_up x (elements keys) (elements v)))
 
 -- ---- all of them; the grammar allows no other numbers of arguments
 
@@ -304,8 +279,8 @@ apply Sum vs = One (total (all_elements vs))
 apply Count vs = One (count (all_elements vs))
 apply Min vs = One (extreme lesser (all_elements vs))
 apply Max vs = One (extreme greater (all_elements vs))
-apply And vs = One (verdict all_true (all_elements vs))
-apply Or vs = One (verdict some_true (all_elements vs))
+apply And vs = One (verdict (list_all (λ b. b)) (all_elements vs))
+apply Or vs = One (verdict (list_any (λ b. b)) (all_elements vs))
 apply Not (v ∷ []) = lift1 negation v
 apply IsError (v ∷ []) = lift1 is_error v
 apply IsBlank (v ∷ []) = lift1 is_blank v
@@ -319,8 +294,8 @@ apply Columns (v ∷ []) = extent (λ s. s.cols) v
 apply Index (v ∷ r ∷ c ∷ []) = value_or_error (index v r c)
 apply Sequence (m ∷ n ∷ []) = value_or_error (sequence m n)
 apply Transpose (v ∷ []) = transpose v
-apply Take (v ∷ m ∷ n ∷ []) = value_or_error (part_of kept_part v m n)
-apply Drop (v ∷ m ∷ n ∷ []) = value_or_error (part_of left_over_part v m n)
+apply Take (v ∷ m ∷ n ∷ []) = value_or_error (part_of kept kept v m n)
+apply Drop (v ∷ m ∷ n ∷ []) = value_or_error (part_of left_over left_over v m n)
 apply HStack vs = hstack vs
 apply VStack vs = vstack vs
 apply Filter (v ∷ keep ∷ []) = value_or_error (filter_rows v keep)

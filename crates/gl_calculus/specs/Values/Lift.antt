@@ -1,5 +1,7 @@
 -- Arrays, and operators on scalars lifted to values.
-use Rattle.std.specs.Prelude.{ℕ, zero, suc, ◌+◌, ◌*◌, ◌==◌, max, nat_lt, nat_le, Bool, true, false, ◌&&◌, ◌||◌, List, [], ◌∷◌, length, map, flat_map, get_or, take, drop, if◌then◌else◌}
+use Rattle.std.specs.Prelude.{ℕ, zero, suc, ◌+◌, ◌*◌, ◌==◌, max, nat_lt, nat_le, Bool, ◌&&◌, ◌||◌}
+use Rattle.std.specs.Prelude.{List, [], ◌∷◌, length, map, flat_map, get_or, take, drop}
+use Rattle.std.specs.Prelude.{if◌then◌else◌}
 use Rattle.std.specs.List.{range_with_len}
 use Rattle.gl_calculus.specs.Grid.Limits.{max_cells}
 use Rattle.gl_calculus.specs.Grid.Grid.{Size, size}
@@ -14,7 +16,8 @@ shape (Array s xs) = s
 -- the element at row i and column j, from 0, or else the default
 abbrev pub item_or : Scalar → Value → ℕ → ℕ → Scalar
 item_or d (One x) i j = if (i == 0) && (j == 0) then x else d
-item_or d (Array s xs) i j = if nat_lt i s.rows && nat_lt j s.cols then get_or (items xs) (i * s.cols + j) d else d
+item_or d (Array s xs) i j =
+    if nat_lt i s.rows && nat_lt j s.cols then get_or (items xs) (i * s.cols + j) d else d
 
 -- the same, with #N/A beyond the extents
 abbrev pub item : Value → ℕ → ℕ → Scalar
@@ -27,14 +30,11 @@ spread v i j = item v (if (shape v).rows == 1 then 0 else i) (if (shape v).cols 
 abbrev pub is_small : Size → Bool
 is_small s = nat_le (s.rows * s.cols) max_cells
 
--- the array of these extents, if it is small, with an element for each row and column
-abbrev pub table_if : Bool → Size → (ℕ → ℕ → Scalar) → Value
-table_if true s f = Array s (scalars (flat_map (λ i. map (f i) (range_with_len 0 s.cols)) (range_with_len 0 s.rows)))
-table_if false s f = One (Scalar.Err ErrKind.Size)
-
--- the same, or #SIZE! where it isn't small
+-- the array of these extents with an element for each row and column, or #SIZE! if it isn't small
 abbrev pub table : Size → (ℕ → ℕ → Scalar) → Value
-table s = table_if (is_small s) s
+table s f =
+    let xs = flat_map (λ i. map (f i) (range_with_len 0 s.cols)) (range_with_len 0 s.rows) in
+    if is_small s then Array s (scalars xs) else One (Scalar.Err ErrKind.Size)
 
 -- the greater extents
 abbrev pub hull : Size → Size → Size
@@ -46,22 +46,25 @@ lift1 f v = table (shape v) (λ i j. f (item v i j))
 
 -- row i and column j are within the extents, where an extent of 1 repeats
 abbrev pub reaches : Value → ℕ → ℕ → Bool
-reaches v i j = ((shape v).rows == 1 || nat_lt i (shape v).rows) && ((shape v).cols == 1 || nat_lt j (shape v).cols)
+reaches v i j =
+    let s = shape v in (s.rows == 1 || nat_lt i s.rows) && (s.cols == 1 || nat_lt j s.cols)
 
 -- an element of the result is #N/A where one of the values doesn't reach it
 abbrev pub where_reached : Bool → Scalar → Scalar
-where_reached true x = x
-where_reached false x = Scalar.Err ErrKind.Na
+where_reached b x = if b then x else Scalar.Err ErrKind.Na
 
 abbrev pub lift2 : (Scalar → Scalar → Scalar) → Value → Value → Value
 lift2 f (One x) (One y) = One (f x y)
-lift2 f u v = table (hull (shape u) (shape v)) (λ i j. where_reached (reaches u i j && reaches v i j) (f (spread u i j) (spread v i j)))
+lift2 f u v =
+    table (hull (shape u) (shape v))
+    (λ i j. where_reached (reaches u i j && reaches v i j) (f (spread u i j) (spread v i j)))
 
 abbrev pub lift3 : (Scalar → Scalar → Scalar → Scalar) → Value → Value → Value → Value
 lift3 f (One x) (One y) (One z) = One (f x y z)
 lift3 f u v w =
     table (hull (shape u) (hull (shape v) (shape w)))
-    (λ i j. where_reached (reaches u i j && reaches v i j && reaches w i j) (f (spread u i j) (spread v i j) (spread w i j)))
+    (λ i j. where_reached (reaches u i j && reaches v i j && reaches w i j)
+    (f (spread u i j) (spread v i j) (spread w i j)))
 
 -- ---- rows
 
@@ -78,11 +81,8 @@ abbrev pub width : List (List Scalar) → ℕ
 width [] = 0
 width (r ∷ rs) = length r
 
--- the array of these rows, which are equally long, if it is small
-abbrev pub rows_if : Bool → List (List Scalar) → Value
-rows_if true rs = Array (size (length rs) (width rs)) (scalars (flat_map (λ r. r) rs))
-rows_if false rs = One (Scalar.Err ErrKind.Size)
-
--- the same, or #SIZE! where it isn't small
+-- the array of these rows, which are equally long, or #SIZE! if it isn't small
 abbrev pub from_rows : List (List Scalar) → Value
-from_rows rs = rows_if (is_small (size (length rs) (width rs))) rs
+from_rows rs =
+    let s = size (length rs) (width rs) in
+    if is_small s then Array s (scalars (flat_map (λ r. r) rs)) else One (Scalar.Err ErrKind.Size)

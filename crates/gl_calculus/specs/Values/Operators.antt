@@ -1,15 +1,22 @@
 -- The operators on scalars.
-use Rattle.std.specs.Prelude.{ℕ, ◌^◌, ◌==◌, nat_lt, ℤ, pos, ◌+ℤ◌, ◌-ℤ◌, ◌*ℤ◌, neg_ℤ, int_lt, int_le, int_div, Bool, true, false, ◌&&◌, ◌||◌, not, List, [], ◌∷◌, ◌++◌, length, Option, Some, None, bytes_eq, codes, if◌then◌else◌}
+use Rattle.std.specs.Prelude.{ℕ, ◌^◌, nat_lt, ℤ, pos, ◌+ℤ◌, ◌-ℤ◌, ◌*ℤ◌, neg_ℤ, int_lt, int_le}
+use Rattle.std.specs.Prelude.{int_div, Bool, true, false, ◌&&◌, ◌||◌, not, List, [], ◌++◌, length}
+use Rattle.std.specs.Prelude.{Option, Some, None, bytes_eq, codes, if◌then◌else◌, int_rem}
 use Rattle.std.specs.Fmt.{signed_decimal}
 use Rattle.gl_calculus.specs.Grid.Limits.{max_text}
 use Rattle.gl_calculus.specs.Values.ErrKind.{ErrKind}
 use Rattle.gl_calculus.specs.Values.Value.{Scalar, Blank, Int, Text, Sheet}
 use Rattle.gl_calculus.specs.Values.Same.{same_int, same_bool}
 use Rattle.gl_calculus.specs.Formulas.Formula.{Op, Eq, Ne, Lt, Le, Gt, Ge, Join, Add, Sub, Mul, Div}
+use Rattle.std.specs.Ordering.{nat_cmp, is_lt}
+use Rattle.std.specs.Cmp.Lexicographic.{slice_cmp}
+use Rattle.std.specs.Option.{option_map_or}
 
 -- an exact number, or #NUM! where it leaves the 64 bits
 abbrev pub exact : ℤ → Scalar
-exact n = if int_le (neg_ℤ (pos (2 ^ 63))) n && int_lt n (pos (2 ^ 63)) then Int n else Scalar.Err ErrKind.Num
+exact n =
+    if int_le (neg_ℤ (pos (2 ^ 63))) n && int_lt n (pos (2 ^ 63)) then Int n
+    else Scalar.Err ErrKind.Num
 
 -- An error of the first operand is the result, else one of the second; a sheet value is no operand.
 abbrev pub strict : (Scalar → Scalar → Scalar) → Scalar → Scalar → Scalar
@@ -39,23 +46,18 @@ numeric f = strict (λ x y. on_amounts f (amount x) (amount y))
 abbrev pub quotient : ℤ → ℤ → Scalar
 quotient m n = if same_int n (pos 0) then Scalar.Err ErrKind.Div0 else exact (int_div m n)
 
--- the quotient rounded down
-abbrev pub floor_div : ℤ → ℤ → ℤ
-floor_div m n =
-    let q = int_div m n in
-    let r = m -ℤ (q *ℤ n) in
-    if same_int r (pos 0) || same_bool (int_lt r (pos 0)) (int_lt n (pos 0)) then q else (q -ℤ pos 1)
-
--- the remainder of that quotient, with the sign of the divisor
+-- the remainder with the sign of the divisor
 abbrev pub modulo : ℤ → ℤ → Scalar
-modulo m n = if same_int n (pos 0) then Scalar.Err ErrKind.Div0 else exact (m -ℤ (n *ℤ floor_div m n))
+modulo m n =
+    let r = int_rem m n in
+    if same_int n (pos 0) then Scalar.Err ErrKind.Div0
+    else if same_int r (pos 0) || same_bool (int_lt r (pos 0)) (int_lt n (pos 0)) then exact r
+    else exact (r +ℤ n)
 
 -- a rule on one number: an error passes, and anything else is no operand
 abbrev pub on_amount : (ℤ → Scalar) → Scalar → Scalar
-on_amount f Blank = f (pos 0)
-on_amount f (Int n) = f n
 on_amount f (Scalar.Err k) = Scalar.Err k
-on_amount f x = Scalar.Err ErrKind.Value
+on_amount f x = option_map_or f (amount x) (Scalar.Err ErrKind.Value)
 
 abbrev pub negate : Scalar → Scalar
 negate = on_amount (λ n. exact (neg_ℤ n))
@@ -72,11 +74,6 @@ filled Blank (Text t) = Text []
 filled Blank (Scalar.Bool b) = Scalar.Bool false
 filled x y = x
 
-abbrev pub text_below : List ℕ → List ℕ → Bool
-text_below s [] = false
-text_below [] (c ∷ t) = true
-text_below (b ∷ s) (c ∷ t) = nat_lt b c || ((b == c) && text_below s t)
-
 abbrev pub equal : Scalar → Scalar → Bool
 equal Blank Blank = true
 equal (Int m) (Int n) = same_int m n
@@ -84,12 +81,13 @@ equal (Text s) (Text t) = bytes_eq s t
 equal (Scalar.Bool b) (Scalar.Bool c) = same_bool b c
 equal x y = false
 
--- every number is below every text, and every text below every truth value
+-- every number is below every text, and every text below every truth value; texts stand in the
+-- order of their bytes
 abbrev pub below : Scalar → Scalar → Bool
 below (Int m) (Int n) = int_lt m n
 below (Int m) (Text t) = true
 below (Int m) (Scalar.Bool c) = true
-below (Text s) (Text t) = text_below s t
+below (Text s) (Text t) = is_lt (slice_cmp nat_cmp s t)
 below (Text s) (Scalar.Bool c) = true
 below (Scalar.Bool false) (Scalar.Bool c) = c
 below x y = false
@@ -119,8 +117,7 @@ text t = if nat_lt max_text (length t) then Scalar.Err ErrKind.Size else Text t
 -- the plain text of a scalar that has one
 abbrev pub plain : Scalar → List ℕ
 plain (Int n) = signed_decimal n
-plain (Scalar.Bool true) = codes "TRUE"
-plain (Scalar.Bool false) = codes "FALSE"
+plain (Scalar.Bool b) = if b then codes "TRUE" else codes "FALSE"
 plain (Text t) = t
 plain x = []
 

@@ -1,8 +1,12 @@
 -- Equality by structure, as a test.
-use Rattle.std.specs.Prelude.{◌==◌, ℤ, pos, negsuc, Bool, true, false, ◌&&◌, not, [], ◌∷◌, bytes_eq}
+use Rattle.std.specs.Prelude.{◌==◌, ℤ, pos, negsuc, Bool, true, false, ◌&&◌, not, bytes_eq}
 use Rattle.gl_calculus.specs.Grid.Grid.{same_addr, same_range, same_size}
 use Rattle.gl_calculus.specs.Values.ErrKind.{ErrKind}
-use Rattle.gl_calculus.specs.Values.Value.{Permit, Permitted, Refused, Entry, Oracle, Scalar, Scalars, no_scalar, scalar_and, Value, One, Array, Overrides, no_override, override_and, SheetValue, sheet_value, Frame, Top, In}
+use Rattle.gl_calculus.specs.Values.Value.{Permit, Permitted, Refused, Entry, Oracle, Scalar}
+use Rattle.gl_calculus.specs.Values.Value.{Scalars, no_scalar, scalar_and, Value, One, Array}
+use Rattle.gl_calculus.specs.Values.Value.{Overrides, no_override, override_and, SheetValue}
+use Rattle.gl_calculus.specs.Values.Value.{sheet_value, Frame, Top, In}
+use lib.Pointwise.{pointwise}
 
 abbrev pub same_int : ℤ → ℤ → Bool
 same_int (pos m) (pos n) = m == n
@@ -34,9 +38,7 @@ abbrev pub same_entry : Entry → Entry → Bool
 same_entry x y = same_addr x.root y.root && same_size x.size y.size && same_permit x.permit y.permit
 
 abbrev pub same_oracle : Oracle → Oracle → Bool
-same_oracle [] [] = true
-same_oracle (x ∷ xs) (y ∷ ys) = same_entry x y && same_oracle xs ys
-same_oracle xs ys = false
+same_oracle = pointwise same_entry
 
 abbrev mutual
   pub same_scalar : Scalar → Scalar → Bool
@@ -60,11 +62,13 @@ abbrev mutual
 
   pub same_overrides : Overrides → Overrides → Bool
   same_overrides no_override no_override = true
-  same_overrides (override_and a u os) (override_and b v ps) = same_addr a b && same_value u v && same_overrides os ps
+  same_overrides (override_and a u os) (override_and b v ps) =
+      same_addr a b && same_value u v && same_overrides os ps
   same_overrides os ps = false
 
   pub same_sheet : SheetValue → SheetValue → Bool
-  same_sheet (sheet_value r os e j v) (sheet_value s ps f k w) = same_range r s && same_overrides os ps && same_frame e f && (j == k) && (v == w)
+  same_sheet (sheet_value r os e j v) (sheet_value s ps f k w) =
+      same_range r s && same_overrides os ps && same_frame e f && (j == k) && (v == w)
 
   pub same_frame : Frame → Frame → Bool
   same_frame Top Top = true

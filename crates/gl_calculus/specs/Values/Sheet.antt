@@ -1,8 +1,12 @@
 -- How sheet values are made: overrides, rank and weight, SHEET and UPDATE.
-use Rattle.std.specs.Prelude.{ℕ, ◌+◌, max, nat_lt, List, [], ◌∷◌, length, Option, Some, None, if◌then◌else◌}
+use Rattle.std.specs.Prelude.{ℕ, ◌+◌, max, nat_lt, List, [], ◌∷◌, length, Option, Some, None}
+use Rattle.std.specs.Prelude.{if◌then◌else◌}
 use Rattle.gl_calculus.specs.Grid.Grid.{Addr, same_addr, is_before, Range, covers}
 use Rattle.gl_calculus.specs.Grid.Limits.{max_rank, max_weight}
-use Rattle.gl_calculus.specs.Values.Value.{Scalar, Scalars, no_scalar, scalar_and, Value, One, Array, elements, Overrides, no_override, override_and, SheetValue, sheet_value, region, overrides, parent, rank, Frame, Top, In}
+use Rattle.gl_calculus.specs.Values.Value.{Scalar, Scalars, no_scalar, scalar_and, Value, One}
+use Rattle.gl_calculus.specs.Values.Value.{Array, elements, Overrides, no_override, override_and}
+use Rattle.gl_calculus.specs.Values.Value.{SheetValue, sheet_value, region, overrides, parent, rank}
+use Rattle.gl_calculus.specs.Values.Value.{Frame, Top, In}
 
 abbrev pub override_at : Overrides → Addr → Option Value
 override_at no_override a = None
@@ -13,7 +17,8 @@ abbrev pub with_override : Addr → Value → Overrides → Overrides
 with_override a v no_override = override_and a v no_override
 with_override a v (override_and b u os) =
     if same_addr a b then override_and a v os
-    else if is_before a b then override_and a v (override_and b u os) else override_and b u (with_override a v os)
+    else if is_before a b then override_and a v (override_and b u os)
+    else override_and b u (with_override a v os)
 
 -- ---- rank and weight
 
@@ -59,7 +64,9 @@ pub data Made : Type 0 where
 
 -- a sheet value above the limits isn't made: first the rank, then the weight
 abbrev pub within_limits : SheetValue → Made
-within_limits s = if nat_lt max_rank (rank s) then Deep else if nat_lt max_weight (weight s) then Heavy else Sheet s
+within_limits s =
+    if nat_lt max_rank (rank s) then Deep
+    else if nat_lt max_weight (weight s) then Heavy else Sheet s
 
 -- the sheet value of these parts, with its weight
 abbrev pub weighed : Range → Overrides → Frame → ℕ → SheetValue
@@ -71,5 +78,6 @@ sheet e r = within_limits (weighed r no_override e (frame_rank e + 1))
 abbrev pub update : Frame → SheetValue → Addr → Value → Made
 update e s a v =
     if covers (region s) a
-    then within_limits (weighed (region s) (with_override a v (overrides s)) (parent s) (max (rank s) (max (frame_rank e + 1) (rank_above (elements v)))))
+    then within_limits (weighed (region s) (with_override a v (overrides s)) (parent s)
+    (max (rank s) (max (frame_rank e + 1) (rank_above (elements v)))))
     else Outside

@@ -1,6 +1,6 @@
 -- The value of each function fits the shape of its call.
 use Rattle.std.proofs.Common.{◌≡◌, ℕ, zero, suc, ◌+◌, ◌-◌, ◌*◌, ◌≤◌, nat_lt, nat_le, ℤ, pos, negsuc, Bool, true, false, ◌&&◌, List, [], ◌∷◌, length, map, take, drop, Option, Some, None, option_map, Ok, Err, refl, ap, sym, subst, arith, if◌then◌else◌}
-use Rattle.std.specs.List.{flat_map, list_any}
+use Rattle.std.specs.List.{flat_map, items_where_true}
 use Rattle.std.proofs.lemmas.Bool.{ltb-true, and_parts}
 use Rattle.std.proofs.lemmas.List.{length-append, length-take, length-drop, length-map, map-append}
 use Rattle.gl_calculus.specs.Grid.Limits.{max_cells}
@@ -10,16 +10,20 @@ use Rattle.gl_calculus.specs.Values.Value.{Scalar, Value, One, Array, items, ele
 use Rattle.gl_calculus.specs.Formulas.Formula.{Fun, Formula, Formulas}
 use Rattle.gl_calculus.specs.Formulas.Formula as F
 use Rattle.gl_calculus.specs.Values.Operators.{modulo, magnitude, numeric}
-use Rattle.gl_calculus.specs.Values.Lift.{shape, item, is_small, table_if, rows, width, cut, rows_if, from_rows}
-use Rattle.gl_calculus.specs.Values.Functions.{Try, value_or_error, no_error, number, when, first_fault, truth_fault, extent, index, sequence, flipped, transpose, kept, left_over, take_last, some_rows, kept_part, left_over_part, part_of, padded, greatest_cols, vstack, hstack, is_column_beside, keeps, kept_rows, filter_rows, same_row, new_rows, unique, sought, looked_up, lookup, negation, is_error, is_blank, text_length, text_part, apply}
+use Rattle.gl_calculus.specs.Values.Lift.{shape, item, is_small, rows, width, cut, from_rows}
+use Rattle.gl_calculus.specs.Values.Functions.{Try, value_or_error, no_error, number, when, first_fault, truth_fault, extent, index, sequence, flipped, transpose, kept, left_over, take_last, some_rows, part_of, padded, greatest_cols, vstack, hstack, is_column_beside, keeps, filter_rows, unique, sought, looked_up, lookup, negation, is_error, is_blank, text_length, text_part, apply}
 use Rattle.gl_calculus.specs.Forecast as Fo
-use Rattle.gl_calculus.specs.Forecast.{Shape, full, any_size, under, beside}
+use Rattle.gl_calculus.specs.Forecast.{Shape, size_of, any_size, vstack_size, hstack_size}
 use Rattle.laws_calculus.proofs.Sound.Values.{IsSoundValue, AllSoundValues, parts_of}
 use Rattle.laws_calculus.proofs.Sound.Lift.{shape_positive, table_sound, item_sound}
 use Rattle.laws_calculus.proofs.Sound.Arrays.{sequence_sound, hstack_sound, vstack_sound}
 use Rattle.laws_calculus.proofs.Sound.Functions.{Enough}
 use Rattle.laws_calculus.proofs.Sound.Rows.{AreRows, rows_kept, rows_left, rows_map, kept_length, kept_is, kept_sound, left_length, left_is, left_sound, value_rows, pad_rows, rows_append, rows_chosen, rows_new}
 use Rattle.laws_calculus.proofs.Forecast.Shapes.{Fits, AllFit, AtMost, fits_most, most_fits, IsPositive, AllPositive, full_positive, lift1_fits, lift2_fits, join_left, join_on}
+use lib.Pointwise.{pointwise}
+use Rattle.gl_calculus.specs.Values.Same.{same_scalar}
+use Rattle.gl_calculus.specs.Computation.Lists.{fresh, has_member}
+use Rattle.gl_calculus.proofs.Tables.{table_if, rows_if}
 
 -- ---- arrays of rows
 
@@ -64,60 +68,57 @@ left_within (negsuc m) n = omega arith
 
 -- a part of the rows and columns of a value is no larger
 module _ (s : Shape) (v : Value) (pos' : IsPositive s) (sound : IsSoundValue v) (fit : Fits s v) where
-  most : AtMost (full s) v
+  most : AtMost (size_of s) v
   most = let p = full_positive s pos' in fits_most s v fit sound p.0 p.1
 
-  part_fits : (part : ℤ → ℤ → List (List Scalar) → List (List Scalar)) → ((m n : ℤ) → (k : ℕ) × AreRows k (part m n (rows v)) × (k ≤ (shape v).cols) × (length (part m n (rows v)) ≤ (shape v).rows)) → (u w : Value) → Fits (Some (full s)) (value_or_error (part_of part v u w))
-  part_fits part g u w = by (no_error v) (number u) (number w) refl refl refl
+  part_fits : (some_of : ℤ → List (List Scalar) → List (List Scalar)) (part : ℤ → List Scalar → List Scalar) → ((m n : ℤ) → (k : ℕ) × AreRows k (map (part n) (some_of m (rows v))) × (k ≤ (shape v).cols) × (length (map (part n) (some_of m (rows v))) ≤ (shape v).rows)) → (u w : Value) → Fits (Some (size_of s)) (value_or_error (part_of some_of part v u w))
+  part_fits some_of part g u w = by (no_error v) (number u) (number w) refl refl refl
     where
-      by : (t : Try Value) (m n : Try ℤ) → no_error v ≡ t → number u ≡ m → number w ≡ n → Fits (Some (full s)) (value_or_error (part_of part v u w))
+      by : (t : Try Value) (m n : Try ℤ) → no_error v ≡ t → number u ≡ m → number w ≡ n → Fits (Some (size_of s)) (value_or_error (part_of some_of part v u w))
       by (Err k) m n e f q = rw e tt
       by (Ok x) (Err k) n e f q = rw (e, f) tt
       by (Ok x) (Ok m) (Err k) e f q = rw (e, f, q) tt
-      by (Ok x) (Ok m) (Ok n) e f q = let (k, a, l, c) = g m n in rw (e, f, q) (some_rows_fits ErrKind.Value k (part m n (rows v)) (full s) a (omega (arith, c, most.0)) (omega (arith, l, most.1)))
+      by (Ok x) (Ok m) (Ok n) e f q = let (k, a, l, c) = g m n in rw (e, f, q) (some_rows_fits ErrKind.Value k (map (part n) (some_of m (rows v))) (size_of s) a (omega (arith, c, most.0)) (omega (arith, l, most.1)))
 
-  pub take_fits : (u w : Value) → Fits (Some (full s)) (value_or_error (part_of kept_part v u w))
-  take_fits = part_fits kept_part (λ m n. (
+  pub take_fits : (u w : Value) → Fits (Some (size_of s)) (value_or_error (part_of kept kept v u w))
+  take_fits = part_fits kept kept (λ m n. (
     kept_length n (shape v).cols,
     rows_map (shape v).cols (kept n) (kept_length n) (kept_is n) (kept_sound n) (kept m (rows v)) (rows_kept (shape v).cols m (rows v) (value_rows v sound)),
     kept_within n (shape v).cols,
     omega (arith, length-map (kept m (rows v)) (kept n), kept_count m (rows v), row_count v),
   ))
 
-  pub drop_fits : (u w : Value) → Fits (Some (full s)) (value_or_error (part_of left_over_part v u w))
-  drop_fits = part_fits left_over_part (λ m n. (
+  pub drop_fits : (u w : Value) → Fits (Some (size_of s)) (value_or_error (part_of left_over left_over v u w))
+  drop_fits = part_fits left_over left_over (λ m n. (
     left_length n (shape v).cols,
     rows_map (shape v).cols (left_over n) (left_length n) (left_is n) (left_sound n) (left_over m (rows v)) (rows_left (shape v).cols m (rows v) (value_rows v sound)),
     left_within n (shape v).cols,
     omega (arith, length-map (left_over m (rows v)) (left_over n), left_count m (rows v), row_count v),
   ))
 
-  chosen_count : (ks : List Scalar) (rs : List (List Scalar)) → length (kept_rows ks rs) ≤ length rs
+  chosen_count : (bs : List Bool) (rs : List (List Scalar)) → length (items_where_true bs rs) ≤ length rs
   chosen_count [] rs = omega arith
-  chosen_count (k ∷ ks) [] = omega arith
-  chosen_count (k ∷ ks) (r ∷ rs) = by (keeps k) (chosen_count ks rs)
-    where
-      by : (b : Bool) → length (kept_rows ks rs) ≤ length rs → length (if b then r ∷ kept_rows ks rs else kept_rows ks rs) ≤ suc (length rs)
-      by true l = omega (arith, l)
-      by false l = omega (arith, l)
+  chosen_count (b ∷ bs) [] = omega arith
+  chosen_count (true ∷ bs) (r ∷ rs) = omega (arith, chosen_count bs rs)
+  chosen_count (false ∷ bs) (r ∷ rs) = omega (arith, chosen_count bs rs)
 
-  pub filter_fits : (keep : Value) → Fits (Some (full s)) (value_or_error (filter_rows v keep))
+  pub filter_fits : (keep : Value) → Fits (Some (size_of s)) (value_or_error (filter_rows v keep))
   filter_fits keep = by (no_error v) (no_error keep) (is_column_beside keep v) (first_fault truth_fault (elements keep)) refl refl refl refl
     where
-      by : (t q : Try Value) (b : Bool) (o : Option ErrKind) → no_error v ≡ t → no_error keep ≡ q → is_column_beside keep v ≡ b → first_fault truth_fault (elements keep) ≡ o → Fits (Some (full s)) (value_or_error (filter_rows v keep))
+      by : (t q : Try Value) (b : Bool) (o : Option ErrKind) → no_error v ≡ t → no_error keep ≡ q → is_column_beside keep v ≡ b → first_fault truth_fault (elements keep) ≡ o → Fits (Some (size_of s)) (value_or_error (filter_rows v keep))
       by (Err k) q b o e f g i = rw e tt
       by (Ok x) (Err k) b o e f g i = rw (e, f) tt
       by (Ok x) (Ok y) false o e f g i = rw (e, f, g) tt
       by (Ok x) (Ok y) true (Some k) e f g i = rw (e, f, g, i) tt
       by (Ok x) (Ok y) true None e f g i =
           rw (e, f, g, i)
-          (some_rows_fits ErrKind.Na (shape v).cols (kept_rows (elements keep) (rows v)) (full s) (rows_chosen (shape v).cols (elements keep) (rows v) (value_rows v sound)) (omega (arith, chosen_count (elements keep) (rows v), row_count v, most.0)) most.1)
+          (some_rows_fits ErrKind.Na (shape v).cols (items_where_true (map keeps (elements keep)) (rows v)) (size_of s) (rows_chosen (shape v).cols (map keeps (elements keep)) (rows v) (value_rows v sound)) (omega (arith, chosen_count (map keeps (elements keep)) (rows v), row_count v, most.0)) most.1)
 
-new_count : (seen rs : List (List Scalar)) → length (new_rows seen rs) ≤ length rs
+new_count : (seen rs : List (List Scalar)) → length (fresh (pointwise same_scalar) seen rs) ≤ length rs
 new_count seen [] = omega arith
-new_count seen (r ∷ rs) = by (list_any (same_row r) seen) (new_count seen rs) (new_count (r ∷ seen) rs)
+new_count seen (r ∷ rs) = by (has_member (pointwise same_scalar) r seen) (new_count seen rs) (new_count (r ∷ seen) rs)
   where
-    by : (b : Bool) → length (new_rows seen rs) ≤ length rs → length (new_rows (r ∷ seen) rs) ≤ length rs → length (if b then new_rows seen rs else r ∷ new_rows (r ∷ seen) rs) ≤ suc (length rs)
+    by : (b : Bool) → length (fresh (pointwise same_scalar) seen rs) ≤ length rs → length (fresh (pointwise same_scalar) (r ∷ seen) rs) ≤ length rs → length (if b then fresh (pointwise same_scalar) seen rs else r ∷ fresh (pointwise same_scalar) (r ∷ seen) rs) ≤ suc (length rs)
     by true l k = omega (arith, l)
     by false l k = omega (arith, k)
 
@@ -125,7 +126,7 @@ pub unique_fits : (s : Shape) (v : Value) → IsSoundValue v → Fits s v → Fi
 unique_fits s (One x) p h = tt
 unique_fits None (Array z xs) p h = absurd h
 unique_fits (Some s) (Array z xs) p h =
-    from_rows_fits z.cols (new_rows [] (rows (Array z xs))) s (rows_new z.cols [] (rows (Array z xs)) (value_rows (Array z xs) p)) (omega (arith, new_count [] (rows (Array z xs)), row_count (Array z xs), h.0)) h.1
+    from_rows_fits z.cols (fresh (pointwise same_scalar) [] (rows (Array z xs))) s (rows_new z.cols [] (rows (Array z xs)) (value_rows (Array z xs) p)) (omega (arith, new_count [] (rows (Array z xs)), row_count (Array z xs), h.0)) h.1
 
 table_most : (b : Bool) (z : Size) (f : ℕ → ℕ → Scalar) (s : Size) → z.rows ≤ s.rows → z.cols ≤ s.cols → 1 ≤ s.rows → 1 ≤ s.cols → AtMost s (table_if b z f)
 table_most true z f s h k a b = (h, k)
@@ -143,18 +144,18 @@ transpose_fits (Some s) (Array z xs) p h = most_fits (Fo.flipped s) (flipped (Ar
 
 abbrev AllMost : List Shape → List Value → Type 0
 AllMost [] [] = Unit {0}
-AllMost (s ∷ ss) (v ∷ vs) = AtMost (full s) v × AllMost ss vs
+AllMost (s ∷ ss) (v ∷ vs) = AtMost (size_of s) v × AllMost ss vs
 AllMost [] (v ∷ vs) = ⊥
 AllMost (s ∷ ss) [] = ⊥
 
-stack_rows : (n : ℕ) (ss : List Shape) (vs : List Value) → AllMost ss vs → length (map (padded n) (flat_map rows vs)) ≤ (under ss).rows
+stack_rows : (n : ℕ) (ss : List Shape) (vs : List Value) → AllMost ss vs → length (map (padded n) (flat_map rows vs)) ≤ (vstack_size ss).rows
 stack_rows n [] [] h = omega arith
 stack_rows n (s ∷ ss) (v ∷ vs) h =
     omega (arith, length-map (flat_map rows (v ∷ vs)) (padded n), length-append (rows v) (flat_map rows vs), row_count v, h.0.0, stack_rows n ss vs h.1, length-map (flat_map rows vs) (padded n))
 stack_rows n [] (v ∷ vs) h = absurd h
 stack_rows n (s ∷ ss) [] h = absurd h
 
-stack_cols : (ss : List Shape) (vs : List Value) → AllMost ss vs → greatest_cols vs ≤ (under ss).cols
+stack_cols : (ss : List Shape) (vs : List Value) → AllMost ss vs → greatest_cols vs ≤ (vstack_size ss).cols
 stack_cols [] [] h = omega arith
 stack_cols (s ∷ ss) (v ∷ vs) h = omega (arith, h.0.1, stack_cols ss vs h.1)
 stack_cols [] (v ∷ vs) h = absurd h
@@ -166,8 +167,8 @@ padded_rows n (v ∷ vs) l h =
     subst (AreRows n) (sym (map-append (padded n) (rows v) (flat_map rows vs)))
     (rows_append n (map (padded n) (rows v)) (map (padded n) (flat_map rows vs)) (pad_rows (shape v).cols n (rows v) (omega (arith, l)) (value_rows v h.0)) (padded_rows n vs (omega (arith, l)) h.1))
 
-vstack_fits : (ss : List Shape) (vs : List Value) → AllMost ss vs → AllSoundValues vs → Fits (Some (under ss)) (vstack vs)
-vstack_fits ss vs h p = from_rows_fits (greatest_cols vs) (map (padded (greatest_cols vs)) (flat_map rows vs)) (under ss) (padded_rows (greatest_cols vs) vs (omega arith) p) (stack_rows (greatest_cols vs) ss vs h) (stack_cols ss vs h)
+vstack_fits : (ss : List Shape) (vs : List Value) → AllMost ss vs → AllSoundValues vs → Fits (Some (vstack_size ss)) (vstack vs)
+vstack_fits ss vs h p = from_rows_fits (greatest_cols vs) (map (padded (greatest_cols vs)) (flat_map rows vs)) (vstack_size ss) (padded_rows (greatest_cols vs) vs (omega arith) p) (stack_rows (greatest_cols vs) ss vs h) (stack_cols ss vs h)
 
 -- a sound array that fits some extents fits them cut
 factor_rows : (m n : ℕ) → 1 ≤ n → m * n ≤ max_cells → m ≤ max_cells
@@ -184,7 +185,7 @@ small_rows z xs h = let e = (parts_of z xs h).extents in factor_rows z.rows z.co
 pub small_cols : (z : Size) (xs : _) → IsSoundValue (Array z xs) → z.cols ≤ max_cells
 small_cols z xs h = let e = (parts_of z xs h).extents in factor_cols z.rows z.cols e.rows e.small
 
-pub cut_fits : (s : Size) (v : Value) → IsSoundValue v → Fits (Some s) v → Fits (Some (Fo.cut s)) v
+pub cut_fits : (s : Size) (v : Value) → IsSoundValue v → Fits (Some s) v → Fits (Some (Fo.limited s)) v
 cut_fits s (One x) p h = tt
 cut_fits s (Array z xs) p h = (omega (arith, h.0, small_rows z xs p), omega (arith, h.1, small_cols z xs p))
 
@@ -192,7 +193,7 @@ pub any_fits : (v : Value) → IsSoundValue v → Fits (Some any_size) v
 any_fits (One x) p = tt
 any_fits (Array z xs) p = (small_rows z xs p, small_cols z xs p)
 
-under_positive : (s : Shape) (ss : List Shape) → AllPositive (s ∷ ss) → (1 ≤ (under (s ∷ ss)).rows) × (1 ≤ (under (s ∷ ss)).cols)
+under_positive : (s : Shape) (ss : List Shape) → AllPositive (s ∷ ss) → (1 ≤ (vstack_size (s ∷ ss)).rows) × (1 ≤ (vstack_size (s ∷ ss)).cols)
 under_positive s ss h = let p = full_positive s h.0 in (omega (arith, p.0), omega (arith, p.1))
 
 flipped_positive : (ss : List Shape) → AllPositive ss → AllPositive (map (option_map Fo.flipped) ss)
@@ -222,10 +223,10 @@ all_flipped_sound : (vs : List Value) → AllSoundValues vs → AllSoundValues (
 all_flipped_sound [] h = tt
 all_flipped_sound (v ∷ vs) h = (flipped_sound v h.0, all_flipped_sound vs h.1)
 
-hstack_fits : (s : Shape) (ss : List Shape) (vs : List Value) → AllPositive (s ∷ ss) → AllSoundValues vs → AllFit (s ∷ ss) vs → Fits (Some (beside (s ∷ ss))) (hstack vs)
+hstack_fits : (s : Shape) (ss : List Shape) (vs : List Value) → AllPositive (s ∷ ss) → AllSoundValues vs → AllFit (s ∷ ss) vs → Fits (Some (hstack_size (s ∷ ss))) (hstack vs)
 hstack_fits s ss vs p q h =
     let ts = map (option_map Fo.flipped) (s ∷ ss) in
-    transpose_fits (Some (under ts)) (vstack (map flipped vs)) (under_positive (option_map Fo.flipped s) (map (option_map Fo.flipped) ss) (flipped_positive (s ∷ ss) p))
+    transpose_fits (Some (vstack_size ts)) (vstack (map flipped vs)) (under_positive (option_map Fo.flipped s) (map (option_map Fo.flipped) ss) (flipped_positive (s ∷ ss) p))
     (vstack_fits ts (map flipped vs) (all_flipped_most (s ∷ ss) vs p (all_most (s ∷ ss) vs p q h)) (all_flipped_sound vs q))
 
 -- ---- one element, and counts
@@ -303,13 +304,13 @@ sequence_fits f g u v h k = by (Fo.written_extent f) (Fo.written_extent g) refl 
 
 -- ---- all of them
 
-alone_fits : (s : Shape) (v : Value) → Fits s v → Fits (Fo.all_joined (s ∷ [])) v
+alone_fits : (s : Shape) (v : Value) → Fits s v → Fits (Fo.greatest_shape (s ∷ [])) v
 alone_fits s v h = join_left s None v h
 
-two_fit : (s t : Shape) (v : Value) → Fits (Fo.joined s t) v → Fits (Fo.all_joined (s ∷ t ∷ [])) v
-two_fit s t v h = join_on s t None v (join_left (Fo.joined s t) None v h)
+two_fit : (s t : Shape) (v : Value) → Fits (Fo.greater_shape s t) v → Fits (Fo.greatest_shape (s ∷ t ∷ [])) v
+two_fit s t v h = join_on s t None v (join_left (Fo.greater_shape s t) None v h)
 
-stacked : (s : Size) (v : Value) → IsSoundValue v → Fits (Some s) v → Fits (Some (Fo.cut s)) v
+stacked : (s : Size) (v : Value) → IsSoundValue v → Fits (Some s) v → Fits (Some (Fo.limited s)) v
 stacked = cut_fits
 
 pub call_fits : (f : Fun) (fs : Formulas) (ss : List Shape) (vs : List Value) → Enough f (length vs) → AllWritten fs vs → AllPositive ss → AllSoundValues vs → AllFit ss vs → Fits (Fo.call_shape f fs ss) (apply f vs)
@@ -338,8 +339,8 @@ call_fits F.Fun.Unique fs (s ∷ []) (v ∷ []) e w p q h = unique_fits s v q.0 
 call_fits F.Fun.Take fs (s ∷ ss) (v ∷ m ∷ n ∷ []) e w p q h = take_fits s v p.0 q.0 h.0 m n
 call_fits F.Fun.Drop fs (s ∷ ss) (v ∷ m ∷ n ∷ []) e w p q h = drop_fits s v p.0 q.0 h.0 m n
 call_fits F.Fun.Filter fs (s ∷ ss) (v ∷ k ∷ []) e w p q h = filter_fits s v p.0 q.0 h.0 k
-call_fits F.Fun.HStack fs (s ∷ ss) vs e w p q h = stacked (beside (s ∷ ss)) (hstack vs) (hstack_sound vs e q) (hstack_fits s ss vs p q h)
-call_fits F.Fun.VStack fs ss vs e w p q h = stacked (under ss) (vstack vs) (vstack_sound vs e q) (vstack_fits ss vs (all_most ss vs p q h) q)
+call_fits F.Fun.HStack fs (s ∷ ss) vs e w p q h = stacked (hstack_size (s ∷ ss)) (hstack vs) (hstack_sound vs e q) (hstack_fits s ss vs p q h)
+call_fits F.Fun.VStack fs ss vs e w p q h = stacked (vstack_size ss) (vstack vs) (vstack_sound vs e q) (vstack_fits ss vs (all_most ss vs p q h) q)
 call_fits F.Fun.HStack fs [] [] e w p q h = absurd (omega (arith, e))
 call_fits F.Fun.Sequence F.Formulas.no_formula ss (v ∷ vs) e w p q h = absurd w
 call_fits F.Fun.Sequence (F.Formulas.formula_and f F.Formulas.no_formula) ss (u ∷ v ∷ vs) e w p q h = absurd w.1

@@ -23,7 +23,7 @@ use Rattle.laws_calculus.proofs.Sound.Lift.{lift1_sound, lift2_sound, lift3_soun
 use Rattle.laws_calculus.proofs.Sound.Functions.{Enough, apply_sound}
 use Rattle.laws_calculus.proofs.Sound.Evaluation.{chosen_sound, replaced_sound, takes_enough}
 use Rattle.gl_calculus.specs.Forecast as Fo
-use Rattle.gl_calculus.specs.Forecast.{Shape, Shapes, shape, shapes, operand_shapes, joined, all_joined, Node, Entry, Piece, Reads, pieces, all_pieces, operand_pieces, piece_nodes, piece_makes, makes_sheets, spilled_shape}
+use Rattle.gl_calculus.specs.Forecast.{Shape, Shapes, shape, shapes, operand_shapes, greater_shape, greatest_shape, Node, Entry, Piece, Reads, pieces, all_pieces, operand_pieces, piece_nodes, piece_makes, spilled_shape, Calls}
 use Rattle.laws_calculus.proofs.Forecast.Alike.{both_return, alike_weaken}
 use Rattle.laws_calculus.proofs.Forecast.Oracles.{IsFit}
 use Rattle.laws_calculus.proofs.Forecast.Shapes.{Fits, AllFit, IsPositive, AllPositive, join_left, join_right, join_on, lift1_fits, lift2_fits, lift3_fits}
@@ -110,18 +110,18 @@ module _ (version : Version) (S : Cells) (fit : AreFit S) (w w' : Oracle) (fits 
 
   -- ---- IF and IFERROR
 
-  two_from : (s t : Shape) (v : Value) → IsOf (joined s t) v → IsOf (all_joined (s ∷ t ∷ [])) v
-  two_from s t v h = (h.0, join_on s t None v (join_left (joined s t) None v h.1))
+  two_from : (s t : Shape) (v : Value) → IsOf (greater_shape s t) v → IsOf (greatest_shape (s ∷ t ∷ [])) v
+  two_from s t v h = (h.0, join_on s t None v (join_left (greater_shape s t) None v h.1))
 
   module _ (s t r : Shape) (ps : IsPositive s) (pt : IsPositive t) (pr : IsPositive r) (q q' : Eval Value) (g : Good (IsOf t) q) (g' : Good (IsOf r) q') where
     abbrev Three : Shape
-    Three = joined s (joined t (joined r None))
+    Three = greater_shape s (greater_shape t (greater_shape r None))
 
     first_of' : (v : Value) → IsOf t v → IsOf Three v
-    first_of' v h = (h.0, join_right s (joined t (joined r None)) v (join_left t (joined r None) v h.1))
+    first_of' v h = (h.0, join_right s (greater_shape t (greater_shape r None)) v (join_left t (greater_shape r None) v h.1))
 
     second_of : (v : Value) → IsOf r v → IsOf Three v
-    second_of v h = (h.0, join_right s (joined t (joined r None)) v (join_right t (joined r None) v (join_left r None v h.1)))
+    second_of v h = (h.0, join_right s (greater_shape t (greater_shape r None)) v (join_right t (greater_shape r None) v (join_left r None v h.1)))
 
     yes_good : Good (IsOf Three) q
     yes_good = alike_weaken (Gets (IsOf t)) (Gets (IsOf Three)) (elim [ Ok v ↦ λ h. first_of' v h | Err b ↦ λ h. absurd h ]) g
@@ -146,15 +146,15 @@ module _ (version : Version) (S : Cells) (fit : AreFit S) (w w' : Oracle) (fits 
     choose_good (V.Value.Array z xs) h = each_good version (V.Value.Array z xs) h
 
   module _ (s t : Shape) (q : Eval Value) (g : Good (IsOf t) q) where
-    other_good : Good (IsOf (joined s t)) q
-    other_good = alike_weaken (Gets (IsOf t)) (Gets (IsOf (joined s t))) (elim [ Ok v ↦ λ h. (h.0, join_right s t v h.1) | Err b ↦ λ h. absurd h ]) g
+    other_good : Good (IsOf (greater_shape s t)) q
+    other_good = alike_weaken (Gets (IsOf t)) (Gets (IsOf (greater_shape s t))) (elim [ Ok v ↦ λ h. (h.0, join_right s t v h.1) | Err b ↦ λ h. absurd h ]) g
 
-    replace_each_good : (x : Version) (v : Value) → IsOf s v → Good (IsOf (joined s t)) (E.replace_each x v q)
+    replace_each_good : (x : Version) (v : Value) → IsOf s v → Good (IsOf (greater_shape s t)) (E.replace_each x v q)
     replace_each_good F.Version.One v h = both_return (h.0, join_left s t v h.1)
     replace_each_good F.Version.Two v h =
-        good_then (IsOf t) (IsOf (joined s t)) q _ g (λ u k. both_return (lift2_sound E.in_place_of_error replaced_sound v u h.0 k.0, lift2_fits E.in_place_of_error s t v u h.0 k.0 h.1 k.1))
+        good_then (IsOf t) (IsOf (greater_shape s t)) q _ g (λ u k. both_return (lift2_sound E.in_place_of_error replaced_sound v u h.0 k.0, lift2_fits E.in_place_of_error s t v u h.0 k.0 h.1 k.1))
 
-    replace_good : (v : Value) → IsOf s v → Good (IsOf (joined s t)) (E.replace version v q)
+    replace_good : (v : Value) → IsOf s v → Good (IsOf (greater_shape s t)) (E.replace version v q)
     replace_good (V.Value.One (V.Scalar.Err k)) h = other_good
     replace_good (V.Value.One V.Scalar.Blank) h = both_return (h.0, tt)
     replace_good (V.Value.One (V.Scalar.Int k)) h = both_return (h.0, tt)
@@ -173,17 +173,17 @@ module _ (version : Version) (S : Cells) (fit : AreFit S) (w w' : Oracle) (fits 
   plain : (sb : Shapes) (f : Formula) (q : Eval Value) → Good (IsFrom sb f) q → Good (IsOf (shape sp sb f)) q
   plain sb f q g = alike_weaken (Gets (IsFrom sb f)) (Gets (IsOf (shape sp sb f))) (elim [ Ok v ↦ λ h. (h.0, h.1) | Err b ↦ λ h. absurd h ]) g
 
-  call_good : (sb : Shapes) (f : Fun) (fs : Formulas) (xs : List Argument) → makes_sheets f ≡ false → Enough f (length xs) → AllPositive (shapes sp sb fs) → Goods sb fs xs → Good (IsOf (Fo.call_shape f fs (shapes sp sb fs))) (E.call version Top f xs)
+  call_good : (sb : Shapes) (f : Fun) (fs : Formulas) (xs : List Argument) → piece_makes (Calls f) ≡ false → Enough f (length xs) → AllPositive (shapes sp sb fs) → Goods sb fs xs → Good (IsOf (Fo.call_shape f fs (shapes sp sb fs))) (E.call version Top f xs)
   call_good sb F.Fun.If (F.Formulas.formula_and a (F.Formulas.formula_and b (F.Formulas.formula_and d F.Formulas.no_formula))) (x ∷ y ∷ z ∷ []) m e p h =
-      good_then (IsOf (shape sp sb a)) (IsOf (joined (shape sp sb a) (joined (shape sp sb b) (joined (shape sp sb d) None)))) x.eval _ (plain sb a x.eval h.0)
+      good_then (IsOf (shape sp sb a)) (IsOf (greater_shape (shape sp sb a) (greater_shape (shape sp sb b) (greater_shape (shape sp sb d) None)))) x.eval _ (plain sb a x.eval h.0)
       (λ v k. choose_good (shape sp sb a) (shape sp sb b) (shape sp sb d) p.0 p.1.0 p.1.1.0 y.eval z.eval (plain sb b y.eval h.1.0) (plain sb d z.eval h.1.1.0) v k)
   call_good sb F.Fun.If F.Formulas.no_formula (x ∷ y ∷ z ∷ []) m e p h = absurd h
   call_good sb F.Fun.If (F.Formulas.formula_and a F.Formulas.no_formula) (x ∷ y ∷ z ∷ []) m e p h = absurd h.1
   call_good sb F.Fun.If (F.Formulas.formula_and a (F.Formulas.formula_and b F.Formulas.no_formula)) (x ∷ y ∷ z ∷ []) m e p h = absurd h.1.1
   call_good sb F.Fun.If (F.Formulas.formula_and a (F.Formulas.formula_and b (F.Formulas.formula_and d (F.Formulas.formula_and k fs)))) (x ∷ y ∷ z ∷ []) m e p h = absurd h.1.1.1
   call_good sb F.Fun.IfError (F.Formulas.formula_and a (F.Formulas.formula_and b F.Formulas.no_formula)) (x ∷ y ∷ []) m e p h =
-      good_then (IsOf (shape sp sb a)) (IsOf (all_joined (shape sp sb a ∷ shape sp sb b ∷ []))) x.eval _ (plain sb a x.eval h.0)
-      (λ v k. alike_weaken (Gets (IsOf (joined (shape sp sb a) (shape sp sb b)))) (Gets (IsOf (all_joined (shape sp sb a ∷ shape sp sb b ∷ [])))) (elim [ Ok u ↦ λ t. two_from (shape sp sb a) (shape sp sb b) u t | Err c ↦ λ t. absurd t ])
+      good_then (IsOf (shape sp sb a)) (IsOf (greatest_shape (shape sp sb a ∷ shape sp sb b ∷ []))) x.eval _ (plain sb a x.eval h.0)
+      (λ v k. alike_weaken (Gets (IsOf (greater_shape (shape sp sb a) (shape sp sb b)))) (Gets (IsOf (greatest_shape (shape sp sb a ∷ shape sp sb b ∷ [])))) (elim [ Ok u ↦ λ t. two_from (shape sp sb a) (shape sp sb b) u t | Err c ↦ λ t. absurd t ])
       (replace_good (shape sp sb a) (shape sp sb b) y.eval (plain sb b y.eval h.1.0) v k))
   call_good sb F.Fun.IfError F.Formulas.no_formula (x ∷ y ∷ []) m e p h = absurd h
   call_good sb F.Fun.IfError (F.Formulas.formula_and a F.Formulas.no_formula) (x ∷ y ∷ []) m e p h = absurd h.1
@@ -222,8 +222,8 @@ module _ (version : Version) (S : Cells) (fit : AreFit S) (w w' : Oracle) (fits 
         alike_weaken (Gets (λ v. IsSoundValue v × ((xs : _) × (v ≡ V.Value.Array (extents r) xs)))) (Gets (IsFrom sb (F.Formula.Area r))) (elim [ Ok v ↦ λ k. (k.0, area_fits v k.0 k.1.0 k.1.1, tt) | Err c ↦ λ k. absurd k ])
         (R.range_good S fit w w' fits fits' needs same r h (range_needed r a.0))
       where
-        area_fits : (v : Value) → IsSoundValue v → (xs : _) → v ≡ V.Value.Array (extents r) xs → Fits (Some (Fo.cut (extents r))) v
-        area_fits v s xs e = subst (λ u. Fits (Some (Fo.cut (extents r))) u) (sym e) (cut_fits (extents r) (V.Value.Array (extents r) xs) (subst IsSoundValue e s) (omega arith, omega arith))
+        area_fits : (v : Value) → IsSoundValue v → (xs : _) → v ≡ V.Value.Array (extents r) xs → Fits (Some (Fo.limited (extents r))) v
+        area_fits v s xs e = subst (λ u. Fits (Some (Fo.limited (extents r))) u) (sym e) (cut_fits (extents r) (V.Value.Array (extents r) xs) (subst IsSoundValue e s) (omega arith, omega arith))
     eval_good bs sb (F.Formula.Var name) b h a = let p = bound_of bs sb name b in both_return (p.0, p.1, tt)
     eval_good bs sb (F.Formula.Neg f) b h a =
         good_then (IsFrom sb f) (IsFrom sb (F.Formula.Neg f)) _ _ (eval_good bs sb f b h a) (λ v p. both_return (lift1_sound negate (λ x q. negate_sound x) v p.0, lift1_fits negate (shape sp sb f) v p.1, tt))
@@ -250,16 +250,16 @@ module _ (version : Version) (S : Cells) (fit : AreFit S) (w w' : Oracle) (fits 
         (plain ((name, shape sp sb f) ∷ sb) body _
         (eval_good ((name, v) ∷ bs) ((name, shape sp sb f) ∷ sb) body ((refl, q.0, q.1, shape_positive sp (spilled_positive S fit n) sb f (bound_positive bs sb b) p.0), b) p.1 c.1)))
 
-    rest_good : (bs : Bindings) (sb : Shapes) (s : Shape) (u : Value) (rest : Operands) → Bound bs sb → IsOf s u → IsTrue (are_fit_operands rest) → AllFine (operand_pieces rest) → Good (IsOf (joined s (all_joined (operand_shapes sp sb rest)))) (E.eval_rest version Top bs u rest)
+    rest_good : (bs : Bindings) (sb : Shapes) (s : Shape) (u : Value) (rest : Operands) → Bound bs sb → IsOf s u → IsTrue (are_fit_operands rest) → AllFine (operand_pieces rest) → Good (IsOf (greater_shape s (greatest_shape (operand_shapes sp sb rest)))) (E.eval_rest version Top bs u rest)
     rest_good bs sb s u F.Operands.no_operand b k h a = both_return (k.0, join_left s None u k.1)
     rest_good bs sb s u (F.Operands.operand_and op f rest) b k h a =
         let p = and_parts (is_fit f) (are_fit_operands rest) h in
         let c = front (pieces f) (operand_pieces rest) a in
         let t = shape sp sb f in
-        let ts = all_joined (operand_shapes sp sb rest) in
-        good_then (IsFrom sb f) (IsOf (joined s (joined t ts))) _ _ (eval_good bs sb f b p.0 c.0)
-        (λ v q. alike_weaken (Gets (IsOf (joined (joined s t) ts))) (Gets (IsOf (joined s (joined t ts)))) (elim [ Ok x ↦ λ z. (z.0, join_on s t ts x z.1) | Err y ↦ λ z. absurd z ])
-        (rest_good bs sb (joined s t) (lift2 (operate op) u v) rest b (lift2_sound (operate op) (operate_sound op) u v k.0 q.0, lift2_fits (operate op) s t u v k.0 q.0 k.1 q.1) p.1 c.1))
+        let ts = greatest_shape (operand_shapes sp sb rest) in
+        good_then (IsFrom sb f) (IsOf (greater_shape s (greater_shape t ts))) _ _ (eval_good bs sb f b p.0 c.0)
+        (λ v q. alike_weaken (Gets (IsOf (greater_shape (greater_shape s t) ts))) (Gets (IsOf (greater_shape s (greater_shape t ts)))) (elim [ Ok x ↦ λ z. (z.0, join_on s t ts x z.1) | Err y ↦ λ z. absurd z ])
+        (rest_good bs sb (greater_shape s t) (lift2 (operate op) u v) rest b (lift2_sound (operate op) (operate_sound op) u v k.0 q.0, lift2_fits (operate op) s t u v k.0 q.0 k.1 q.1) p.1 c.1))
 
     arguments_good : (bs : Bindings) (sb : Shapes) (fs : Formulas) → Bound bs sb → IsTrue (are_fit fs) → AllFine (all_pieces fs) → Goods sb fs (E.arguments version Top bs fs)
     arguments_good bs sb F.Formulas.no_formula b h a = tt

@@ -1,5 +1,5 @@
 -- A sheet has a forecast: whether a node depends on itself is decided, and where none does there is a height.
-use Rattle.std.proofs.Common.{◌≡◌, ◌⊎◌, inl, inr, ℕ, ◌+◌, ◌≤◌, nat_le, Bool, true, false, List, [], ◌∷◌, refl, subst, arith}
+use Rattle.std.proofs.Common.{◌≡◌, ◌⊎◌, inl, inr, ℕ, ◌+◌, ◌≤◌, nat_le, Bool, true, false, List, [], ◌∷◌, refl, subst, arith, IsTrue}
 use Rattle.std.specs.List.{list_any}
 use Rattle.std.proofs.lemmas.Bool.{leb-true, leb-false}
 use Rattle.gl_calculus.specs.Computation.Lists.{Member}
@@ -7,7 +7,7 @@ use Rattle.gl_calculus.specs.Grid.Grid.{Addr}
 use Rattle.gl_calculus.specs.Formulas.Formula.{Cells, formula_addresses}
 use Rattle.gl_calculus.proofs.Grants.{split, clash}
 use Rattle.gl_calculus.proofs.Tests.{addr_same}
-use Rattle.gl_calculus.specs.Forecast.{Node, Value, Entry, cell_nodes, nodes, dependences, Leads, once, further, entries_in, Path, ends, goes, IsHeight, IsInCircle, uses_sheets, Forecast, Yes, Circle, Unknown, First, here, behind, SomeUsesSheets, IsForecast, unknown, circle, yes}
+use Rattle.gl_calculus.specs.Forecast.{Node, Value, Entry, cell_nodes, nodes, dependences, Leads, once, further, entries_in, Path, ends, goes, IsHeight, IsInCircle, uses_sheets, Forecast, Yes, Circle, Unknown, First, here, behind, IsForecast, unknown, circle, yes}
 use Rattle.laws_calculus.proofs.Forecast.Finite as Fin
 use Rattle.laws_calculus.proofs.Forecast.Orders.{same_node, node_exact}
 use Rattle.laws_calculus.proofs.Forecast.Nodes.{within, of_formula, node_cell}
@@ -232,7 +232,7 @@ module _ (S : Cells) where
   -- ---- the forecast
 
   pub some_forecast : (x : Forecast) × IsForecast S x
-  some_forecast = by (first_or (SomeUsesSheets S) (formula_addresses S) (λ a m. decided_true (uses_sheets S a)))
+  some_forecast = by (first_or (λ (b : Addr). IsTrue (uses_sheets S b)) (formula_addresses S) (λ a m. decided_true (uses_sheets S a)))
     where
       without : list_any (uses_sheets S) (formula_addresses S) ≡ false → ((a : Addr) × First (IsInCircle S) (formula_addresses S) a) ⊎ ((a : Addr) → Member a (formula_addresses S) → IsInCircle S a → ⊥) → (x : Forecast) × IsForecast S x
       without t (inl (a, f)) = (Circle a, circle t f)
@@ -241,6 +241,6 @@ module _ (S : Cells) where
           let (h, p) = height no_circle in
           (Yes h, yes t no_circle p)
 
-      by : ((a : Addr) × First (SomeUsesSheets S) (formula_addresses S) a) ⊎ ((a : Addr) → Member a (formula_addresses S) → SomeUsesSheets S a → ⊥) → (x : Forecast) × IsForecast S x
+      by : ((a : Addr) × First (λ (b : Addr). IsTrue (uses_sheets S b)) (formula_addresses S) a) ⊎ ((a : Addr) → Member a (formula_addresses S) → IsTrue (uses_sheets S a) → ⊥) → (x : Forecast) × IsForecast S x
       by (inl (a, f)) = (Unknown a, unknown f)
       by (inr s) = without (none_any (uses_sheets S) (formula_addresses S) s) (first_or (IsInCircle S) (formula_addresses S) decided_circle)

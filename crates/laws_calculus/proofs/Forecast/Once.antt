@@ -1,11 +1,11 @@
 -- A sheet has no more than one forecast.
-use Rattle.std.proofs.Common.{◌≡◌, ◌⊎◌, inl, inr, ℕ, ◌≤◌, Bool, true, false, List, [], ◌∷◌, ◌||◌, refl, subst, ap, arith}
+use Rattle.std.proofs.Common.{◌≡◌, ◌⊎◌, inl, inr, ℕ, ◌≤◌, Bool, true, false, List, [], ◌∷◌, ◌||◌, refl, subst, ap, arith, IsTrue}
 use Rattle.std.specs.List.{list_any}
 use Rattle.gl_calculus.specs.Computation.Lists.{Member}
 use Rattle.gl_calculus.specs.Grid.Grid.{Addr}
 use Rattle.gl_calculus.specs.Formulas.Formula.{Cells, formula_addresses}
 use Rattle.gl_calculus.proofs.Grants.{clash}
-use Rattle.gl_calculus.specs.Forecast.{Node, nodes, Leads, Path, IsHeight, IsInCircle, uses_sheets, Forecast, Yes, Circle, Unknown, First, here, behind, SomeUsesSheets, IsForecast, unknown, circle, yes}
+use Rattle.gl_calculus.specs.Forecast.{Node, nodes, Leads, Path, IsHeight, IsInCircle, uses_sheets, Forecast, Yes, Circle, Unknown, First, here, behind, IsForecast, unknown, circle, yes}
 use Rattle.laws_calculus.proofs.Forecast.Nodes.{of_formula}
 
 one_first : (P : Addr → Type 0) (rest : List Addr) (a b : Addr) → First P rest a → First P rest b → a ≡ b
@@ -37,14 +37,14 @@ module _ (S : Cells) where
       by (inl e) = omega (arith, e)
       by (inr (n, m, r)) = q.most n h m r
 
-  makes_some : (a : Addr) → First (SomeUsesSheets S) (formula_addresses S) a → list_any (uses_sheets S) (formula_addresses S) ≡ true
-  makes_some a f = let (m, p) = first_has (SomeUsesSheets S) (formula_addresses S) a f in some_any (uses_sheets S) (formula_addresses S) a m p
+  makes_some : (a : Addr) → First (λ (b : Addr). IsTrue (uses_sheets S b)) (formula_addresses S) a → list_any (uses_sheets S) (formula_addresses S) ≡ true
+  makes_some a f = let (m, p) = first_has (λ (b : Addr). IsTrue (uses_sheets S b)) (formula_addresses S) a f in some_any (uses_sheets S) (formula_addresses S) a m p
 
   no_both : (a : Addr) → First (IsInCircle S) (formula_addresses S) a → ((n : Node) → Member n (nodes S) → Leads S n n → ⊥) → ⊥
   no_both a f n = let (m, (x, i, l)) = first_has (IsInCircle S) (formula_addresses S) a f in n x (of_formula S a x m i) l
 
   pub one_forecast : (x y : Forecast) → IsForecast S x → IsForecast S y → x ≡ y
-  one_forecast _ _ (unknown {a = a} f) (unknown {a = b} g) = ap Unknown (one_first (SomeUsesSheets S) (formula_addresses S) a b f g)
+  one_forecast _ _ (unknown {a = a} f) (unknown {a = b} g) = ap Unknown (one_first (λ (b : Addr). IsTrue (uses_sheets S b)) (formula_addresses S) a b f g)
   one_forecast _ _ (unknown {a = a} f) (circle t g) = absurd (clash (makes_some a f) t)
   one_forecast _ _ (unknown {a = a} f) (yes t n h) = absurd (clash (makes_some a f) t)
   one_forecast _ _ (circle t g) (unknown {a = a} f) = absurd (clash (makes_some a f) t)

@@ -1,5 +1,5 @@
 -- Oracles of the rounds: their entries lie in the boxes, so what they say of an address depends on few entries.
-use Rattle.std.proofs.Common.{◌≡◌, ◌⊎◌, inl, inr, ◌+◌, ◌-◌, ◌≤◌, nat_le, Bool, true, false, cond, ◌&&◌, List, [], ◌∷◌, map, Option, Some, None, if◌then◌else◌, refl, sym, ◌∙◌, subst, ap, arith}
+use Rattle.std.proofs.Common.{◌≡◌, ◌⊎◌, inl, inr, ◌+◌, ◌-◌, ◌≤◌, nat_le, Bool, true, false, cond, ◌&&◌, List, [], ◌∷◌, map, Option, Some, None, if◌then◌else◌, refl, sym, ◌∙◌, subst, ap, arith, option_map}
 use Rattle.std.specs.List.{filter}
 use Rattle.std.proofs.lemmas.Bool.{leb-true, le-leb}
 use Rattle.gl_calculus.specs.Computation.Lists.{Member}
@@ -7,7 +7,7 @@ use Rattle.gl_calculus.specs.Grid.Grid.{Addr, same_addr, AreInOrder, Range, Size
 use Rattle.gl_calculus.specs.Values.Value.{Permit, Permitted, Refused, Entry, Oracle}
 use Rattle.gl_calculus.specs.Values.Same.{is_permitted}
 use Rattle.gl_calculus.specs.Formulas.Formula.{Formula, Const, Form, Cells, content, formula_addresses}
-use Rattle.gl_calculus.specs.Evaluation.Oracle.{IsInOrder, entry_at, permit_of, status, spills_over, Cover, cover, area_of, ArePermits}
+use Rattle.gl_calculus.specs.Evaluation.Oracle.{IsInOrder, entry_at, status, spills_over, Cover, cover, area_of, ArePermits}
 use Rattle.gl_calculus.specs.Evaluation.Facts.{fact}
 use Rattle.gl_calculus.specs.Calculation.Calculation.{has_content}
 use Rattle.gl_calculus.proofs.Tests.{both, and_true, addr_exact, addr_same}
@@ -210,7 +210,7 @@ module _ (S : Cells) where
 
   module _ (w w' : Oracle) (fit : IsFit S w) (fit' : IsFit S w') where
     facts_of : (a : Addr) → entry_at w a ≡ entry_at w' a → cover w a ≡ cover w' a → fact S w a ≡ fact S w' a
-    facts_of a e c = ap (λ u. record { address = a; content = content S a; status = permit_of u; cover = cover w a }) e ∙ ap (λ u. record { address = a; content = content S a; status = status w' a; cover = u }) c
+    facts_of a e c = ap (λ u. record { address = a; content = content S a; status = option_map (λ (x : Entry). x.permit) u; cover = cover w a }) e ∙ ap (λ u. record { address = a; content = content S a; status = status w' a; cover = u }) c
 
     -- the facts at a formula cell whose entries are the same
     pub formula_fact : (a : Addr) (f : Formula) → content S a ≡ Some (Form f) → entry_at w a ≡ entry_at w' a → fact S w a ≡ fact S w' a

@@ -10,7 +10,7 @@ use Rattle.gl_calculus.specs.Formulas.Fit.{takes, is_fit, are_fit, are_fit_opera
 use Rattle.laws_calculus.proofs.Sound.Values.{extents_of}
 use Rattle.laws_calculus.proofs.Sound.References.{FitContent, content_fit}
 use Rattle.gl_calculus.specs.Forecast as Fo
-use Rattle.gl_calculus.specs.Forecast.{Shape, Shapes, full, all_joined, under, beside, shape, shapes, operand_shapes, content_shape, spilled_shape}
+use Rattle.gl_calculus.specs.Forecast.{Shape, Shapes, size_of, greatest_shape, vstack_size, hstack_size, shape, shapes, operand_shapes, content_shape, spilled_shape}
 use Rattle.laws_calculus.proofs.Forecast.Shapes.{IsPositive, AllPositive, full_positive, joined_positive, all_joined_positive, cut_positive}
 
 abbrev pub PositiveBindings : Shapes → Type 0
@@ -32,7 +32,7 @@ flips_positive : (ss : List Shape) → AllPositive ss → AllPositive (map (opti
 flips_positive [] h = tt
 flips_positive (s ∷ ss) h = (flip_positive s h.0, flips_positive ss h.1)
 
-under_positive : (s : Shape) (ss : List Shape) → AllPositive (s ∷ ss) → IsPositive (Some (under (s ∷ ss)))
+under_positive : (s : Shape) (ss : List Shape) → AllPositive (s ∷ ss) → IsPositive (Some (vstack_size (s ∷ ss)))
 under_positive s ss h = let p = full_positive s h.0 in (omega (arith, p.0), omega (arith, p.1))
 
 written_positive : (f : Formula) (n : ℕ) → Fo.written_extent f ≡ Some n → 1 ≤ n
@@ -55,7 +55,7 @@ sequence_positive (F.Formulas.formula_and f (F.Formulas.formula_and g F.Formulas
     by (Some m) None d e = (omega arith, omega arith)
 sequence_positive (F.Formulas.formula_and f (F.Formulas.formula_and g (F.Formulas.formula_and k fs))) = (omega arith, omega arith)
 
-some_full : (s : Shape) → IsPositive s → IsPositive (Some (full s))
+some_full : (s : Shape) → IsPositive s → IsPositive (Some (size_of s))
 some_full s h = full_positive s h
 
 -- of a function that takes some argument or other
@@ -85,8 +85,8 @@ call_positive F.Fun.Drop fs (s ∷ ss) t h = some_full s h.0
 call_positive F.Fun.Filter fs (s ∷ ss) t h = some_full s h.0
 call_positive F.Fun.HStack fs [] t h = absurd t
 call_positive F.Fun.VStack fs [] t h = absurd t
-call_positive F.Fun.HStack fs (s ∷ ss) t h = let p = under_positive (option_map Fo.flipped s) (map (option_map Fo.flipped) ss) (flips_positive (s ∷ ss) h) in cut_positive (beside (s ∷ ss)) (p.1, p.0)
-call_positive F.Fun.VStack fs (s ∷ ss) t h = cut_positive (under (s ∷ ss)) (under_positive s ss h)
+call_positive F.Fun.HStack fs (s ∷ ss) t h = let p = under_positive (option_map Fo.flipped s) (map (option_map Fo.flipped) ss) (flips_positive (s ∷ ss) h) in cut_positive (hstack_size (s ∷ ss)) (p.1, p.0)
+call_positive F.Fun.VStack fs (s ∷ ss) t h = cut_positive (vstack_size (s ∷ ss)) (under_positive s ss h)
 call_positive f fs [] t h = tt
 call_positive f fs (s ∷ ss) t h = all_joined_positive (s ∷ ss) h
 
@@ -110,7 +110,7 @@ module _ (spilled : Addr → Shape) (sp : (a : Addr) → IsPositive (spilled a))
     shape_positive bs (F.Formula.Var name) b h = bound_positive bs name b
     shape_positive bs (F.Formula.Neg f) b h = shape_positive bs f b h
     shape_positive bs (F.Formula.Chain level f rest) b h =
-        let p = and_parts (is_fit f) (are_fit_operands rest) h in joined_positive (shape spilled bs f) (all_joined (operand_shapes spilled bs rest)) (shape_positive bs f b p.0) (all_joined_positive (operand_shapes spilled bs rest) (operands_positive bs rest b p.1))
+        let p = and_parts (is_fit f) (are_fit_operands rest) h in joined_positive (shape spilled bs f) (greatest_shape (operand_shapes spilled bs rest)) (shape_positive bs f b p.0) (all_joined_positive (operand_shapes spilled bs rest) (operands_positive bs rest b p.1))
     shape_positive bs (F.Formula.Compare op f g) b h = let p = and_parts (is_fit f) (is_fit g) h in joined_positive (shape spilled bs f) (shape spilled bs g) (shape_positive bs f b p.0) (shape_positive bs g b p.1)
     shape_positive bs (F.Formula.Call f xs) b h = let p = and_parts (takes f xs) (are_fit xs) h in call_positive f xs (shapes spilled bs xs) (some_shapes bs f xs p.0) (shapes_positive bs xs b p.1)
     shape_positive bs (F.Formula.Let name f body) b h = let p = and_parts (is_fit f) (is_fit body) h in shape_positive ((name, shape spilled bs f) ∷ bs) body (shape_positive bs f b p.0, b) p.1

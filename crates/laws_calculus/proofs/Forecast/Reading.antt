@@ -1,5 +1,5 @@
 -- References go the same way under two oracles of rounds that have the same entries of what is depended on.
-use Rattle.std.proofs.Common.{◌≡◌, inl, inr, ℕ, suc, Bool, true, false, IsTrue, List, [], ◌∷◌, ◌++◌, length, map, Option, Some, None, Result, Ok, Err, if◌then◌else◌, refl, sym, ◌∙◌, subst, ap}
+use Rattle.std.proofs.Common.{◌≡◌, inl, inr, ℕ, suc, Bool, true, false, IsTrue, List, [], ◌∷◌, ◌++◌, length, map, Option, Some, None, Result, Ok, Err, if◌then◌else◌, refl, sym, ◌∙◌, subst, ap, option_map}
 use Rattle.std.specs.List.{flat_map}
 use Rattle.gl_calculus.specs.Computation.Lists.{Member}
 use Rattle.gl_calculus.specs.Computation.Evaluation.{given}
@@ -8,7 +8,7 @@ use Rattle.gl_calculus.specs.Values.ErrKind.{ErrKind}
 use Rattle.gl_calculus.specs.Values.Value as V
 use Rattle.gl_calculus.specs.Values.Value.{Permit, Scalar, Value, One, Array, scalars, Oracle, Top}
 use Rattle.gl_calculus.specs.Formulas.Formula.{Formula, Content, Const, Form, Cells, content}
-use Rattle.gl_calculus.specs.Evaluation.Oracle.{entry_at, permit_of, Cover, cover}
+use Rattle.gl_calculus.specs.Evaluation.Oracle.{entry_at, Cover, cover, status}
 use Rattle.gl_calculus.specs.Evaluation.Facts.{Fact, fact, facts, find_fact, fact_at}
 use Rattle.gl_calculus.specs.Evaluation.Key.{Key, Cell, Budget, Outcome, Settled, Abort, Eval, give, on_result, ◌>>=◌, own_value}
 use Rattle.gl_calculus.specs.Evaluation.Reference.{held_top, value_of, own, spilling, Reading, covered, seen_or_looked, shown_by, deref, deref_all, at_address, at_range, whole, spill_of}
@@ -236,7 +236,7 @@ module _ (S : Cells) (fit : AreFit S) (w w' : Oracle) (fits : IsFit S w) (fits' 
     SpillNeeded : Addr → Option Content → Type 0
     SpillNeeded a c = (m : Node) → Member m (spill_nodes S a c) → Member m needs
 
-    spill_by : (a : Addr) (c : Option Content) → content S a ≡ c → SpillNeeded a c → Good (IsSpill a) (whole Top (fact S w a) (held_top c) (permit_of (entry_at w a))) (whole Top (fact S w' a) (held_top c) (permit_of (entry_at w' a)))
+    spill_by : (a : Addr) (c : Option Content) → content S a ≡ c → SpillNeeded a c → Good (IsSpill a) (whole Top (fact S w a) (held_top c) (status w a)) (whole Top (fact S w' a) (held_top c) (status w' a))
     unfolding SpillNeeded
     spill_by a None e h = both_return (refl, tt)
     spill_by a (Some (Const x)) e h =
@@ -247,9 +247,9 @@ module _ (S : Cells) (fit : AreFit S) (w w' : Oracle) (fits : IsFit S w) (fits' 
     spill_by a (Some (Form f)) e h =
         let s : entry_at w a ≡ entry_at w' a = cell_same a h in
         let q : fact S w a ≡ fact S w' a = formula_fact S w w' fits fits' a f e s in
-        subst (λ u. Good (IsSpill a) (whole Top (fact S w a) (held_top (Some (Form f))) (permit_of (entry_at w a))) (whole Top u (held_top (Some (Form f))) (permit_of (entry_at w' a)))) q
-        (subst (λ u. Good (IsSpill a) (whole Top (fact S w a) (held_top (Some (Form f))) (permit_of (entry_at w a))) (whole Top (fact S w a) (held_top (Some (Form f))) (permit_of u))) s
-        (whole_good a f (permit_of (entry_at w a)) e (h (Fo.Node.Value a) (inl refl))))
+        subst (λ u. Good (IsSpill a) (whole Top (fact S w a) (held_top (Some (Form f))) (status w a)) (whole Top u (held_top (Some (Form f))) (status w' a))) q
+        (subst (λ u. Good (IsSpill a) (whole Top (fact S w a) (held_top (Some (Form f))) (status w a)) (whole Top (fact S w a) (held_top (Some (Form f))) (option_map (λ (z : V.Entry). z.permit) u))) s
+        (whole_good a f (status w a) e (h (Fo.Node.Value a) (inl refl))))
 
     pub spill_good : (a : Addr) → ((m : Node) → Member m (spill_nodes S a (content S a)) → Member m needs) → Good (IsSpill a) (spill_of Top a) (spill_of Top a)
     unfolding SpillNeeded

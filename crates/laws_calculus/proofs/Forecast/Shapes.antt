@@ -3,11 +3,12 @@ use Rattle.std.proofs.Common.{◌≡◌, ℕ, ◌≤◌, max, Bool, true, false,
 use Rattle.std.specs.List.{AllByRecursion}
 use Rattle.gl_calculus.specs.Grid.Grid.{Size, size}
 use Rattle.gl_calculus.specs.Values.Value.{Scalar, Value, One, Array}
-use Rattle.gl_calculus.specs.Values.Lift.{shape, is_small, table_if, table, hull, lift1, lift2, lift3}
+use Rattle.gl_calculus.specs.Values.Lift.{shape, is_small, table, hull, lift1, lift2, lift3}
 use Rattle.gl_calculus.specs.Forecast as Fo
-use Rattle.gl_calculus.specs.Forecast.{Shape, full, joined, all_joined}
+use Rattle.gl_calculus.specs.Forecast.{Shape, size_of, greater_shape, greatest_shape}
 use Rattle.laws_calculus.proofs.Sound.Values.{IsSoundValue}
 use Rattle.laws_calculus.proofs.Sound.Lift.{shape_positive}
+use Rattle.gl_calculus.proofs.Tables.{table_if}
 
 -- a scalar fits any shape; an array fits one that is as large
 abbrev pub Fits : Shape → Value → Type 0
@@ -23,19 +24,19 @@ AllFit (s ∷ ss) [] = ⊥
 
 -- ---- joins
 
-pub join_left : (s t : Shape) (v : Value) → Fits s v → Fits (joined s t) v
+pub join_left : (s t : Shape) (v : Value) → Fits s v → Fits (greater_shape s t) v
 join_left s t (One x) h = tt
 join_left None t (Array z xs) h = absurd h
 join_left (Some s) None (Array z xs) h = (omega (arith, h.0), omega (arith, h.1))
 join_left (Some s) (Some t) (Array z xs) h = (omega (arith, h.0), omega (arith, h.1))
 
-pub join_right : (s t : Shape) (v : Value) → Fits t v → Fits (joined s t) v
+pub join_right : (s t : Shape) (v : Value) → Fits t v → Fits (greater_shape s t) v
 join_right s t (One x) h = tt
 join_right s None (Array z xs) h = absurd h
 join_right None (Some t) (Array z xs) h = (omega (arith, h.0), omega (arith, h.1))
 join_right (Some s) (Some t) (Array z xs) h = (omega (arith, h.0), omega (arith, h.1))
 
-pub join_on : (s t r : Shape) (v : Value) → Fits (joined (joined s t) r) v → Fits (joined s (joined t r)) v
+pub join_on : (s t r : Shape) (v : Value) → Fits (greater_shape (greater_shape s t) r) v → Fits (greater_shape s (greater_shape t r)) v
 join_on s t r (One x) h = tt
 join_on None None None (Array z xs) h = absurd h
 join_on None None (Some r) (Array z xs) h = (omega (arith, h.0), omega (arith, h.1))
@@ -57,7 +58,7 @@ lift1_fits f s (One x) h = tt
 lift1_fits f None (Array z xs) h = absurd h
 lift1_fits f (Some s) (Array z xs) h = table_fits (is_small z) z _ s h.0 h.1
 
-pub lift2_fits : (f : Scalar → Scalar → Scalar) (s t : Shape) (u v : Value) → IsSoundValue u → IsSoundValue v → Fits s u → Fits t v → Fits (joined s t) (lift2 f u v)
+pub lift2_fits : (f : Scalar → Scalar → Scalar) (s t : Shape) (u v : Value) → IsSoundValue u → IsSoundValue v → Fits s u → Fits t v → Fits (greater_shape s t) (lift2 f u v)
 lift2_fits f s t (One x) (One y) p q h k = tt
 lift2_fits f s None u (Array z xs) p q h k = absurd k
 lift2_fits f None t (Array z xs) v p q h k = absurd h
@@ -71,7 +72,7 @@ lift2_fits f (Some s) (Some t) (Array y xs) (Array z ys) p q h k = table_fits (i
 abbrev pub AtMost : Size → Value → Type 0
 AtMost s v = ((shape v).rows ≤ s.rows) × ((shape v).cols ≤ s.cols)
 
-pub fits_most : (s : Shape) (v : Value) → Fits s v → IsSoundValue v → (1 ≤ (full s).rows) → (1 ≤ (full s).cols) → AtMost (full s) v
+pub fits_most : (s : Shape) (v : Value) → Fits s v → IsSoundValue v → (1 ≤ (size_of s).rows) → (1 ≤ (size_of s).cols) → AtMost (size_of s) v
 fits_most s (One x) h q a b = (a, b)
 fits_most None (Array z xs) h q a b = absurd h
 fits_most (Some s) (Array z xs) h q a b = h
@@ -86,11 +87,11 @@ abbrev pub IsPositive : Shape → Type 0
 IsPositive None = Unit {0}
 IsPositive (Some s) = (1 ≤ s.rows) × (1 ≤ s.cols)
 
-pub full_positive : (s : Shape) → IsPositive s → (1 ≤ (full s).rows) × (1 ≤ (full s).cols)
+pub full_positive : (s : Shape) → IsPositive s → (1 ≤ (size_of s).rows) × (1 ≤ (size_of s).cols)
 full_positive None h = (omega arith, omega arith)
 full_positive (Some s) h = h
 
-pub joined_positive : (s t : Shape) → IsPositive s → IsPositive t → IsPositive (joined s t)
+pub joined_positive : (s t : Shape) → IsPositive s → IsPositive t → IsPositive (greater_shape s t)
 joined_positive None None h k = tt
 joined_positive None (Some t) h k = (omega (arith, k.0), omega (arith, k.1))
 joined_positive (Some s) t h k = (omega (arith, h.0), omega (arith, h.1))
@@ -98,17 +99,17 @@ joined_positive (Some s) t h k = (omega (arith, h.0), omega (arith, h.1))
 abbrev pub AllPositive : List Shape → Type 0
 AllPositive ss = AllByRecursion IsPositive ss
 
-pub all_joined_positive : (ss : List Shape) → AllPositive ss → IsPositive (all_joined ss)
+pub all_joined_positive : (ss : List Shape) → AllPositive ss → IsPositive (greatest_shape ss)
 all_joined_positive [] h = tt
-all_joined_positive (s ∷ ss) h = joined_positive s (all_joined ss) h.0 (all_joined_positive ss h.1)
+all_joined_positive (s ∷ ss) h = joined_positive s (greatest_shape ss) h.0 (all_joined_positive ss h.1)
 
-pub cut_positive : (s : Size) → (1 ≤ s.rows) × (1 ≤ s.cols) → IsPositive (Some (Fo.cut s))
+pub cut_positive : (s : Size) → (1 ≤ s.rows) × (1 ≤ s.cols) → IsPositive (Some (Fo.limited s))
 cut_positive s h = (omega (arith, h.0), omega (arith, h.1))
 
 -- ---- three values
 
-three : (s t r : Shape) (b : Bool) (z : Size) (g : ℕ → ℕ → Scalar) → z.rows ≤ max (full s).rows (max (full t).rows (full r).rows) → z.cols ≤ max (full s).cols (max (full t).cols (full r).cols) → (s ≡ None → t ≡ None → r ≡ None → ⊥) →
-    Fits (joined s (joined t (joined r None))) (table_if b z g)
+three : (s t r : Shape) (b : Bool) (z : Size) (g : ℕ → ℕ → Scalar) → z.rows ≤ max (size_of s).rows (max (size_of t).rows (size_of r).rows) → z.cols ≤ max (size_of s).cols (max (size_of t).cols (size_of r).cols) → (s ≡ None → t ≡ None → r ≡ None → ⊥) →
+    Fits (greater_shape s (greater_shape t (greater_shape r None))) (table_if b z g)
 three s t r false z g h k n = tt
 three None None None true z g h k n = n refl refl refl
 three None None (Some r) true z g h k n = (omega (arith, h), omega (arith, k))
@@ -125,14 +126,14 @@ has_shape (Some s) z xs h e = absurd (cc e)
 
 module _ (f : Scalar → Scalar → Scalar → Scalar) (s t r : Shape) (a : IsPositive s) (b : IsPositive t) (c : IsPositive r) where
   lift3_table : (u v w : Value) (g : ℕ → ℕ → Scalar) → IsSoundValue u → IsSoundValue v → IsSoundValue w → Fits s u → Fits t v → Fits r w → (s ≡ None → t ≡ None → r ≡ None → ⊥) →
-      Fits (joined s (joined t (joined r None))) (table (hull (shape u) (hull (shape v) (shape w))) g)
+      Fits (greater_shape s (greater_shape t (greater_shape r None))) (table (hull (shape u) (hull (shape v) (shape w))) g)
   lift3_table u v w g p q o h k l n =
       let i = fits_most s u h p (full_positive s a).0 (full_positive s a).1 in
       let j = fits_most t v k q (full_positive t b).0 (full_positive t b).1 in
       let m = fits_most r w l o (full_positive r c).0 (full_positive r c).1 in
       three s t r (is_small (hull (shape u) (hull (shape v) (shape w)))) (hull (shape u) (hull (shape v) (shape w))) g (omega (arith, i.0, j.0, m.0)) (omega (arith, i.1, j.1, m.1)) n
 
-  pub lift3_fits : (u v w : Value) → IsSoundValue u → IsSoundValue v → IsSoundValue w → Fits s u → Fits t v → Fits r w → Fits (joined s (joined t (joined r None))) (lift3 f u v w)
+  pub lift3_fits : (u v w : Value) → IsSoundValue u → IsSoundValue v → IsSoundValue w → Fits s u → Fits t v → Fits r w → Fits (greater_shape s (greater_shape t (greater_shape r None))) (lift3 f u v w)
   lift3_fits (One x) (One y) (One z) p q o h k l = tt
   lift3_fits (Array z xs) v w p q o h k l = lift3_table (Array z xs) v w _ p q o h k l (λ d e g. has_shape s z xs h d)
   lift3_fits (One x) (Array z xs) w p q o h k l = lift3_table (One x) (Array z xs) w _ p q o h k l (λ d e g. has_shape t z xs k e)

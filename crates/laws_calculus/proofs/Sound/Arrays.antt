@@ -1,6 +1,6 @@
 -- The functions on arrays give sound values.
 use Rattle.std.proofs.Common.{◌≡◌, ℕ, zero, suc, ◌+◌, ◌*◌, ◌<◌, ◌≤◌, nat_lt, ℤ, pos, negsuc, Bool, true, false, ◌&&◌, List, [], ◌∷◌, length, map, Option, Some, None, Ok, Err, refl, sym, subst, arith, if◌then◌else◌}
-use Rattle.std.specs.List.{flat_map}
+use Rattle.std.specs.List.{flat_map, items_where_true}
 use Rattle.std.proofs.lemmas.Bool.{ltb-true}
 use Rattle.std.proofs.lemmas.List.{length-append, length-map, map-append}
 use Rattle.gl_calculus.specs.Grid.Grid.{Size, size}
@@ -8,10 +8,13 @@ use Rattle.gl_calculus.specs.Values.ErrKind.{ErrKind}
 use Rattle.gl_calculus.specs.Values.Value.{Scalar, Value, One, Array, elements}
 use Rattle.gl_calculus.specs.Values.Operators.{agrees}
 use Rattle.gl_calculus.specs.Values.Lift.{shape, item, rows, from_rows}
-use Rattle.gl_calculus.specs.Values.Functions.{Try, value_or_error, no_error, number, when, first_fault, truth_fault, extent, index, sequence, flipped, transpose, kept, left_over, some_rows, kept_part, left_over_part, part_of, padded, greatest_cols, vstack, hstack, is_column_beside, kept_rows, filter_rows, new_rows, unique, sought, looked_up, lookup}
+use Rattle.gl_calculus.specs.Values.Functions.{Try, value_or_error, no_error, number, when, first_fault, truth_fault, extent, index, sequence, flipped, transpose, kept, left_over, some_rows, part_of, padded, greatest_cols, vstack, hstack, is_column_beside, filter_rows, unique, sought, looked_up, lookup, keeps}
 use Rattle.laws_calculus.proofs.Sound.Values.{IsSound, AllSound, IsSoundValue, AllSoundValues, elements_sound}
 use Rattle.laws_calculus.proofs.Sound.Lift.{item_sound, shape_positive, table_sound}
 use Rattle.laws_calculus.proofs.Sound.Rows.{AreRows, rows_append, rows_kept, rows_left, rows_map, kept_length, kept_is, kept_sound, left_length, left_is, left_sound, from_rows_sound, value_rows, value_rows_some, pad_rows, rows_chosen, rows_new, some_new}
+use lib.Pointwise.{pointwise}
+use Rattle.gl_calculus.specs.Values.Same.{same_scalar}
+use Rattle.gl_calculus.specs.Computation.Lists.{distinct}
 
 when_sound : (b : Bool) (k : ErrKind) (v : Value) → (b ≡ true → IsSoundValue v) → IsSoundValue (value_or_error (when b k v))
 when_sound true k v h = h refl
@@ -84,27 +87,27 @@ pub transpose_sound : (v : Value) → IsSoundValue v → IsSoundValue (transpose
 transpose_sound (One x) h = h
 transpose_sound (Array s xs) h = flipped_sound (Array s xs) h
 
-kept_part_rows : (c : ℕ) (m n : ℤ) (rs : List (List Scalar)) → AreRows c rs → AreRows (kept_length n c) (kept_part m n rs)
+kept_part_rows : (c : ℕ) (m n : ℤ) (rs : List (List Scalar)) → AreRows c rs → AreRows (kept_length n c) (map (kept n) (kept m rs))
 kept_part_rows c m n rs h = rows_map c (kept n) (kept_length n) (kept_is n) (kept_sound n) (kept m rs) (rows_kept c m rs h)
 
-left_part_rows : (c : ℕ) (m n : ℤ) (rs : List (List Scalar)) → AreRows c rs → AreRows (left_length n c) (left_over_part m n rs)
+left_part_rows : (c : ℕ) (m n : ℤ) (rs : List (List Scalar)) → AreRows c rs → AreRows (left_length n c) (map (left_over n) (left_over m rs))
 left_part_rows c m n rs h = rows_map c (left_over n) (left_length n) (left_is n) (left_sound n) (left_over m rs) (rows_left c m rs h)
 
-part_sound : (part : ℤ → ℤ → List (List Scalar) → List (List Scalar)) (by : ℤ → ℕ → ℕ) → ((c : ℕ) (m n : ℤ) (rs : List (List Scalar)) → AreRows c rs → AreRows (by n c) (part m n rs)) →
-    (v u w : Value) → IsSoundValue v → IsSoundValue (value_or_error (part_of part v u w))
-part_sound part by g v u w h = cases (no_error v) (number u) (number w) refl refl refl
+part_sound : (some_of : ℤ → List (List Scalar) → List (List Scalar)) (part : ℤ → List Scalar → List Scalar) (by : ℤ → ℕ → ℕ) → ((c : ℕ) (m n : ℤ) (rs : List (List Scalar)) → AreRows c rs → AreRows (by n c) (map (part n) (some_of m rs))) →
+    (v u w : Value) → IsSoundValue v → IsSoundValue (value_or_error (part_of some_of part v u w))
+part_sound some_of part by g v u w h = cases (no_error v) (number u) (number w) refl refl refl
   where
-    cases : (t : Try Value) (m n : Try ℤ) → no_error v ≡ t → number u ≡ m → number w ≡ n → IsSoundValue (value_or_error (part_of part v u w))
+    cases : (t : Try Value) (m n : Try ℤ) → no_error v ≡ t → number u ≡ m → number w ≡ n → IsSoundValue (value_or_error (part_of some_of part v u w))
     cases (Err k) m n e f q = rw e refl
     cases (Ok x) (Err k) n e f q = rw (e, f) refl
     cases (Ok x) (Ok m) (Err k) e f q = rw (e, f, q) refl
-    cases (Ok x) (Ok m) (Ok n) e f q = rw (e, f, q) (some_rows_sound ErrKind.Value (by n (shape v).cols) (part m n (rows v)) (g (shape v).cols m n (rows v) (value_rows v h)))
+    cases (Ok x) (Ok m) (Ok n) e f q = rw (e, f, q) (some_rows_sound ErrKind.Value (by n (shape v).cols) (map (part n) (some_of m (rows v))) (g (shape v).cols m n (rows v) (value_rows v h)))
 
-pub take_sound : (v u w : Value) → IsSoundValue v → IsSoundValue (value_or_error (part_of kept_part v u w))
-take_sound = part_sound kept_part kept_length kept_part_rows
+pub take_sound : (v u w : Value) → IsSoundValue v → IsSoundValue (value_or_error (part_of kept kept v u w))
+take_sound = part_sound kept kept kept_length kept_part_rows
 
-pub drop_sound : (v u w : Value) → IsSoundValue v → IsSoundValue (value_or_error (part_of left_over_part v u w))
-drop_sound = part_sound left_over_part left_length left_part_rows
+pub drop_sound : (v u w : Value) → IsSoundValue v → IsSoundValue (value_or_error (part_of left_over left_over v u w))
+drop_sound = part_sound left_over left_over left_length left_part_rows
 
 pub filter_sound : (v keep : Value) → IsSoundValue v → IsSoundValue (value_or_error (filter_rows v keep))
 filter_sound v keep h = by (no_error v) (no_error keep) (is_column_beside keep v) (first_fault truth_fault (elements keep)) refl refl refl refl
@@ -114,12 +117,12 @@ filter_sound v keep h = by (no_error v) (no_error keep) (is_column_beside keep v
     by (Ok x) (Err k) b o e f g i = rw (e, f) refl
     by (Ok x) (Ok y) false o e f g i = rw (e, f, g) refl
     by (Ok x) (Ok y) true (Some k) e f g i = rw (e, f, g, i) refl
-    by (Ok x) (Ok y) true None e f g i = rw (e, f, g, i) (some_rows_sound ErrKind.Na (shape v).cols (kept_rows (elements keep) (rows v)) (rows_chosen (shape v).cols (elements keep) (rows v) (value_rows v h)))
+    by (Ok x) (Ok y) true None e f g i = rw (e, f, g, i) (some_rows_sound ErrKind.Na (shape v).cols (items_where_true (map keeps (elements keep)) (rows v)) (rows_chosen (shape v).cols (map keeps (elements keep)) (rows v) (value_rows v h)))
 
 pub unique_sound : (v : Value) → IsSoundValue v → IsSoundValue (unique v)
 unique_sound (One x) h = h
 unique_sound (Array s xs) h =
-    from_rows_sound s.cols (new_rows [] (rows (Array s xs))) (some_new (rows (Array s xs)) (value_rows_some (Array s xs) h)) (shape_positive (Array s xs) h).cols
+    from_rows_sound s.cols (distinct (pointwise same_scalar) (rows (Array s xs))) (some_new (rows (Array s xs)) (value_rows_some (Array s xs) h)) (shape_positive (Array s xs) h).cols
     (rows_new s.cols [] (rows (Array s xs)) (value_rows (Array s xs) h))
 
 -- ---- stacks

@@ -6,11 +6,13 @@ use Rattle.gl_calculus.specs.Values.Value.{Scalar, Value}
 use Rattle.gl_calculus.specs.Formulas.Formula.{Fun}
 use Rattle.gl_calculus.specs.Formulas.Formula as F
 use Rattle.gl_calculus.specs.Values.Operators.{exact, magnitude, modulo, numeric, plain}
-use Rattle.gl_calculus.specs.Values.Functions.{all_elements, whole_number, truth, sum_fault, truth_fault, first_fault, unless, sum_of, lesser, greater, best, all_true, some_true, truth_of, total, extreme, verdict, negation, is_error, is_blank, text_length, take_last, text_part, apply}
+use Rattle.gl_calculus.specs.Values.Functions.{all_elements, whole_number, truth, sum_fault, truth_fault, first_fault, unless, lesser, greater, truth_of, total, extreme, verdict, negation, is_error, is_blank, text_length, take_last, text_part, apply}
 use Rattle.laws_calculus.proofs.Sound.Values.{IsSound, IsSoundValue, AllSoundValues}
 use Rattle.laws_calculus.proofs.Sound.Operators.{exact_sound, numeric_sound, modulo_sound, magnitude_sound, first_chars, last_chars}
 use Rattle.laws_calculus.proofs.Sound.Lift.{lift1_sound, lift2_sound}
 use Rattle.laws_calculus.proofs.Sound.Arrays.{extent_sound, index_sound, sequence_sound, transpose_sound, take_sound, drop_sound, hstack_sound, vstack_sound, filter_sound, unique_sound, lookup_sound}
+use Rattle.std.specs.List.{list_all, list_any, reduce}
+use Rattle.std.specs.Prelude.{unwrap_or, fold, ◌+ℤ◌}
 
 -- ---- over all elements
 
@@ -19,10 +21,10 @@ unless_sound (Some k) r h = refl
 unless_sound None r h = h
 
 total_sound : (xs : List Scalar) → IsSound (total xs)
-total_sound xs = unless_sound (first_fault sum_fault xs) (exact (sum_of (filter_map whole_number xs))) (exact_sound (sum_of (filter_map whole_number xs)))
+total_sound xs = unless_sound (first_fault sum_fault xs) (exact (fold ◌+ℤ◌ (pos 0) (filter_map whole_number xs))) (exact_sound (fold ◌+ℤ◌ (pos 0) (filter_map whole_number xs)))
 
 extreme_sound : (better : ℤ → ℤ → ℤ) (xs : List Scalar) → IsSound (extreme better xs)
-extreme_sound better xs = unless_sound (first_fault sum_fault xs) (Scalar.Int (best better (filter_map whole_number xs))) refl
+extreme_sound better xs = unless_sound (first_fault sum_fault xs) (Scalar.Int (unwrap_or (reduce better (filter_map whole_number xs)) (pos 0))) refl
 
 truth_sound : (f : List Bool → Bool) (bs : List Bool) → IsSound (truth_of f bs)
 truth_sound f [] = refl
@@ -84,8 +86,8 @@ apply_sound F.Fun.Sum vs e h = total_sound (all_elements vs)
 apply_sound F.Fun.Count vs e h = refl
 apply_sound F.Fun.Min vs e h = extreme_sound lesser (all_elements vs)
 apply_sound F.Fun.Max vs e h = extreme_sound greater (all_elements vs)
-apply_sound F.Fun.And vs e h = verdict_sound all_true (all_elements vs)
-apply_sound F.Fun.Or vs e h = verdict_sound some_true (all_elements vs)
+apply_sound F.Fun.And vs e h = verdict_sound (list_all (λ b. b)) (all_elements vs)
+apply_sound F.Fun.Or vs e h = verdict_sound (list_any (λ b. b)) (all_elements vs)
 apply_sound F.Fun.Not (v ∷ []) e h = lift1_sound negation (λ x p. negation_sound x) v h.0
 apply_sound F.Fun.IsError (v ∷ []) e h = lift1_sound is_error (λ x p. is_error_sound x) v h.0
 apply_sound F.Fun.IsBlank (v ∷ []) e h = lift1_sound is_blank (λ x p. is_blank_sound x) v h.0

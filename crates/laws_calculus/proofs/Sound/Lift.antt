@@ -8,8 +8,9 @@ use Rattle.gl_calculus.specs.Grid.Limits.{max_cells}
 use Rattle.gl_calculus.specs.Grid.Grid.{Size}
 use Rattle.gl_calculus.specs.Values.ErrKind.{ErrKind}
 use Rattle.gl_calculus.specs.Values.Value.{Scalar, Value, One, Array, items}
-use Rattle.gl_calculus.specs.Values.Lift.{shape, item_or, item, spread, is_small, table_if, table, hull, lift1, reaches, where_reached, lift2, lift3}
+use Rattle.gl_calculus.specs.Values.Lift.{shape, item_or, item, spread, is_small, table, hull, lift1, reaches, where_reached, lift2, lift3}
 use Rattle.laws_calculus.proofs.Sound.Values.{IsSound, AllSound, IsSoundValue, parts_of, array_sound, all_append, all_at, either}
+use Rattle.gl_calculus.proofs.Tables.{table_if}
 
 -- ---- elements
 

@@ -1,5 +1,5 @@
 -- The operators and the functions on scalars give sound scalars.
-use Rattle.std.proofs.Common.{◌≡◌, ℕ, zero, suc, ◌+◌, ◌^◌, ◌<◌, ◌≤◌, ◌==◌, ◌/◌, ◌%◌, nat_lt, nat_le, ℤ, pos, negsuc, ◌+ℤ◌, ◌-ℤ◌, ◌*ℤ◌, neg_ℤ, int_lt, int_le, int_div, Bool, true, false, ◌&&◌, List, [], ◌∷◌, ◌++◌, length, take, drop, Option, Some, None, refl, ap, ◌∙◌, sym, arith, if◌then◌else◌}
+use Rattle.std.proofs.Common.{◌≡◌, ℕ, zero, suc, ◌+◌, ◌^◌, ◌<◌, ◌≤◌, ◌==◌, ◌/◌, ◌%◌, nat_lt, nat_le, ℤ, pos, negsuc, ◌+ℤ◌, neg_ℤ, int_lt, int_le, int_div, Bool, true, false, ◌&&◌, List, [], ◌∷◌, ◌++◌, length, take, drop, Option, Some, None, refl, ap, ◌∙◌, sym, arith, if◌then◌else◌, int_rem, ◌||◌, ◌-ℤ◌, ◌*ℤ◌}
 use Rattle.std.specs.Str.{is_utf8, IsUtf8, IsAscii, chars, all_scalars}
 use Rattle.std.specs.List.{AllByRecursion}
 use Rattle.std.specs.Prelude.{encode_utf8_all, codes}
@@ -10,10 +10,10 @@ use Rattle.std.proofs.lemmas.List.{length-append, take-append-drop}
 use Rattle.gl_calculus.specs.Grid.Limits.{max_text}
 use Rattle.gl_calculus.specs.Values.ErrKind.{ErrKind}
 use Rattle.gl_calculus.specs.Values.Value.{Scalar}
-use Rattle.gl_calculus.specs.Values.Same.{same_int}
+use Rattle.gl_calculus.specs.Values.Same.{same_int, same_bool}
 use Rattle.gl_calculus.specs.Formulas.Formula.{Op}
 use Rattle.gl_calculus.specs.Formulas.Formula as F
-use Rattle.gl_calculus.specs.Values.Operators.{exact, strict, amount, on_amounts, numeric, quotient, floor_div, modulo, on_amount, negate, magnitude, comparison, filled, compare, text, plain, join_text, operate}
+use Rattle.gl_calculus.specs.Values.Operators.{exact, strict, amount, on_amounts, numeric, quotient, modulo, on_amount, negate, magnitude, comparison, filled, compare, text, plain, join_text, operate}
 use Rattle.laws_calculus.proofs.Sound.Values.{IsSound, either}
 
 -- ---- numbers
@@ -40,7 +40,10 @@ quotient_sound : (m n : ℤ) → IsSound (quotient m n)
 quotient_sound m n = either (same_int n (pos 0)) (Scalar.Err ErrKind.Div0) (exact (int_div m n)) refl (exact_sound (int_div m n))
 
 pub modulo_sound : (m n : ℤ) → IsSound (modulo m n)
-modulo_sound m n = either (same_int n (pos 0)) (Scalar.Err ErrKind.Div0) (exact (m -ℤ (n *ℤ floor_div m n))) refl (exact_sound (m -ℤ (n *ℤ floor_div m n)))
+modulo_sound m n =
+    let r = int_rem m n in
+    let same = same_int r (pos 0) || same_bool (int_lt r (pos 0)) (int_lt n (pos 0)) in
+    either (same_int n (pos 0)) (Scalar.Err ErrKind.Div0) (if same then exact r else exact (r +ℤ n)) refl (either same (exact r) (exact (r +ℤ n)) (exact_sound r) (exact_sound (r +ℤ n)))
 
 amount_sound : (f : ℤ → Scalar) → ((n : ℤ) → IsSound (f n)) → (x : Scalar) → IsSound (on_amount f x)
 amount_sound f g Scalar.Blank = g (pos 0)

@@ -11,7 +11,7 @@ use Rattle.gl_calculus.specs.Values.Value.{Scalar, Value, One, Array, sheet_valu
 use Rattle.gl_calculus.specs.Values.Sheet.{override_at}
 use Rattle.gl_calculus.specs.Formulas.Formula.{Content, Const, Form, Cells, content}
 use Rattle.gl_calculus.specs.Evaluation.Oracle.{Cover}
-use Rattle.gl_calculus.specs.Evaluation.Facts.{Fact, fact, facts, find_fact, or_nothing, fact_at}
+use Rattle.gl_calculus.specs.Evaluation.Facts.{Fact, fact, facts, find_fact, fact_at}
 use Rattle.gl_calculus.specs.Evaluation.Key.{Outcome, Settled, Abort, Budget, Eval, on_result, ◌>>=◌, own_value}
 use Rattle.gl_calculus.specs.Evaluation.Reference as R
 use Rattle.gl_calculus.specs.Evaluation.Reference.{Held, Given, Computed, held_top, override_or, content_in, in_region, own_content, home, own, value_of, shown, spilled, spilling, Reading, covered, deref, deref_all, seen_or_looked, at_address, at_range, spill_of}
@@ -21,6 +21,7 @@ use Rattle.laws_calculus.specs.Sound.{IsSoundOutcome}
 use Rattle.laws_calculus.proofs.Sound.Values.{IsSound, AllSound, IsSoundValue, extents_of, array_sound}
 use Rattle.laws_calculus.proofs.Sound.Lift.{item_or_sound, item_sound, table_length}
 use Rattle.laws_calculus.proofs.Sound.Sheets.{sheet_parts, SoundIf, override_sound}
+use Rattle.std.specs.Prelude.{unwrap_or}
 
 abbrev pub SoundFrame : Frame → Type 0
 SoundFrame e = IsTrue (is_sound_frame e)
@@ -94,7 +95,7 @@ found_fit : (xs : List Fact) (a : Addr) → FitFacts xs → FactIf (find_fact xs
 found_fit [] a h = tt
 found_fit (x ∷ xs) a h = fact_if (same_addr x.address a) (Some x) (find_fact xs a) h.0 (found_fit xs a h.1)
 
-or_fit : (a : Addr) (x : Option Fact) → FactIf x → FitFact (or_nothing a x)
+or_fit : (a : Addr) (x : Option Fact) → FactIf x → FitFact (unwrap_or x (record { address = a; content = None; status = None; cover = None }))
 or_fit a (Some x) h = h
 or_fit a None h = tt
 

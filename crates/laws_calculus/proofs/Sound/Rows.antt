@@ -1,16 +1,20 @@
 -- Rows of sound scalars, equally long, and the arrays that are made of them.
 use Rattle.std.proofs.Common.{◌≡◌, ℕ, zero, suc, ◌-◌, ◌*◌, ◌<◌, ◌≤◌, min, ℤ, pos, negsuc, Bool, true, false, List, [], ◌∷◌, ◌++◌, length, map, take, drop, replicate, refl, ap, sym, ◌∙◌, arith, if◌then◌else◌}
-use Rattle.std.specs.List.{AllByRecursion, flat_map, list_any}
+use Rattle.std.specs.List.{AllByRecursion, flat_map, items_where_true}
 use Rattle.std.proofs.lemmas.Bool.{leb-true}
 use Rattle.std.proofs.lemmas.List.{length-append, length-take, length-drop, length-replicate}
 use Rattle.gl_calculus.specs.Grid.Limits.{max_cells}
 use Rattle.gl_calculus.specs.Grid.Grid.{size}
 use Rattle.gl_calculus.specs.Values.ErrKind.{ErrKind}
 use Rattle.gl_calculus.specs.Values.Value.{Scalar, Value, One, Array, items}
-use Rattle.gl_calculus.specs.Values.Lift.{shape, is_small, rows, width, cut, rows_if, from_rows}
-use Rattle.gl_calculus.specs.Values.Functions.{kept, left_over, padded, kept_rows, keeps, new_rows, same_row}
+use Rattle.gl_calculus.specs.Values.Lift.{shape, is_small, rows, width, cut, from_rows}
+use Rattle.gl_calculus.specs.Values.Functions.{kept, left_over, padded}
 use Rattle.laws_calculus.proofs.Sound.Values.{AllSound, IsSoundValue, parts_of, array_sound, all_append, all_take, all_drop, all_replicate}
 use Rattle.laws_calculus.proofs.Sound.Lift.{one_more_row}
+use lib.Pointwise.{pointwise}
+use Rattle.gl_calculus.specs.Values.Same.{same_scalar}
+use Rattle.gl_calculus.specs.Computation.Lists.{distinct, fresh, has_member}
+use Rattle.gl_calculus.proofs.Tables.{rows_if}
 
 -- rows of n sound scalars each
 abbrev pub AreRows : ℕ → List (List Scalar) → Type 0
@@ -125,24 +129,21 @@ pad_rows m n (r ∷ rs) l h = (
   pad_rows m n rs l h.1,
 )
 
-row_if : (n : ℕ) (b : Bool) (r : List Scalar) (rs : List (List Scalar)) → (length r ≡ n) × AllSound r → AreRows n rs → AreRows n (if b then r ∷ rs else rs)
-row_if n true r rs h k = (h, k)
-row_if n false r rs h k = k
-
-pub rows_chosen : (n : ℕ) (ks : List Scalar) (rs : List (List Scalar)) → AreRows n rs → AreRows n (kept_rows ks rs)
+pub rows_chosen : (n : ℕ) (bs : List Bool) (rs : List (List Scalar)) → AreRows n rs → AreRows n (items_where_true bs rs)
 rows_chosen n [] rs h = tt
-rows_chosen n (k ∷ ks) [] h = tt
-rows_chosen n (k ∷ ks) (r ∷ rs) h = row_if n (keeps k) r (kept_rows ks rs) h.0 (rows_chosen n ks rs h.1)
+rows_chosen n (b ∷ bs) [] h = tt
+rows_chosen n (true ∷ bs) (r ∷ rs) h = (h.0, rows_chosen n bs rs h.1)
+rows_chosen n (false ∷ bs) (r ∷ rs) h = rows_chosen n bs rs h.1
 
 new_if : (n : ℕ) (b : Bool) (r : List Scalar) (rs ss : List (List Scalar)) → (length r ≡ n) × AllSound r → AreRows n rs → AreRows n ss → AreRows n (if b then rs else r ∷ ss)
 new_if n true r rs ss h k l = k
 new_if n false r rs ss h k l = (h, l)
 
-pub rows_new : (n : ℕ) (seen rs : List (List Scalar)) → AreRows n rs → AreRows n (new_rows seen rs)
+pub rows_new : (n : ℕ) (seen rs : List (List Scalar)) → AreRows n rs → AreRows n (fresh (pointwise same_scalar) seen rs)
 rows_new n seen [] h = tt
-rows_new n seen (r ∷ rs) h = new_if n (list_any (same_row r) seen) r (new_rows seen rs) (new_rows (r ∷ seen) rs) h.0 (rows_new n seen rs h.1) (rows_new n (r ∷ seen) rs h.1)
+rows_new n seen (r ∷ rs) h = new_if n (has_member (pointwise same_scalar) r seen) r (fresh (pointwise same_scalar) seen rs) (fresh (pointwise same_scalar) (r ∷ seen) rs) h.0 (rows_new n seen rs h.1) (rows_new n (r ∷ seen) rs h.1)
 
 -- the first row is new
-pub some_new : (rs : List (List Scalar)) → 0 < length rs → 0 < length (new_rows [] rs)
+pub some_new : (rs : List (List Scalar)) → 0 < length rs → 0 < length (distinct (pointwise same_scalar) rs)
 some_new [] l = l
 some_new (r ∷ rs) l = omega arith

@@ -2,7 +2,8 @@ use Rattle.std.proofs.Common.{◌∙◌, Vec, Global, Bool, ◌≤◌, length, [
 use Rattle.std.specs.List.{list_any, range_with_len}
 use lib.Pointwise.{pointwise}
 use Rattle.gl_calculus.specs.Values.Value as V
-use Rattle.gl_calculus.specs.Values.Functions as F
+use Rattle.gl_calculus.specs.Computation.Lists.{fresh}
+use Rattle.gl_calculus.specs.Values.Same.{same_scalar}
 use Rattle.gl_value.specs.View.{scalar_tree, value_tree}
 use Rattle.gl_value.specs.declared.Scalar.{Scalar}
 use Rattle.gl_value.specs.contracts.ScalarPartialEq.TheImpl.{ghosts as scalar}
@@ -25,7 +26,7 @@ loop-i-preserved c =
     let x = c.in_ok-row_of.field-0 in
     let ks = c.loop-i.seen.keys in
     let after = c.insert.new.self.keys in
-    let g = F.new_rows [] (map f (range_with_len 0 n)) in
+    let g = fresh (pointwise same_scalar) [] (map f (range_with_len 0 n)) in
     let seen = list_any (same x) ks in
     let keys = c.in_ok-insert.ensures.keys in
     elim c.if-branch.branch [
@@ -49,8 +50,8 @@ found_rows : goal.returns-clause-rows
 found_rows c =
     let v = value_tree c.args.v.now in
     rows_done (row v) (map plain c.loop-i.seen.keys) c.loop-i.new.items c.loop-i.i c.extents-rows.result.0 _ c.loop-i-test.false c.loop-i.invariant.0
-    ∙ ap (λ n. F.new_rows [] (map (row v) (range_with_len 0 n))) c.extents-rows.ensures.rows
-    ∙ ap (F.new_rows []) (sym (rows_are v c.requires))
+    ∙ ap (λ n. fresh (pointwise same_scalar) [] (map (row v) (range_with_len 0 n))) c.extents-rows.ensures.rows
+    ∙ ap (fresh (pointwise same_scalar) []) (sym (rows_are v c.requires))
 
 pub returns-clause-rows : goal.returns-clause-rows
 returns-clause-rows c = found_rows c

@@ -9,13 +9,13 @@ abbrev pub invariant-arguments-loop-x : goal.invariant-arguments-loop-x
 invariant-arguments-loop-x l =
     let sp = spilled_at l.spilled.any l.spilled.places.now l.spilled.shapes.now in
     let bs = bindings_of l.bindings in
-    IsJoining l.all (Fo.shapes sp bs (argument_trees (drop l.x-index l.xs))) (Fo.all_joined (Fo.shapes sp bs (argument_trees l.xs)))
+    IsJoining l.all (Fo.shapes sp bs (argument_trees (drop l.x-index l.xs))) (Fo.greatest_shape (Fo.shapes sp bs (argument_trees l.xs)))
 
 abbrev pub invariant-operands-loop-x : goal.invariant-operands-loop-x
 invariant-operands-loop-x l =
     let sp = spilled_at l.spilled.any l.spilled.places.now l.spilled.shapes.now in
     let bs = bindings_of l.bindings in
-    IsJoining l.all (Fo.operand_shapes sp bs (operand_trees (drop l.x-index l.xs))) (Fo.all_joined (Fo.operand_shapes sp bs (operand_trees l.xs)))
+    IsJoining l.all (Fo.operand_shapes sp bs (operand_trees (drop l.x-index l.xs))) (Fo.greatest_shape (Fo.operand_shapes sp bs (operand_trees l.xs)))
 
 abbrev pub invariant-stack-loop-x : goal.invariant-stack-loop-x
 invariant-stack-loop-x l =
