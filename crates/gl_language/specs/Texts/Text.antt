@@ -1,5 +1,6 @@
 -- The printed texts, as bytes: addresses, literals, formulas, values and contents.
-use Rattle.std.specs.Prelude.{ℕ, ◌+◌, ◌/◌, ◌%◌, ◌==◌, min, nat_lt, nat_le, Bool, true, false, ◌||◌, List, [], ◌∷◌, ◌++◌, flat_map, codes, if◌then◌else◌}
+use Rattle.std.specs.Prelude.{ℕ, ◌+◌, ◌/◌, ◌%◌, ◌==◌, min, nat_lt, nat_le, Bool, true, false, ◌||◌}
+use Rattle.std.specs.Prelude.{List, [], ◌∷◌, ◌++◌, flat_map, codes, if◌then◌else◌}
 use Rattle.std.specs.List.{join_with_byte}
 use Rattle.std.specs.Fmt.{decimal, signed_decimal}
 use Rattle.gl_calculus.specs.Grid.Limits.{max_minus}
@@ -8,7 +9,8 @@ use Rattle.gl_calculus.specs.Grid.Notation.{address_text}
 use Rattle.gl_calculus.specs.Values.ErrKind.{ErrKind}
 use Rattle.gl_calculus.specs.Values.Value.{Scalar, region}
 use Rattle.gl_calculus.specs.Values.Value as V
-use Rattle.gl_calculus.specs.Formulas.Formula.{Op, Level, Cat, Sum, Prod, Fun, Formula, Formulas, Operands, Content, Const, Form}
+use Rattle.gl_calculus.specs.Formulas.Formula.{Op, Level, Cat, Sum, Prod, Fun, Formula, Formulas}
+use Rattle.gl_calculus.specs.Formulas.Formula.{Operands, Content, Const, Form}
 use Rattle.gl_calculus.specs.Formulas.Formula as F
 use Rattle.gl_calculus.specs.Calculation.Calculation.{Shown, Cycle}
 
@@ -35,8 +37,10 @@ is_control b = nat_lt b 32 || (b == 127)
 abbrev pub escaped : ℕ → Bytes
 escaped b =
     if b == 92 then 92 ∷ 92 ∷ [] else if b == 34 then 92 ∷ 34 ∷ []
-    else if b == 10 then 92 ∷ codes "n" else if b == 13 then 92 ∷ codes "r" else if b == 9 then 92 ∷ codes "t"
-    else if is_control b then (92 ∷ codes "x") ++ hex_digit (b / 16) ∷ hex_digit (b % 16) ∷ [] else b ∷ []
+    else if b == 10 then 92 ∷ codes "n" else if b == 13 then 92 ∷ codes "r"
+    else if b == 9 then 92 ∷ codes "t"
+    else if is_control b then (92 ∷ codes "x") ++ hex_digit (b / 16) ∷ hex_digit (b % 16) ∷ []
+    else b ∷ []
 
 abbrev pub literal_text : Bytes → Bytes
 literal_text t = 34 ∷ flat_map escaped t ++ 34 ∷ []
@@ -96,7 +100,8 @@ fun_text F.Fun.View = codes "VIEW"
 fun_text F.Fun.G = codes "G"
 fun_text F.Fun.This = codes "THIS"
 
--- the places of the grammar from the widest to the narrowest: expr 0, cat 1, sum 2, prod 3, unary 4, atom 5
+-- the places of the grammar from the widest to the narrowest: expr 0, cat 1, sum 2, prod 3,
+-- unary 4, atom 5
 abbrev pub level_place : Level → ℕ
 level_place Cat = 1
 level_place Sum = 2
@@ -115,7 +120,8 @@ is_neg f = false
 
 -- whether a form needs parentheses in a place, behind so many `-` in a row
 abbrev pub needs_parens : ℕ → ℕ → Formula → Bool
-needs_parens minus place f = nat_lt (place_of f) place || (if is_neg f then nat_le max_minus minus else false)
+needs_parens minus place f =
+    nat_lt (place_of f) place || (if is_neg f then nat_le max_minus minus else false)
 
 abbrev pub minus_of : Op → ℕ
 minus_of F.Op.Sub = 1
@@ -133,7 +139,8 @@ abbrev pub in_place : Bool → (ℕ → Bytes) → ℕ → Bytes
 in_place true text minus = in_parens (text 0)
 in_place false text minus = text minus
 
--- The canonical text of a formula behind so many `-` in a row: no spaces, and parentheses only where they are needed.
+-- The canonical text of a formula behind so many `-` in a row: no spaces, and parentheses only
+-- where they are needed.
 abbrev mutual
   pub text_behind : ℕ → Formula → Bytes
   text_behind minus (F.Formula.Int n) = signed_decimal n
@@ -143,18 +150,26 @@ abbrev mutual
   text_behind minus (F.Formula.Spill a) = address_text a ++ codes "#"
   text_behind minus (F.Formula.Area r) = range_text r
   text_behind minus (F.Formula.Var name) = name
-  text_behind minus (F.Formula.Neg f) = codes "-" ++ in_place (needs_parens (one_more minus) 4 f) (λ m. text_behind m f) (one_more minus)
+  text_behind minus (F.Formula.Neg f) =
+      codes "-"
+      ++ in_place (needs_parens (one_more minus) 4 f) (λ m. text_behind m f) (one_more minus)
   text_behind minus (F.Formula.Chain level f rest) =
-      in_place (needs_parens minus (level_place level + 1) f) (λ m. text_behind m f) minus ++ operands_text (level_place level + 1) rest
+      in_place (needs_parens minus (level_place level + 1) f) (λ m. text_behind m f) minus
+      ++ operands_text (level_place level + 1) rest
   text_behind minus (F.Formula.Compare op f g) =
-      in_place (needs_parens minus 1 f) (λ m. text_behind m f) minus ++ op_text op ++ in_place (needs_parens 0 1 g) (λ m. text_behind m g) 0
+      in_place (needs_parens minus 1 f) (λ m. text_behind m f) minus ++ op_text op
+      ++ in_place (needs_parens 0 1 g) (λ m. text_behind m g) 0
   text_behind minus (F.Formula.Call f xs) = fun_text f ++ in_parens (join_with_byte 44 (texts xs))
-  text_behind minus (F.Formula.Let name f body) = codes "LET" ++ in_parens (join_with_byte 44 (name ∷ text_behind 0 f ∷ text_behind 0 body ∷ []))
+  text_behind minus (F.Formula.Let name f body) =
+      codes "LET"
+      ++ in_parens (join_with_byte 44 (name ∷ text_behind 0 f ∷ text_behind 0 body ∷ []))
 
   pub operands_text : ℕ → Operands → Bytes
   operands_text place F.Operands.no_operand = []
   operands_text place (F.Operands.operand_and op f rest) =
-      op_text op ++ in_place (needs_parens (minus_of op) place f) (λ m. text_behind m f) (minus_of op) ++ operands_text place rest
+      op_text op
+      ++ in_place (needs_parens (minus_of op) place f) (λ m. text_behind m f) (minus_of op)
+      ++ operands_text place rest
 
   pub texts : Formulas → List Bytes
   texts F.Formulas.no_formula = []

@@ -1,5 +1,8 @@
--- Framing: what a whole text is made of, by splitting it at its first line, and again at the first line of what follows.
-use Rattle.std.specs.Prelude.{ℕ, zero, suc, Bool, true, false, ◌==◌, ◌||◌, nat_lt, nat_le, ◌-◌, List, [], ◌∷◌, length, take, drop, if◌then◌else◌, Option, None, Some, slice_index}
+-- Framing: what a whole text is made of, by splitting it at its first line, and again at the first
+-- line of what follows.
+use Rattle.std.specs.Prelude.{ℕ, zero, suc, Bool, true, false, ◌==◌, ◌||◌, nat_lt, nat_le, ◌-◌}
+use Rattle.std.specs.Prelude.{List, [], ◌∷◌, length, take, drop, if◌then◌else◌, Option, None, Some}
+use Rattle.std.specs.Prelude.{slice_index}
 use Rattle.std.specs.List.{list_any}
 use Rattle.gl_calculus.specs.Grid.Limits.{max_line}
 use Rattle.gl_language.specs.Texts.Text.{Bytes}
@@ -52,11 +55,15 @@ after_line (b ∷ bs) = if b == 10 then bs else after_line bs
 abbrev pub item_at : Kind → Bytes → Bytes → Option (Item × Bytes)
 item_at past_limit line u = Some (Long, u)
 item_at plain line u = Some (Line line, u)
-item_at (header n) line u = if nat_le n (length u) then Some (Import line (take n u), drop n u) else None
+item_at (header n) line u =
+    if nat_le n (length u) then Some (Import line (take n u), drop n u) else None
 
 -- the first item of a text, where one ends in it, and what follows the item
 abbrev pub first_item : Bytes → Option (Item × Bytes)
-first_item t = if has_lf t then item_at (kind_of (drop_cr (first_line t))) (drop_cr (first_line t)) (after_line t) else None
+first_item t =
+    if has_lf t
+    then item_at (kind_of (drop_cr (first_line t))) (drop_cr (first_line t)) (after_line t)
+    else None
 
 -- the item of a last line with no LF
 abbrev pub last_item : Kind → Bytes → Item
@@ -69,7 +76,8 @@ last_item (header (suc n)) line = Truncated
 abbrev pub last_items : Bytes → List Item
 last_items [] = []
 last_items (b ∷ bs) =
-    (if has_lf (b ∷ bs) then Truncated else last_item (kind_of (drop_cr (b ∷ bs))) (drop_cr (b ∷ bs))) ∷ []
+    (if has_lf (b ∷ bs) then Truncated
+    else last_item (kind_of (drop_cr (b ∷ bs))) (drop_cr (b ∷ bs))) ∷ []
 
 abbrev pub is_quit : Item → Bool
 is_quit (Line line) = is_quit_line line
@@ -81,7 +89,8 @@ is_quit Truncated = false
 abbrev pub has_quit : List Item → Bool
 has_quit is = list_any is_quit is
 
--- the first item, and then those of what follows it, unless it is `quit`; the last where no item ends
+-- the first item, and then those of what follows it, unless it is `quit`; the last where no item
+-- ends
 abbrev pub go_on : Option (Item × Bytes) → (Bytes → List Item) → List Item → List Item
 go_on None rest last = last
 go_on (Some p) rest last = p.0 ∷ (if is_quit p.0 then [] else rest p.1)

@@ -1,5 +1,6 @@
 -- A text cut at a separator.
-use Rattle.std.specs.Prelude.{ℕ, ◌==◌, Bool, false, ◌&&◌, not, List, [], ◌∷◌, Option, Some, None, if◌then◌else◌}
+use Rattle.std.specs.Prelude.{ℕ, ◌==◌, Bool, false, ◌&&◌, not, List, [], ◌∷◌, Option, Some, None}
+use Rattle.std.specs.Prelude.{if◌then◌else◌}
 use Rattle.std.specs.List.{list_all}
 use Rattle.gl_language.specs.Texts.Text.{Bytes}
 use Rattle.gl_language.specs.Reading.Token.{is_digit}
@@ -10,12 +11,14 @@ Cut = Bytes × Option Bytes
 
 abbrev pub cut_at : ℕ → Bytes → Cut
 cut_at separator [] = ([], None)
-cut_at separator (b ∷ bs) = let rest = cut_at separator bs in if b == separator then ([], Some bs) else (b ∷ rest.0, rest.1)
+cut_at separator (b ∷ bs) =
+    let rest = cut_at separator bs in if b == separator then ([], Some bs) else (b ∷ rest.0, rest.1)
 
 -- the pieces between the separators
 abbrev pub pieces : ℕ → Bytes → List Bytes
 pieces separator [] = [] ∷ []
-pieces separator (b ∷ bs) = if b == separator then [] ∷ pieces separator bs else with_front b (pieces separator bs)
+pieces separator (b ∷ bs) =
+    if b == separator then [] ∷ pieces separator bs else with_front b (pieces separator bs)
   where
     with_front : ℕ → List Bytes → List Bytes
     with_front b [] = (b ∷ []) ∷ []

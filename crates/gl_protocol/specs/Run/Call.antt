@@ -26,6 +26,7 @@ input_by (Some c) left = generated_or c.size
     generated_or (Some n) = Some (generated n)
     generated_or None = left
 
--- The text that a run answers, where it is told: the generated script, or else what the source has left. Words with no form have none.
+-- The text that a run answers, where it is told: the generated script, or else what the source has
+-- left. Words with no form have none.
 abbrev pub input_of : List (String Global) → Option Bytes → Option Bytes
 input_of words left = input_by (words_call words) left

@@ -1,5 +1,6 @@
 -- The addresses that a command touches.
-use Rattle.std.specs.Prelude.{List, [], ◌∷◌, ◌++◌, map, Option, Some, None, Bool, true, if◌then◌else◌}
+use Rattle.std.specs.Prelude.{List, [], ◌∷◌, ◌++◌, map, Option, Some, None, Bool, true}
+use Rattle.std.specs.Prelude.{if◌then◌else◌}
 use Rattle.gl_calculus.specs.Grid.Grid.{Addr, single}
 use Rattle.gl_calculus.specs.Formulas.Formula.{Content, Cells}
 use Rattle.gl_calculus.specs.Edits.Replicas.{Changes, Edit, is_earlier}
@@ -20,7 +21,8 @@ abbrev pub going : Changes → List Addr
 going [] = []
 going (c ∷ cs) = and_address c.0 c.1 (going cs)
 
--- a sheet without the contents of these addresses, one after the other, and the addresses that had one
+-- a sheet without the contents of these addresses, one after the other, and the addresses that had
+-- one
 abbrev pub without_these : Cells → List Addr → Cells
 without_these S [] = S
 without_these S (a ∷ ps) = without_these (without S (single a)) ps
@@ -56,5 +58,6 @@ touched_by s (Set a c) = a ∷ []
 touched_by s (Clear r) = places_in s.sheet r
 touched_by s Undo = touched_by_all s.sheet (latest_changes befores s.history.done)
 touched_by s Redo = touched_by_all s.sheet (latest_changes afters s.history.undone)
-touched_by s (Merge e) = if is_later (register_of s e.place) e then touched_by_one s.sheet e.place e.content else []
+touched_by s (Merge e) =
+    if is_later (register_of s e.place) e then touched_by_one s.sheet e.place e.content else []
 touched_by s x = []

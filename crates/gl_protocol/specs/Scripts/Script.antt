@@ -1,10 +1,16 @@
 -- The state of a script, and what its commands make of it.
-use Rattle.std.specs.Prelude.{ℕ, Bool, true, false, List, [], ◌∷◌, Option, Some, None, if◌then◌else◌}
+use Rattle.std.specs.Prelude.{ℕ, Bool, true, false, List, [], ◌∷◌, Option, Some, None}
+use Rattle.std.specs.Prelude.{if◌then◌else◌}
 use Rattle.gl_calculus.specs.Grid.Grid.{Addr, single}
 use Rattle.gl_calculus.specs.Formulas.Formula.{Content, Cells}
-use Rattle.gl_calculus.specs.Edits.Replicas.{Stamp, Edit, Changes, Replica, Judged, Wins, Loses, Same, Conflict, register_at, new_replica, next_stamp, taking, taking_all, stamped, has_room}
-use Rattle.gl_calculus.specs.Edits.Steps.{Step, step_of, befores, afters, History, no_history, pushed}
-use Rattle.gl_protocol.specs.Scripts.Commands.{Read, Is, Not, StampWord, SiteWord, ConflictWord, EditsWord, UndoWord, RedoWord, Request, Set, Clear, Site, Undo, Redo, allowed}
+use Rattle.gl_calculus.specs.Edits.Replicas.{Stamp, Edit, Changes, Replica, Judged, Wins, Loses}
+use Rattle.gl_calculus.specs.Edits.Replicas.{Same, Conflict, register_at, new_replica, next_stamp}
+use Rattle.gl_calculus.specs.Edits.Replicas.{taking, taking_all, stamped, has_room}
+use Rattle.gl_calculus.specs.Edits.Steps.{Step, step_of, befores, afters, History, no_history}
+use Rattle.gl_calculus.specs.Edits.Steps.{pushed}
+use Rattle.gl_protocol.specs.Scripts.Commands.{Read, Is, Not, StampWord, SiteWord, ConflictWord}
+use Rattle.gl_protocol.specs.Scripts.Commands.{EditsWord, UndoWord, RedoWord, Request, Set, Clear}
+use Rattle.gl_protocol.specs.Scripts.Commands.{Site, Undo, Redo, allowed}
 use Rattle.gl_calculus.specs.Edits.Sheets.{with_content, without, with_changes, removals}
 
 -- the sheet, the replica if the script is one, and what can be undone
@@ -24,13 +30,16 @@ onto f (Not w) = Not w
 
 -- ---- commands
 
--- What an edit leaves that makes these changes of the sheet, so that it is the goal, if that isn't refused: a replica takes an edit
--- for each change, all with its next stamp; else they are one step.
+-- What an edit leaves that makes these changes of the sheet, so that it is the goal, if that isn't
+-- refused: a replica takes an edit for each change, all with its next stamp; else they are one
+-- step.
 abbrev pub edited : Script → Changes → Read Cells → Read Script
 edited s cs goal = by s.replica
   where
     taken : Replica → Read Script
-    taken q = if has_room q then onto (λ S. record s { sheet = S; replica = Some q }) goal else Not EditsWord
+    taken q =
+        if has_room q then onto (λ S. record s { sheet = S; replica = Some q }) goal
+        else Not EditsWord
 
     stamped_by : Replica → Option Stamp → Read Script
     stamped_by r (Some t) = taken (taking_all r (stamped t cs))
@@ -38,7 +47,8 @@ edited s cs goal = by s.replica
 
     by : Option Replica → Read Script
     by (Some r) = stamped_by r (next_stamp r)
-    by None = onto (λ S. record s { sheet = S; history = pushed s.history (step_of s.sheet cs) }) goal
+    by None =
+        onto (λ S. record s { sheet = S; history = pushed s.history (step_of s.sheet cs) }) goal
 
 -- a replica begins while the sheet is empty, and then nothing is undone
 abbrev pub sited : Script → ℕ → Read Script
@@ -55,7 +65,11 @@ undone s = by s.replica s.history.done
     by : Option Replica → List Step → Read Script
     by (Some r) ds = Not SiteWord
     by None [] = Not UndoWord
-    by None (d ∷ ds) = Is (record s { sheet = with_changes s.sheet (befores d); history = record { done = ds; undone = d ∷ s.history.undone } })
+    by None (d ∷ ds) =
+        Is (record s {
+          sheet = with_changes s.sheet (befores d);
+          history = record { done = ds; undone = d ∷ s.history.undone };
+        })
 
 abbrev pub redone : Script → Read Script
 redone s = by s.replica s.history.undone
@@ -63,7 +77,11 @@ redone s = by s.replica s.history.undone
     by : Option Replica → List Step → Read Script
     by (Some r) us = Not SiteWord
     by None [] = Not RedoWord
-    by None (u ∷ us) = Is (record s { sheet = with_changes s.sheet (afters u); history = record { done = u ∷ s.history.done; undone = us } })
+    by None (u ∷ us) =
+        Is (record s {
+          sheet = with_changes s.sheet (afters u);
+          history = record { done = u ∷ s.history.done; undone = us };
+        })
 
 -- the commands that may change the state, and do so by this
 abbrev pub is_change : Request → Bool
@@ -101,7 +119,11 @@ abbrev pub merge : Script → Edit → Judged → Read Script
 merge s e j = by s.replica j
   where
     won : Replica → Read Script
-    won q = if has_room q then onto (λ S. record s { sheet = S; replica = Some q }) (allowed_change s.sheet e.place e.content) else Not EditsWord
+    won q =
+        if has_room q
+        then onto (λ S. record s { sheet = S; replica = Some q })
+        (allowed_change s.sheet e.place e.content)
+        else Not EditsWord
 
     by : Option Replica → Judged → Read Script
     by None j = Not SiteWord
