@@ -94,9 +94,9 @@ export_does version s reply h = by s.replica refl h
     by None e k = subst (λ y. Does csv_records version s C.Request.Export s y) (sym k) (T.Does.export_alone e)
 
 -- the version line is refused
-pub version_refused : {E : Type 0} (version : Version) (s : Script) (q : Request) (result : Result (Vec ℕ Global) E) → q ≡ r.Version → IfOk result (λ reply. reply.items ≡ error_line C.CommandWord) → IfOk result (λ reply. AnswersAll version s s q reply.items)
+pub version_refused : {E : Type 0} (version : Version) (s : Script) (q : Request) (result : Result (Vec ℕ Global) E) → q ≡ r.Version → IfOk result (λ reply. reply.items ≡ error_line (codes "command")) → IfOk result (λ reply. AnswersAll version s s q reply.items)
 version_refused {E} version s q result is h =
-    let P : Vec ℕ Global → Type 0 = λ reply. reply.items ≡ error_line C.CommandWord in
+    let P : Vec ℕ Global → Type 0 = λ reply. reply.items ≡ error_line (codes "command") in
     let Q : Vec ℕ Global → Type 0 = λ reply. AnswersAll version s s q reply.items in
     IfOk-weaker result P Q (λ reply e l none k. subst (λ y. Acts csv_records version s (Line l) s y) (sym e) (T.Acts.refused (subst (λ (y : Request). Asks l y) is k).1)) h
 

@@ -1,4 +1,5 @@
 -- A text is read as one content, and a line as one request.
+use Rattle.std.specs.Prelude.{codes}
 use Rattle.std.proofs.Common.{◌≡◌, ◌≢◌, ◌∙◌, ℕ, ◌+◌, ◌<◌, ◌≤◌, Bool, true, false, [], ◌∷◌, ◌++◌, length, Option, Some, None, ◌⊎◌, inl, inr, refl, sym, ap, subst, arith, IsTrue}
 use Rattle.std.specs.Prelude.{ℤ, IsFalse, ◌==◌}
 use Rattle.std.specs.Str.{is_utf8}
@@ -18,7 +19,7 @@ use Rattle.gl_lex.proofs.Once.{one_address}
 use Rattle.laws_language.proofs.Grammar.Readings.{one_formula, one_fault, formula_or_fault}
 use Rattle.gl_calculus.specs.Edits.Replicas.{stamp, is_stamp}
 use Rattle.gl_protocol.specs.Scripts.Commands as C
-use Rattle.gl_protocol.specs.Scripts.Commands.{Read, Is, Not, ReadsContent, ReadsRange, ReadsWords, ReadsLine, IsAddress, IsPlace, in_order, fault_word, is_comment, words_of, TextWord, FieldWord}
+use Rattle.gl_protocol.specs.Scripts.Commands.{Read, Is, Not, ReadsContent, ReadsRange, ReadsWords, ReadsLine, IsAddress, IsPlace, in_order, fault_word, is_comment, words_of}
 use Rattle.gl_language.specs.Texts.Plain.{plain_scalar}
 use Rattle.gl_script.proofs.Places.{Corners, corners, address_lacks, same_cut, holds_colon}
 use Rattle.gl_script.proofs.Headers.{Lacks}
@@ -29,10 +30,10 @@ abbrev OfFormula : Bytes → Read F.Content → Type 0
 OfFormula t x = ((f : Formula) × Parses t f × (x ≡ Is (Form f))) ⊎ ((e : ParseFault) × IsParseFault t e × (x ≡ Not (fault_word e)))
 
 abbrev OfLiteral : Bytes → Read F.Content → Type 0
-OfLiteral t x = ((s : Bytes) × (u : Bytes) × (t ≡ s ++ 34 ∷ []) × Decodes s u × (length u ≤ max_text) × (x ≡ Is (Const (V.Scalar.Text u)))) ⊎ (((s u : Bytes) → Decodes s u → length u ≤ max_text → t ≢ s ++ 34 ∷ []) × (x ≡ Not TextWord))
+OfLiteral t x = ((s : Bytes) × (u : Bytes) × (t ≡ s ++ 34 ∷ []) × Decodes s u × (length u ≤ max_text) × (x ≡ Is (Const (V.Scalar.Text u)))) ⊎ (((s u : Bytes) → Decodes s u → length u ≤ max_text → t ≢ s ++ 34 ∷ []) × (x ≡ Not (codes "text")))
 
 abbrev OfPlain : Bytes → Read F.Content → Type 0
-OfPlain l x = ((length l ≤ max_text) × (x ≡ Is (Const (plain_scalar l)))) ⊎ (((n : ℤ) × (max_text < length l) × (plain_scalar l ≡ V.Scalar.Int n) × (x ≡ Is (Const (V.Scalar.Int n)))) ⊎ ((max_text < length l) × ((n : ℤ) → plain_scalar l ≢ V.Scalar.Int n) × (x ≡ Not FieldWord)))
+OfPlain l x = ((length l ≤ max_text) × (x ≡ Is (Const (plain_scalar l)))) ⊎ (((n : ℤ) × (max_text < length l) × (plain_scalar l ≡ V.Scalar.Int n) × (x ≡ Is (Const (V.Scalar.Int n)))) ⊎ ((max_text < length l) × ((n : ℤ) → plain_scalar l ≢ V.Scalar.Int n) × (x ≡ Not (codes "field"))))
 
 -- what was read, by the first byte
 abbrev SeenBy : Bool → Bool → ℕ → Bytes → Read F.Content → Type 0
@@ -58,7 +59,7 @@ seen (C.ReadsContent.literal {s = s} {t = u} d l) = inl (s, u, refl, d, l, refl)
 seen (C.ReadsContent.no_literal h) = inr (h, refl)
 seen (C.ReadsContent.plain {b = b} {t = t} p q l) = plain_seen b t (Is (Const (plain_scalar (b ∷ t)))) p q (inl (l, refl))
 seen (C.ReadsContent.number {b = b} {t = t} {n = n} p q l e) = plain_seen b t (Is (Const (V.Scalar.Int n))) p q (inr (inl (n, l, e, refl)))
-seen (C.ReadsContent.long {b = b} {t = t} p q l e) = plain_seen b t (Not FieldWord) p q (inr (inr (l, e, refl)))
+seen (C.ReadsContent.long {b = b} {t = t} p q l e) = plain_seen b t (Not (codes "field")) p q (inr (inr (l, e, refl)))
 
 of_formula : (t : Bytes) (x y : Read F.Content) → OfFormula t x → OfFormula t y → x ≡ y
 of_formula t x y (inl a) (inl b) = a.2 ∙ ap (λ (f : Formula). Is (Form f)) (one_formula t a.0 b.0 a.1 b.1) ∙ sym b.2
@@ -143,10 +144,10 @@ one_range (C.ReadsRange.no_address n) (C.ReadsRange.no_address m) = refl
 same_range : {bs : Bytes} {r s : Range} → ReadsRange bs (Is r) → ReadsRange bs (Is s) → r ≡ s
 same_range {r = r} {s = s} p q = let e : Is r ≡ Is s = one_range p q in cc
 
-same_word : {bs : Bytes} {w v : C.Word} → ReadsRange bs (Not w) → ReadsRange bs (Not v) → w ≡ v
+same_word : {bs : Bytes} {w v : Bytes} → ReadsRange bs (Not w) → ReadsRange bs (Not v) → w ≡ v
 same_word {w = w} {v = v} p q = let e : Not w ≡ Not v = one_range p q in cc
 
-range_or_word : {bs : Bytes} {r : Range} {w : C.Word} → ReadsRange bs (Is r) → ReadsRange bs (Not w) → ⊥
+range_or_word : {bs : Bytes} {r : Range} {w : Bytes} → ReadsRange bs (Is r) → ReadsRange bs (Not w) → ⊥
 range_or_word {r = r} {w = w} p q = let e : Is r ≡ Not w = one_range p q in cc
 
 viewable_not : (r s : Range) → r ≡ s → IsTrue (C.is_viewable r) → IsFalse (C.is_viewable s) → ⊥
@@ -155,10 +156,10 @@ viewable_not r s e t f = let k : C.is_viewable r ≡ C.is_viewable s = ap C.is_v
 same_content : {t : Bytes} {c d : F.Content} → ReadsContent t (Is c) → ReadsContent t (Is d) → c ≡ d
 same_content {t = t} {c = c} {d = d} p q = let e : Is c ≡ Is d = one_content t (Is c) (Is d) p q in cc
 
-same_fault : {t : Bytes} {w v : C.Word} → ReadsContent t (Not w) → ReadsContent t (Not v) → w ≡ v
+same_fault : {t : Bytes} {w v : Bytes} → ReadsContent t (Not w) → ReadsContent t (Not v) → w ≡ v
 same_fault {t = t} {w = w} {v = v} p q = let e : Not w ≡ Not v = one_content t (Not w) (Not v) p q in cc
 
-content_or_fault : {t : Bytes} {c : F.Content} {w : C.Word} → ReadsContent t (Is c) → ReadsContent t (Not w) → ⊥
+content_or_fault : {t : Bytes} {c : F.Content} {w : Bytes} → ReadsContent t (Is c) → ReadsContent t (Not w) → ⊥
 content_or_fault {t = t} {c = c} {w = w} p q = let e : Is c ≡ Not w = one_content t (Is c) (Not w) p q in cc
 
 same_text : {o : Option Bytes} {x y : Read (Option F.Content)} → C.ReadsText o x → C.ReadsText o y → x ≡ y
@@ -168,10 +169,10 @@ same_text (C.ReadsText.text r) (C.ReadsText.text_fault s) = absurd (content_or_f
 same_text (C.ReadsText.text_fault r) (C.ReadsText.text s) = absurd (content_or_fault s r)
 same_text (C.ReadsText.text_fault r) (C.ReadsText.text_fault s) = ap Not (same_fault r s)
 
-text_or_fault : {o : Option Bytes} {c : Option F.Content} {w : C.Word} → C.ReadsText o (Is c) → C.ReadsText o (Not w) → ⊥
+text_or_fault : {o : Option Bytes} {c : Option F.Content} {w : Bytes} → C.ReadsText o (Is c) → C.ReadsText o (Not w) → ⊥
 text_or_fault {c = c} {w = w} p q = let e : Is c ≡ Not w = same_text p q in cc
 
-same_text_fault : {o : Option Bytes} {w v : C.Word} → C.ReadsText o (Not w) → C.ReadsText o (Not v) → w ≡ v
+same_text_fault : {o : Option Bytes} {w v : Bytes} → C.ReadsText o (Not w) → C.ReadsText o (Not v) → w ≡ v
 same_text_fault {w = w} {v = v} p q = let e : Not w ≡ Not v = same_text p q in cc
 
 same_edit : {o : Option Bytes} {c d : Option F.Content} → C.ReadsText o (Is c) → C.ReadsText o (Is d) → c ≡ d

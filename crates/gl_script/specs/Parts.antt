@@ -1,4 +1,5 @@
 -- The parts of a line: words, places and texts.
+use Rattle.std.specs.Prelude.{codes}
 use Rattle.std.specs.Prelude.{◌≡◌, ◌∷◌, ◌&&◌, nat_lt, length, Option, Some, None, option_map, option_copied, IfSome, Result, Ok, Err, IsTrue, IsFalse, Bool, true, false, ⊤}
 use Rattle.std.specs.Str.{is_utf8}
 use Rattle.gl_calculus.specs.Values.Value as V
@@ -71,9 +72,9 @@ literal_fault e = f.Text
 -- what is read of a text that isn't empty
 abbrev pub IsContent : Bytes → Result Content CommandFault → Type 0
 IsContent t (Ok c) = ReadsContent t (Is (content_tree c)) × IsProperContent (content_tree c)
-IsContent t (Err (f.Parse e)) = (u : Bytes) × (t ≡ 61 ∷ u) × IsRefused u e × ((w : C.Word) × (parse_word e ≡ Some w) × ReadsContent t (Not w))
-IsContent t (Err f.Text) = (u : Bytes) × (t ≡ 34 ∷ u) × ReadsContent t (Not C.TextWord)
-IsContent t (Err f.Field) = ReadsContent t (Not C.FieldWord)
+IsContent t (Err (f.Parse e)) = (u : Bytes) × (t ≡ 61 ∷ u) × IsRefused u e × ((w : Bytes) × (parse_word e ≡ Some w) × ReadsContent t (Not w))
+IsContent t (Err f.Text) = (u : Bytes) × (t ≡ 34 ∷ u) × ReadsContent t (Not (codes "text"))
+IsContent t (Err f.Field) = ReadsContent t (Not (codes "field"))
 IsContent t (Err f.NoMemory) = ⊤
 IsContent t (Err e) = ⊥
 
@@ -85,8 +86,8 @@ IsText o (Err e) = (t : Bytes) × (o ≡ Some t) × IsContent t (Err e)
 -- what is read of the place of a range
 abbrev pub IsRange : Bytes → Result GridRange CommandFault → Type 0
 IsRange place (Ok x) = ReadsRange place (Is x)
-IsRange place (Err f.Address) = ReadsRange place (Not C.AddressWord)
-IsRange place (Err f.Range) = ReadsRange place (Not C.RangeWord)
+IsRange place (Err f.Address) = ReadsRange place (Not (codes "address"))
+IsRange place (Err f.Range) = ReadsRange place (Not (codes "range"))
 IsRange place (Err e) = ⊥
 
 abbrev pub is_int : V.Scalar → Bool

@@ -10,8 +10,8 @@ use Rattle.gl_calculus.specs.Edits.Replicas.{Edit, Replica, Judged, IsJudged}
 use Rattle.gl_calculus.specs.Forecast.{Forecast, IsForecast}
 use Rattle.gl_protocol.specs.Framing.Framing.{Item, Line, Import, Long, Truncated}
 use Rattle.gl_protocol.specs.Replies.Tables.{line, export_text}
-use Rattle.gl_protocol.specs.Scripts.Commands.{Is, Not, Word, AddressWord, LineWord, TruncatedWord}
-use Rattle.gl_protocol.specs.Scripts.Commands.{SiteWord, Request, Nothing, Get, ListAll, Quit}
+use Rattle.gl_protocol.specs.Scripts.Commands.{Is, Not}
+use Rattle.gl_protocol.specs.Scripts.Commands.{Request, Nothing, Get, ListAll, Quit}
 use Rattle.gl_protocol.specs.Scripts.Commands.{Export, Flow, Merge, ReadsLine, ImportWords}
 use Rattle.gl_protocol.specs.Scripts.Commands.{words_of, IsAddress, NoAddress, allowed, imported}
 use Rattle.gl_protocol.specs.Scripts.Commands.{without_mark, error_line, spent_line, ok_line}
@@ -28,16 +28,16 @@ module _ (records : Bytes → List (List Bytes)) (version : Version) (s : Script
     nothing : Does Nothing s []
     changed : {x : Request} {s' : Script} → IsTrue (is_change x) → change s x ≡ Is s'
         → Does x s' ok_line
-    unchanged : {x : Request} {w : Word} → IsTrue (is_change x) → change s x ≡ Not w
+    unchanged : {x : Request} {w : Bytes} → IsTrue (is_change x) → change s x ≡ Not w
         → Does x s (error_line w)
     merged : {e : Edit} (j : Judged) {s' : Script} → IsJudged (register_of s e.place) e j
         → merge s e j ≡ Is s' → Does (Merge e) s' ok_line
-    unmerged : {e : Edit} (j : Judged) {w : Word} → IsJudged (register_of s e.place) e j
+    unmerged : {e : Edit} (j : Judged) {w : Bytes} → IsJudged (register_of s e.place) e j
         → merge s e j ≡ Not w → Does (Merge e) s (error_line w)
     get : {a : Addr} → Does (Get a) s (line (get_text (content s.sheet a)))
     list : Does ListAll s (list_text version s.sheet)
     export : (r : Replica) → s.replica ≡ Some r → Does Export s (export_text r.registers)
-    export_alone : s.replica ≡ None → Does Export s (error_line SiteWord)
+    export_alone : s.replica ≡ None → Does Export s (error_line (codes "site"))
     flow : {f : Forecast} → IsForecast s.sheet f → Does Flow s (forecast_line f)
     quit : Does Quit s (line (codes "bye"))
     settled : {x : Request} {w : Oracle} {rounds : ℕ} {reply : Bytes}
@@ -50,20 +50,20 @@ module _ (records : Bytes → List (List Bytes)) (version : Version) (s : Script
   pub data Acts : Item → Script → Bytes → Type 0 where
     request : {l reply : Bytes} {x : Request} {s' : Script} → ReadsLine l (Is x) → Does x s' reply
         → Acts (Line l) s' reply
-    refused : {l : Bytes} {w : Word} → ReadsLine l (Not w) → Acts (Line l) s (error_line w)
-    long : Acts Long s (error_line LineWord)
-    truncated : Acts Truncated s (error_line TruncatedWord)
+    refused : {l : Bytes} {w : Bytes} → ReadsLine l (Not w) → Acts (Line l) s (error_line w)
+    long : Acts Long s (error_line (codes "line"))
+    truncated : Acts Truncated s (error_line (codes "truncated"))
     import : {l p : Bytes} {s' : Script} (place n : Bytes) (a : Addr) (cs : Cells)
         → words_of l ≡ Some (ImportWords place n) → IsAddress place a
         → imported a (records (without_mark p)) ≡ Is cs
         → edited s (settings cs) (allowed (with_contents s.sheet cs)) ≡ Is s'
         → Acts (Import l p) s' ok_line
     import_place : {l p : Bytes} (place n : Bytes) → words_of l ≡ Some (ImportWords place n)
-        → NoAddress place → Acts (Import l p) s (error_line AddressWord)
-    import_fields : {l p : Bytes} {w : Word} (place n : Bytes) (a : Addr)
+        → NoAddress place → Acts (Import l p) s (error_line (codes "address"))
+    import_fields : {l p : Bytes} {w : Bytes} (place n : Bytes) (a : Addr)
         → words_of l ≡ Some (ImportWords place n) → IsAddress place a
         → imported a (records (without_mark p)) ≡ Not w → Acts (Import l p) s (error_line w)
-    import_refused : {l p : Bytes} {w : Word} (place n : Bytes) (a : Addr) (cs : Cells)
+    import_refused : {l p : Bytes} {w : Bytes} (place n : Bytes) (a : Addr) (cs : Cells)
         → words_of l ≡ Some (ImportWords place n) → IsAddress place a
         → imported a (records (without_mark p)) ≡ Is cs
         → edited s (settings cs) (allowed (with_contents s.sheet cs)) ≡ Not w

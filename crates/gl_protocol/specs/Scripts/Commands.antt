@@ -32,31 +32,24 @@ use Rattle.gl_calculus.specs.Evaluation.Oracle as O
 
 -- ---- contents
 
--- the words of refusals
-pub data Word : Type 0 where
-  LineWord Utf8Word CommandWord PayloadWord TruncatedWord AddressWord RangeWord LongWord : Word
-  TokenWord NumberWord TextWord DeepWord SyntaxWord NameWord ArityWord : Word
-  FieldWord GridWord FormulasWord ContentsWord : Word
-  StampWord SiteWord ConflictWord EditsWord UndoWord RedoWord : Word
+abbrev pub lex_word : LexFault → Bytes
+lex_word T.LexFault.TokenFault = codes "token"
+lex_word T.LexFault.NumberFault = codes "number"
+lex_word T.LexFault.TextFault = codes "text"
 
-abbrev pub lex_word : LexFault → Word
-lex_word T.LexFault.TokenFault = TokenWord
-lex_word T.LexFault.NumberFault = NumberWord
-lex_word T.LexFault.TextFault = TextWord
-
-abbrev pub fault_word : ParseFault → Word
-fault_word G.ParseFault.Long = LongWord
+abbrev pub fault_word : ParseFault → Bytes
+fault_word G.ParseFault.Long = codes "long"
 fault_word (G.ParseFault.Lex fault n) = lex_word fault
-fault_word G.ParseFault.Deep = DeepWord
-fault_word G.ParseFault.Syntax = SyntaxWord
-fault_word G.ParseFault.Range = RangeWord
-fault_word G.ParseFault.Name = NameWord
-fault_word G.ParseFault.Arity = ArityWord
+fault_word G.ParseFault.Deep = codes "deep"
+fault_word G.ParseFault.Syntax = codes "syntax"
+fault_word G.ParseFault.Range = codes "range"
+fault_word G.ParseFault.Name = codes "name"
+fault_word G.ParseFault.Arity = codes "arity"
 
 -- a thing that was read, or the word of the refusal
 pub data Read (X : Type 0) : Type 0 where
   Is : X → Read X
-  Not : Word → Read X
+  Not : Bytes → Read X
 
 -- the content of a text that isn't empty
 pub data ReadsContent : Bytes → Read F.Content → Type 0 where
@@ -66,19 +59,20 @@ pub data ReadsContent : Bytes → Read F.Content → Type 0 where
   literal : {s t : Bytes} → Decodes s t → length t ≤ max_text
       → ReadsContent (34 ∷ s ++ 34 ∷ []) (Is (Const (V.Scalar.Text t)))
   no_literal : {t : Bytes} → ((s u : Bytes) → Decodes s u → length u ≤ max_text → t ≢ s ++ 34 ∷ [])
-      → ReadsContent (34 ∷ t) (Not TextWord)
+      → ReadsContent (34 ∷ t) (Not (codes "text"))
   plain : {b : ℕ} {t : Bytes} → b ≢ 61 → b ≢ 34 → length (b ∷ t) ≤ max_text
       → ReadsContent (b ∷ t) (Is (Const (plain_scalar (b ∷ t))))
   number : {b : ℕ} {t : Bytes} {n : ℤ} → b ≢ 61 → b ≢ 34 → max_text < length (b ∷ t)
       → plain_scalar (b ∷ t) ≡ V.Scalar.Int n → ReadsContent (b ∷ t) (Is (Const (V.Scalar.Int n)))
   long : {b : ℕ} {t : Bytes} → b ≢ 61 → b ≢ 34 → max_text < length (b ∷ t)
-      → ((n : ℤ) → plain_scalar (b ∷ t) ≢ V.Scalar.Int n) → ReadsContent (b ∷ t) (Not FieldWord)
+      → ((n : ℤ) → plain_scalar (b ∷ t) ≢ V.Scalar.Int n)
+      → ReadsContent (b ∷ t) (Not (codes "field"))
 
 -- the content of a text, or none where there is no text
 pub data ReadsText : Option Bytes → Read (Option F.Content) → Type 0 where
   no_text : ReadsText None (Is None)
   text : {t : Bytes} {c : F.Content} → ReadsContent t (Is c) → ReadsText (Some t) (Is (Some c))
-  text_fault : {t : Bytes} {w : Word} → ReadsContent t (Not w) → ReadsText (Some t) (Not w)
+  text_fault : {t : Bytes} {w : Bytes} → ReadsContent t (Not w) → ReadsText (Some t) (Not w)
 
 -- ---- requests
 
@@ -108,8 +102,9 @@ pub data ReadsRange : Bytes → Read Range → Type 0 where
   range_of : {bs : Bytes} {a b : Addr} → IsPlace bs a b → IsTrue (in_order a b)
       → ReadsRange bs (Is (range a b))
   unordered : {bs : Bytes} {a b : Addr} → IsPlace bs a b → IsFalse (in_order a b)
-      → ReadsRange bs (Not RangeWord)
-  no_address : {bs : Bytes} → ((a b : Addr) → IsPlace bs a b → ⊥) → ReadsRange bs (Not AddressWord)
+      → ReadsRange bs (Not (codes "range"))
+  no_address : {bs : Bytes} → ((a b : Addr) → IsPlace bs a b → ⊥)
+      → ReadsRange bs (Not (codes "address"))
 
 abbrev pub is_viewable : Range → Bool
 is_viewable r = nat_le ((extents r).rows * (extents r).cols) max_cells
@@ -210,42 +205,46 @@ pub data ReadsWords : Words → Read Request → Type 0 where
         place = a;
         content = c;
       })))
-  edit_fault : {t n place : Bytes} {text : Option Bytes} {w : Word} (a : Addr) → IsAddress place a
+  edit_fault : {t n place : Bytes} {text : Option Bytes} {w : Bytes} (a : Addr) → IsAddress place a
       → IsTrue (is_stamp (digits_value t) (digits_value n)) → ReadsText text (Not w)
       → ReadsWords (EditWords t n place text) (Not w)
   edit_stamp : {t n place : Bytes} {text : Option Bytes} (a : Addr) → IsAddress place a
       → IsFalse (is_stamp (digits_value t) (digits_value n))
-      → ReadsWords (EditWords t n place text) (Not StampWord)
+      → ReadsWords (EditWords t n place text) (Not (codes "stamp"))
   edit_place : {t n place : Bytes} {text : Option Bytes} → NoAddress place
-      → ReadsWords (EditWords t n place text) (Not AddressWord)
+      → ReadsWords (EditWords t n place text) (Not (codes "address"))
   set : {place t : Bytes} {a : Addr} {c : F.Content} → IsAddress place a → ReadsContent t (Is c)
       → ReadsWords (SetWords place t) (Is (Set a c))
-  set_fault : {place t : Bytes} {w : Word} (a : Addr) → IsAddress place a → ReadsContent t (Not w)
+  set_fault : {place t : Bytes} {w : Bytes} (a : Addr) → IsAddress place a → ReadsContent t (Not w)
       → ReadsWords (SetWords place t) (Not w)
-  set_place : {place t : Bytes} → NoAddress place → ReadsWords (SetWords place t) (Not AddressWord)
+  set_place : {place t : Bytes} → NoAddress place
+      → ReadsWords (SetWords place t) (Not (codes "address"))
   clear : {place : Bytes} {r : Range} → ReadsRange place (Is r)
       → ReadsWords (ClearWords place) (Is (Clear r))
-  clear_place : {place : Bytes} {w : Word} → ReadsRange place (Not w)
+  clear_place : {place : Bytes} {w : Bytes} → ReadsRange place (Not w)
       → ReadsWords (ClearWords place) (Not w)
   view : {place : Bytes} {r : Range} → ReadsRange place (Is r) → IsTrue (is_viewable r)
       → ReadsWords (ViewWords place) (Is (View r))
   view_size : {place : Bytes} {r : Range} → ReadsRange place (Is r) → IsFalse (is_viewable r)
-      → ReadsWords (ViewWords place) (Not RangeWord)
-  view_place : {place : Bytes} {w : Word} → ReadsRange place (Not w)
+      → ReadsWords (ViewWords place) (Not (codes "range"))
+  view_place : {place : Bytes} {w : Bytes} → ReadsRange place (Not w)
       → ReadsWords (ViewWords place) (Not w)
   show : {place : Bytes} {a : Addr} → IsAddress place a → ReadsWords (ShowWords place) (Is (Show a))
-  show_place : {place : Bytes} → NoAddress place → ReadsWords (ShowWords place) (Not AddressWord)
+  show_place : {place : Bytes} → NoAddress place
+      → ReadsWords (ShowWords place) (Not (codes "address"))
   get : {place : Bytes} {a : Addr} → IsAddress place a → ReadsWords (GetWords place) (Is (Get a))
-  get_place : {place : Bytes} → NoAddress place → ReadsWords (GetWords place) (Not AddressWord)
+  get_place : {place : Bytes} → NoAddress place
+      → ReadsWords (GetWords place) (Not (codes "address"))
   why_of : {place : Bytes} {a : Addr} → IsAddress place a → ReadsWords (WhyWords place) (Is (Why a))
-  why_place : {place : Bytes} → NoAddress place → ReadsWords (WhyWords place) (Not AddressWord)
+  why_place : {place : Bytes} → NoAddress place
+      → ReadsWords (WhyWords place) (Not (codes "address"))
   explain : {place : Bytes} {a : Addr} → IsAddress place a
       → ReadsWords (ExplainWords place) (Is (Explain a))
   explain_place : {place : Bytes} → NoAddress place
-      → ReadsWords (ExplainWords place) (Not AddressWord)
+      → ReadsWords (ExplainWords place) (Not (codes "address"))
   -- an import header whose count isn't too large is no line of its own
   payload : {place n : Bytes} → max_payload < digits_value n
-      → ReadsWords (ImportWords place n) (Not PayloadWord)
+      → ReadsWords (ImportWords place n) (Not (codes "payload"))
 
 abbrev pub is_comment : Bytes → Bool
 is_comment [] = true
@@ -254,9 +253,9 @@ is_comment (b ∷ bs) = b == 59
 -- what a line asks
 pub data ReadsLine (l : Bytes) : Read Request → Type 0 where
   comment : IsTrue (is_comment l) → ReadsLine l (Is Nothing)
-  utf8 : IsFalse (is_comment l) → IsFalse (is_utf8 l) → ReadsLine l (Not Utf8Word)
+  utf8 : IsFalse (is_comment l) → IsFalse (is_utf8 l) → ReadsLine l (Not (codes "utf8"))
   command : IsFalse (is_comment l) → IsTrue (is_utf8 l) → words_of l ≡ None
-      → ReadsLine l (Not CommandWord)
+      → ReadsLine l (Not (codes "command"))
   words : {ws : Words} {r : Read Request} → IsFalse (is_comment l) → IsTrue (is_utf8 l)
       → words_of l ≡ Some ws → ReadsWords ws r → ReadsLine l r
 
@@ -265,8 +264,8 @@ pub data ReadsLine (l : Bytes) : Read Request → Type 0 where
 -- a sheet within the limits, or the word of the refusal
 abbrev pub allowed : Cells → Read Cells
 allowed S =
-    if nat_lt max_formulas (length (formula_addresses S)) then Not FormulasWord
-    else if nat_lt max_contents (length S) then Not ContentsWord else Is S
+    if nat_lt max_formulas (length (formula_addresses S)) then Not (codes "formulas")
+    else if nat_lt max_contents (length S) then Not (codes "contents") else Is S
 
 -- ---- imports
 
@@ -280,10 +279,10 @@ abbrev pub fields : Addr → List (List Bytes) → List (Addr × Bytes)
 fields a [] = []
 fields a (r ∷ rs) = fields_of_record a r ++ fields (shifted a 1 0) rs
 
-abbrev pub field_fault : Addr × Bytes → Option Word
+abbrev pub field_fault : Addr × Bytes → Option Bytes
 field_fault x =
-    if nat_lt max_text (length x.1) then Some FieldWord
-    else if covers grid x.0 then None else Some GridWord
+    if nat_lt max_text (length x.1) then Some (codes "field")
+    else if covers grid x.0 then None else Some (codes "grid")
 
 -- the first field that is too long or off the grid, or else the contents
 abbrev pub contents : List (Addr × Bytes) → Read Cells
@@ -294,44 +293,18 @@ contents (x ∷ xs) = with_rest (field_fault x) (contents xs)
     and_one (Is cs) = Is ((x.0, Const (plain_scalar x.1)) ∷ cs)
     and_one (Not w) = Not w
 
-    with_rest : Option Word → Read Cells → Read Cells
+    with_rest : Option Bytes → Read Cells → Read Cells
     with_rest (Some w) rest = Not w
     with_rest None rest = and_one rest
 
 abbrev pub imported : Addr → List (List Bytes) → Read Cells
-imported a rs = if list_all (list_all is_utf8) rs then contents (fields a rs) else Not Utf8Word
+imported a rs =
+    if list_all (list_all is_utf8) rs then contents (fields a rs) else Not (codes "utf8")
 
 -- ---- replies
 
-abbrev pub word_text : Word → Bytes
-word_text LineWord = codes "line"
-word_text Utf8Word = codes "utf8"
-word_text CommandWord = codes "command"
-word_text PayloadWord = codes "payload"
-word_text TruncatedWord = codes "truncated"
-word_text AddressWord = codes "address"
-word_text RangeWord = codes "range"
-word_text LongWord = codes "long"
-word_text TokenWord = codes "token"
-word_text NumberWord = codes "number"
-word_text TextWord = codes "text"
-word_text DeepWord = codes "deep"
-word_text SyntaxWord = codes "syntax"
-word_text NameWord = codes "name"
-word_text ArityWord = codes "arity"
-word_text FieldWord = codes "field"
-word_text GridWord = codes "grid"
-word_text FormulasWord = codes "formulas"
-word_text ContentsWord = codes "contents"
-word_text StampWord = codes "stamp"
-word_text SiteWord = codes "site"
-word_text ConflictWord = codes "conflict"
-word_text EditsWord = codes "edits"
-word_text UndoWord = codes "undo"
-word_text RedoWord = codes "redo"
-
-abbrev pub error_line : Word → Bytes
-error_line w = line (codes "error " ++ word_text w)
+abbrev pub error_line : Bytes → Bytes
+error_line w = line (codes "error " ++ w)
 
 abbrev pub spent_line : SpentKind → Bytes
 spent_line (A.SpentKind.Rounds a) = line (codes "spent rounds " ++ address_text a)

@@ -1,6 +1,6 @@
 -- The state of a script, and what its commands make of it.
 use Rattle.std.specs.Prelude.{ℕ, Bool, true, false, List, [], ◌∷◌, Option, Some, None}
-use Rattle.std.specs.Prelude.{if◌then◌else◌}
+use Rattle.std.specs.Prelude.{codes, if◌then◌else◌}
 use Rattle.gl_calculus.specs.Grid.Grid.{Addr, single}
 use Rattle.gl_calculus.specs.Formulas.Formula.{Content, Cells}
 use Rattle.gl_calculus.specs.Edits.Replicas.{Stamp, Edit, Changes, Replica, Judged, Wins, Loses}
@@ -8,8 +8,8 @@ use Rattle.gl_calculus.specs.Edits.Replicas.{Same, Conflict, register_at, new_re
 use Rattle.gl_calculus.specs.Edits.Replicas.{taking, taking_all, stamped, has_room}
 use Rattle.gl_calculus.specs.Edits.Steps.{Step, step_of, befores, afters, History, no_history}
 use Rattle.gl_calculus.specs.Edits.Steps.{pushed}
-use Rattle.gl_protocol.specs.Scripts.Commands.{Read, Is, Not, StampWord, SiteWord, ConflictWord}
-use Rattle.gl_protocol.specs.Scripts.Commands.{EditsWord, UndoWord, RedoWord, Request, Set, Clear}
+use Rattle.gl_protocol.specs.Scripts.Commands.{Read, Is, Not}
+use Rattle.gl_protocol.specs.Scripts.Commands.{Request, Set, Clear}
 use Rattle.gl_protocol.specs.Scripts.Commands.{Site, Undo, Redo, allowed}
 use Rattle.gl_calculus.specs.Edits.Sheets.{with_content, without, with_changes, removals}
 
@@ -39,11 +39,11 @@ edited s cs goal = by s.replica
     taken : Replica → Read Script
     taken q =
         if has_room q then onto (λ S. record s { sheet = S; replica = Some q }) goal
-        else Not EditsWord
+        else Not (codes "edits")
 
     stamped_by : Replica → Option Stamp → Read Script
     stamped_by r (Some t) = taken (taking_all r (stamped t cs))
-    stamped_by r None = Not StampWord
+    stamped_by r None = Not (codes "stamp")
 
     by : Option Replica → Read Script
     by (Some r) = stamped_by r (next_stamp r)
@@ -56,15 +56,15 @@ sited s n = by s.replica s.sheet
   where
     by : Option Replica → Cells → Read Script
     by None [] = Is (record { sheet = []; replica = Some (new_replica n); history = no_history })
-    by None (c ∷ cs) = Not SiteWord
-    by (Some r) S = Not SiteWord
+    by None (c ∷ cs) = Not (codes "site")
+    by (Some r) S = Not (codes "site")
 
 abbrev pub undone : Script → Read Script
 undone s = by s.replica s.history.done
   where
     by : Option Replica → List Step → Read Script
-    by (Some r) ds = Not SiteWord
-    by None [] = Not UndoWord
+    by (Some r) ds = Not (codes "site")
+    by None [] = Not (codes "undo")
     by None (d ∷ ds) =
         Is (record s {
           sheet = with_changes s.sheet (befores d);
@@ -75,8 +75,8 @@ abbrev pub redone : Script → Read Script
 redone s = by s.replica s.history.undone
   where
     by : Option Replica → List Step → Read Script
-    by (Some r) us = Not SiteWord
-    by None [] = Not RedoWord
+    by (Some r) us = Not (codes "site")
+    by None [] = Not (codes "redo")
     by None (u ∷ us) =
         Is (record s {
           sheet = with_changes s.sheet (afters u);
@@ -123,11 +123,11 @@ merge s e j = by s.replica j
         if has_room q
         then onto (λ S. record s { sheet = S; replica = Some q })
         (allowed_change s.sheet e.place e.content)
-        else Not EditsWord
+        else Not (codes "edits")
 
     by : Option Replica → Judged → Read Script
-    by None j = Not SiteWord
+    by None j = Not (codes "site")
     by (Some r) Wins = won (taking r e)
     by (Some r) Loses = Is (record s { replica = Some (taking r e) })
     by (Some r) Same = Is (record s { replica = Some (taking r e) })
-    by (Some r) Conflict = Not ConflictWord
+    by (Some r) Conflict = Not (codes "conflict")

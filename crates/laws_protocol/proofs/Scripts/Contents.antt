@@ -1,4 +1,5 @@
 -- What is set or imported is a proper content.
+use Rattle.std.specs.Prelude.{codes}
 use Rattle.std.proofs.Common.{◌≡◌, ◌∙◌, ◌≤◌, nat_lt, nat_le, Bool, true, false, ◌&&◌, List, [], ◌∷◌, ◌++◌, length, Option, Some, None, refl, sym, subst, arith, IsTrue}
 use Rattle.std.specs.Prelude.{ℤ, bytes_eq, ⊤}
 use Rattle.std.specs.List.{list_all, AllByRecursion}
@@ -14,7 +15,7 @@ use Rattle.gl_language.specs.Texts.Text.{Bytes, truth_text}
 use Rattle.gl_language.specs.Reading.Content.{IsProperContent}
 use Rattle.gl_calculus.specs.Edits.Replicas.{Edit, is_stamp}
 use Rattle.gl_protocol.specs.Scripts.Commands as C
-use Rattle.gl_protocol.specs.Scripts.Commands.{Read, Is, Not, Word, FieldWord, Request, ReadsContent, ReadsText, ReadsWords, ReadsLine, words_of, fields_of_record, fields, field_fault, contents, imported}
+use Rattle.gl_protocol.specs.Scripts.Commands.{Read, Is, Not, Request, ReadsContent, ReadsText, ReadsWords, ReadsLine, words_of, fields_of_record, fields, field_fault, contents, imported}
 use Rattle.gl_language.specs.Texts.Plain.{signed_value, plain_scalar}
 use Rattle.gl_script.proofs.Contents.{well_formed}
 use Rattle.gl_script.proofs.Decoded.{decoded_text}
@@ -164,14 +165,14 @@ field_short : (x : Addr × Bytes) → field_fault x ≡ None → length x.1 ≤ 
 field_short x h = by (nat_lt max_text (length x.1)) refl
   where
     by : (b : Bool) → nat_lt max_text (length x.1) ≡ b → length x.1 ≤ max_text
-    by true k = let e : field_fault x ≡ Some FieldWord = rw k refl in let i : None ≡ Some FieldWord = sym h ∙ e in cc i
+    by true k = let e : field_fault x ≡ Some (codes "field") = rw k refl in let i : None ≡ Some (codes "field") = sym h ∙ e in cc i
     by false k = grind (arith, nat_tests, k)
 
 contents_proper : (xs : List (Addr × Bytes)) → AllTexts xs → AllProper (contents xs)
 contents_proper [] h = tt
 contents_proper (x ∷ xs) h = by (field_fault x) (contents xs) refl refl (contents_proper xs h.1)
   where
-    by : (o : Option Word) (r : Read Cells) → field_fault x ≡ o → contents xs ≡ r → AllProper r → AllProper (contents (x ∷ xs))
+    by : (o : Option Bytes) (r : Read Cells) → field_fault x ≡ o → contents xs ≡ r → AllProper r → AllProper (contents (x ∷ xs))
     by (Some w) r e k all = rw e tt
     by None (Is cs) e k all = rw (e, k) (plain_proper x.1 h.0 (field_short x e), all)
     by None (Not w) e k all = rw (e, k) tt

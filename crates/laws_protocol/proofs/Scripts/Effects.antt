@@ -11,7 +11,7 @@ use Rattle.gl_calculus.specs.Edits.Replicas.{Edit, Replica, Judged, IsJudged}
 use Rattle.gl_protocol.specs.Framing.Framing.{Item, Line, Import, Long, Truncated}
 use Rattle.gl_protocol.specs.Replies.Tables.{line, export_text}
 use Rattle.gl_protocol.specs.Scripts.Commands as C
-use Rattle.gl_protocol.specs.Scripts.Commands.{Read, Is, Not, Word, AddressWord, LineWord, TruncatedWord, SiteWord, Request, ReadsLine, ImportWords, words_of, IsAddress, NoAddress, allowed, imported, without_mark, error_line, spent_line, ok_line, get_text, list_text, SettledReply, asks_calculation}
+use Rattle.gl_protocol.specs.Scripts.Commands.{Read, Is, Not, Request, ReadsLine, ImportWords, words_of, IsAddress, NoAddress, allowed, imported, without_mark, error_line, spent_line, ok_line, get_text, list_text, SettledReply, asks_calculation}
 use Rattle.gl_calculus.specs.Edits.Sheets.{with_contents}
 use Rattle.gl_calculus.specs.Forecast.{Forecast, IsForecast}
 use Rattle.gl_protocol.specs.Replies.Explanations.{forecast_line}
@@ -24,7 +24,7 @@ use Rattle.gl_protocol.specs.Scripts.Acts.{Does, Acts}
 abbrev pub Effect : Type 0
 Effect = Script × Bytes
 
-abbrev pub refused : Script → Word → Effect
+abbrev pub refused : Script → Bytes → Effect
 refused s w = (s, error_line w)
 
 -- of a command that leaves this, or is refused
@@ -38,14 +38,14 @@ AreBoth s' r x = (s' ≡ x.0) × (r ≡ x.1)
 pub both_is : (s s' : Script) (r : Read Script) → r ≡ Is s' → AreBoth s' ok_line (of_read s r)
 both_is s s' r e = (sym (ap (λ (z : Read Script). (of_read s z).0) e), sym (ap (λ (z : Read Script). (of_read s z).1) e))
 
-pub both_not : (s : Script) (w : Word) (r : Read Script) → r ≡ Not w → AreBoth s (error_line w) (of_read s r)
+pub both_not : (s : Script) (w : Bytes) (r : Read Script) → r ≡ Not w → AreBoth s (error_line w) (of_read s r)
 both_not s w r e = (sym (ap (λ (z : Read Script). (of_read s z).0) e), sym (ap (λ (z : Read Script). (of_read s z).1) e))
 
 -- ---- requests
 
 abbrev pub export_effect : Script → Option Replica → Effect
 export_effect s (Some r) = (s, export_text r.registers)
-export_effect s None = refused s SiteWord
+export_effect s None = refused s (codes "site")
 
 -- of a request that asks for no calculation and no forecast, and brings no edit of another replica
 abbrev pub effect : Version → Script → Request → Effect
@@ -147,7 +147,7 @@ module _ (records : Bytes → List (List Bytes)) (version : Version) (s : Script
 
   abbrev pub ByPlace : Bytes → Bytes → Script → Bytes → Type 0
   ByPlace place p s' r =
-      (NoAddress place × (s' ≡ s) × (r ≡ error_line AddressWord))
+      (NoAddress place × (s' ≡ s) × (r ≡ error_line (codes "address")))
       ⊎ ((a : Addr) × IsAddress place a × (s' ≡ (import_effect a p).0) × (r ≡ (import_effect a p).1))
 
   pub record Imports (l p : Bytes) (s' : Script) (r : Bytes) : Type 0 where
@@ -160,10 +160,10 @@ module _ (records : Bytes → List (List Bytes)) (version : Version) (s : Script
 
   -- what an item leaves and replies
   abbrev pub Acted : Item → Script → Bytes → Type 0
-  Acted (Line l) s' r = ((x : Request) × ReadsLine l (Is x) × Does records version s x s' r) ⊎ ((w : Word) × ReadsLine l (Not w) × (s' ≡ s) × (r ≡ error_line w))
+  Acted (Line l) s' r = ((x : Request) × ReadsLine l (Is x) × Does records version s x s' r) ⊎ ((w : Bytes) × ReadsLine l (Not w) × (s' ≡ s) × (r ≡ error_line w))
   Acted (Import l p) s' r = Imports l p s' r
-  Acted Long s' r = (s' ≡ s) × (r ≡ error_line LineWord)
-  Acted Truncated s' r = (s' ≡ s) × (r ≡ error_line TruncatedWord)
+  Acted Long s' r = (s' ≡ s) × (r ≡ error_line (codes "line"))
+  Acted Truncated s' r = (s' ≡ s) × (r ≡ error_line (codes "truncated"))
 
   pub acted : {x : Item} {s' : Script} {r : Bytes} → Acts records version s x s' r → Acted x s' r
   acted (T.Acts.request {x = x} l d) = inl (x, l, d)

@@ -1,4 +1,5 @@
 -- What a line sets, an edit brings or an import gives is at an address of the grid, and is read from its own text.
+use Rattle.std.specs.Prelude.{codes}
 use Rattle.std.proofs.Common.{◌≡◌, ◌∙◌, nat_lt, Bool, true, false, cond, List, [], ◌∷◌, length, Option, Some, None, refl, sym, ap, subst, IsTrue}
 use Rattle.std.specs.Prelude.{⊤}
 use Rattle.std.specs.List.{AllByRecursion, list_all}
@@ -11,7 +12,7 @@ use Rattle.gl_language.specs.Texts.Text.{Bytes, content_text}
 use Rattle.gl_language.specs.Reading.Content.{IsProperContent}
 use Rattle.gl_calculus.specs.Edits.Replicas.{Edit}
 use Rattle.gl_protocol.specs.Scripts.Commands as C
-use Rattle.gl_protocol.specs.Scripts.Commands.{Read, Is, Not, Word, FieldWord, GridWord, Request, ReadsContent, ReadsText, ReadsWords, ReadsLine, fields, field_fault, contents, imported}
+use Rattle.gl_protocol.specs.Scripts.Commands.{Read, Is, Not, Request, ReadsContent, ReadsText, ReadsWords, ReadsLine, fields, field_fault, contents, imported}
 use Rattle.laws_calculus.proofs.SheetEdits.SameSheets.{nothing_before}
 use Rattle.laws_protocol.proofs.Scripts.Rising.{imported_rise}
 use Rattle.gl_script.proofs.ReadsBack.{set_reads_back, import_reads_back}
@@ -103,7 +104,7 @@ IfOn (Not w) = ⊤
 field_on : (x : Addr × Bytes) → field_fault x ≡ None → IsTrue (covers grid x.0)
 field_on x h = by (nat_lt max_text (length x.1)) (covers grid x.0) refl h
   where
-    by : (u v : Bool) → covers grid x.0 ≡ v → cond u (Some FieldWord) (cond v None (Some GridWord)) ≡ None → IsTrue (covers grid x.0)
+    by : (u v : Bool) → covers grid x.0 ≡ v → cond u (Some (codes "field")) (cond v None (Some (codes "grid"))) ≡ None → IsTrue (covers grid x.0)
     by true v e k = cc k
     by false true e k = e
     by false false e k = cc k
@@ -112,7 +113,7 @@ contents_on : (xs : List (Addr × Bytes)) → IfOn (contents xs)
 contents_on [] = tt
 contents_on (x ∷ xs) = by (field_fault x) (contents xs) refl refl (contents_on xs)
   where
-    by : (o : Option Word) (r : Read Cells) → field_fault x ≡ o → contents xs ≡ r → IfOn r → IfOn (contents (x ∷ xs))
+    by : (o : Option Bytes) (r : Read Cells) → field_fault x ≡ o → contents xs ≡ r → IfOn r → IfOn (contents (x ∷ xs))
     by (Some w) r e k all = rw e tt
     by None (Is cs) e k all = rw (e, k) (field_on x e, all)
     by None (Not w) e k all = rw (e, k) tt

@@ -121,7 +121,7 @@ module _ (records : Bytes → List (List Bytes)) (version : Version) where
   no_settled C.SettledReply.why_so i = cc i
   no_settled (C.SettledReply.explain k) i = cc i
 
-  no_error : (w : C.Word) → IsFalse (is_refusal (C.error_line w)) → ⊥
+  no_error : (w : Bytes) → IsFalse (is_refusal (C.error_line w)) → ⊥
   no_error w h = cc h
 
   does_more : {s t : Script} {x : Request} {r : Bytes} → IsState s → s.replica ≡ None → IsTrue (is_edit records version x) → Does records version s x t r → IsFalse (is_refusal r) → OneMore s t
@@ -145,7 +145,7 @@ module _ (records : Bytes → List (List Bytes)) (version : Version) where
   acts_more h none (S.IsEditItem.line y q i) (T.Acts.refused {w = w} p) f = absurd (no_error w f)
   acts_more {s = s} {t = t} h none S.IsEditItem.import (T.Acts.import place n a cs ws at_place read k) f =
       edit_more s (settings cs) (allowed (with_contents s.sheet cs)) t h none (λ A e. sym (allowed_is (with_contents s.sheet cs) A e).0 ∙ contents_are_changes cs s.sheet) k
-  acts_more h none S.IsEditItem.import (T.Acts.import_place place n ws nowhere) f = absurd (no_error C.AddressWord f)
+  acts_more h none S.IsEditItem.import (T.Acts.import_place place n ws nowhere) f = absurd (no_error (codes "address") f)
   acts_more h none S.IsEditItem.import (T.Acts.import_fields {w = w} place n a ws at_place read) f = absurd (no_error w f)
   acts_more h none S.IsEditItem.import (T.Acts.import_refused {w = w} place n a cs ws at_place read over) f = absurd (no_error w f)
 
