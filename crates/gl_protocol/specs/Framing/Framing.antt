@@ -81,9 +81,7 @@ last_items (b ∷ bs) =
 
 abbrev pub is_quit : Item → Bool
 is_quit (Line line) = is_quit_line line
-is_quit (Import heading payload) = false
-is_quit Long = false
-is_quit Truncated = false
+is_quit x = false
 
 -- some item is `quit`
 abbrev pub has_quit : List Item → Bool
@@ -95,18 +93,16 @@ abbrev pub go_on : Option (Item × Bytes) → (Bytes → List Item) → List Ite
 go_on None rest last = last
 go_on (Some p) rest last = p.0 ∷ (if is_quit p.0 then [] else rest p.1)
 
-abbrev pub items_within : ℕ → Bytes → List Item
-items_within zero t = []
-items_within (suc n) t = go_on (first_item t) (items_within n) (last_items t)
+-- The items of a text, of which no more than this number are cut off, and then what the end makes
+-- of the rest in which none ends.
+abbrev pub items_within : (last : Bytes → List Item) → ℕ → Bytes → List Item
+items_within last zero t = []
+items_within last (suc n) t = go_on (first_item t) (items_within last n) (last t)
 
-abbrev pub ended_within : ℕ → Bytes → List Item
-ended_within zero t = []
-ended_within (suc n) t = go_on (first_item t) (ended_within n) []
-
--- the items of a whole text; each takes a byte at least
+-- The items of a whole text. Each takes one byte or more, so there are no more items than bytes.
 unfoldable pub items : Bytes → List Item
-items t = items_within (length t) t
+items t = items_within last_items (length t) t
 
 -- the items of a text that end in a prefix of it
 unfoldable pub ended : Bytes → List Item
-ended p = ended_within (length p) p
+ended p = items_within (λ t. []) (length p) p
