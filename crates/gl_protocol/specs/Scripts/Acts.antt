@@ -10,7 +10,7 @@ use Rattle.gl_calculus.specs.Edits.Replicas.{Edit, Replica, Judged, IsJudged}
 use Rattle.gl_calculus.specs.Forecast.{Forecast, IsForecast}
 use Rattle.gl_protocol.specs.Framing.Framing.{Item, Line, Import, Long, Truncated}
 use Rattle.gl_protocol.specs.Replies.Tables.{line, export_text}
-use Rattle.gl_protocol.specs.Scripts.Commands.{Is, Not}
+use Rattle.gl_protocol.specs.Scripts.Commands.{Read, Is, Not}
 use Rattle.gl_protocol.specs.Scripts.Commands.{Request, Nothing, Get, ListAll, Quit}
 use Rattle.gl_protocol.specs.Scripts.Commands.{Export, Flow, Merge, ReadsLine, ImportWords}
 use Rattle.gl_protocol.specs.Scripts.Commands.{words_of, IsAddress, NoAddress, allowed, imported}
@@ -21,19 +21,28 @@ use Rattle.gl_protocol.specs.Replies.Explanations.{forecast_line}
 use Rattle.gl_protocol.specs.Scripts.Script.{Script, edited, is_change, change, register_of, merge}
 use Rattle.gl_calculus.specs.Edits.Sheets.{settings}
 
+-- What a script leaves and replies by the outcome of a change: a refused one leaves it.
+pub data Leaves (s : Script) (outcome : Read Script) : Script → Bytes → Type 0 where
+  left : {s' : Script} → outcome ≡ Is s' → Leaves s outcome s' ok_line
+  kept : {w : Bytes} → outcome ≡ Not w → Leaves s outcome s (error_line w)
+
+-- what an import of these contents leaves and replies, or of a payload that is refused
+pub data Imports (s : Script) (payload : Read Cells) : Script → Bytes → Type 0 where
+  contents : {s' : Script} {reply : Bytes} (cs : Cells) → payload ≡ Is cs
+      → Leaves s (edited s (settings cs) (allowed (with_contents s.sheet cs))) s' reply
+      → Imports s payload s' reply
+  fault : {w : Bytes} → payload ≡ Not w → Imports s payload s (error_line w)
+
 -- the csv records of a payload, which the crate `csv` says
 module _ (records : Bytes → List (List Bytes)) (version : Version) (s : Script) where
   -- what a request leaves and replies
   pub data Does : Request → Script → Bytes → Type 0 where
     nothing : Does Nothing s []
-    changed : {x : Request} {s' : Script} → IsTrue (is_change x) → change s x ≡ Is s'
-        → Does x s' ok_line
-    unchanged : {x : Request} {w : Bytes} → IsTrue (is_change x) → change s x ≡ Not w
-        → Does x s (error_line w)
-    merged : {e : Edit} (j : Judged) {s' : Script} → IsJudged (register_of s e.place) e j
-        → merge s e j ≡ Is s' → Does (Merge e) s' ok_line
-    unmerged : {e : Edit} (j : Judged) {w : Bytes} → IsJudged (register_of s e.place) e j
-        → merge s e j ≡ Not w → Does (Merge e) s (error_line w)
+    changed : {x : Request} {s' : Script} {reply : Bytes} → IsTrue (is_change x)
+        → Leaves s (change s x) s' reply → Does x s' reply
+    merged : {e : Edit} (j : Judged) {s' : Script} {reply : Bytes}
+        → IsJudged (register_of s e.place) e j → Leaves s (merge s e j) s' reply
+        → Does (Merge e) s' reply
     get : {a : Addr} → Does (Get a) s (line (get_text (content s.sheet a)))
     list : Does ListAll s (list_text version s.sheet)
     export : (r : Replica) → s.replica ≡ Some r → Does Export s (export_text r.registers)
@@ -53,18 +62,8 @@ module _ (records : Bytes → List (List Bytes)) (version : Version) (s : Script
     refused : {l : Bytes} {w : Bytes} → ReadsLine l (Not w) → Acts (Line l) s (error_line w)
     long : Acts Long s (error_line (codes "line"))
     truncated : Acts Truncated s (error_line (codes "truncated"))
-    import : {l p : Bytes} {s' : Script} (place n : Bytes) (a : Addr) (cs : Cells)
+    import : {l p reply : Bytes} {s' : Script} (place n : Bytes) (a : Addr)
         → words_of l ≡ Some (ImportWords place n) → IsAddress place a
-        → imported a (records (without_mark p)) ≡ Is cs
-        → edited s (settings cs) (allowed (with_contents s.sheet cs)) ≡ Is s'
-        → Acts (Import l p) s' ok_line
+        → Imports s (imported a (records (without_mark p))) s' reply → Acts (Import l p) s' reply
     import_place : {l p : Bytes} (place n : Bytes) → words_of l ≡ Some (ImportWords place n)
         → NoAddress place → Acts (Import l p) s (error_line (codes "address"))
-    import_fields : {l p : Bytes} {w : Bytes} (place n : Bytes) (a : Addr)
-        → words_of l ≡ Some (ImportWords place n) → IsAddress place a
-        → imported a (records (without_mark p)) ≡ Not w → Acts (Import l p) s (error_line w)
-    import_refused : {l p : Bytes} {w : Bytes} (place n : Bytes) (a : Addr) (cs : Cells)
-        → words_of l ≡ Some (ImportWords place n) → IsAddress place a
-        → imported a (records (without_mark p)) ≡ Is cs
-        → edited s (settings cs) (allowed (with_contents s.sheet cs)) ≡ Not w
-        → Acts (Import l p) s (error_line w)

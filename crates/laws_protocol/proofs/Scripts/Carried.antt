@@ -12,9 +12,9 @@ use Rattle.gl_calculus.specs.Edits.Replicas.{Stamp, Edit, Changes, Replica, Judg
 use Rattle.gl_calculus.specs.Edits.Steps.{Change, Step, step_of, befores, afters, History, no_history, pushed}
 use Rattle.gl_protocol.specs.Framing.Framing.{Item}
 use Rattle.gl_protocol.specs.Scripts.Commands as C
-use Rattle.gl_protocol.specs.Scripts.Commands.{Read, Is, Not, Request, ReadsLine, allowed, imported, without_mark}
+use Rattle.gl_protocol.specs.Scripts.Commands.{onto, Read, Is, Not, Request, ReadsLine, allowed, imported, without_mark}
 use Rattle.gl_calculus.specs.Edits.Sheets.{with_content, with_contents, without}
-use Rattle.gl_protocol.specs.Scripts.Script.{Script, new_script, onto, edited, sited, undone, redone, is_change, change, merge, allowed_change}
+use Rattle.gl_protocol.specs.Scripts.Script.{Script, new_script, edited, sited, undone, redone, is_change, change, merge, allowed_change}
 use Rattle.gl_calculus.specs.Edits.Sheets.{with_change, with_changes, settings, removals}
 use Rattle.gl_protocol.specs.Scripts.Acts as T
 use Rattle.gl_protocol.specs.Scripts.Acts.{Does, Acts}
@@ -255,10 +255,10 @@ module _ (P : Addr × Content → Type 0) where
 
     does_carry : {s : Script} (l : Bytes) {x : Request} {t : Script} {r : Bytes} → Carries s → ReadsLine l (Is x) → Does records version s x t r → Carries t
     does_carry l h q T.Does.nothing = h
-    does_carry {s} l h q (T.Does.changed {x = x} {s' = t} i k) = change_carries s l x t h q i k
-    does_carry l h q (T.Does.unchanged t k) = h
-    does_carry {s} l h q (T.Does.merged {e = e} j {s' = t} i k) = merged_carries s e j t h (all.merges l e q) k
-    does_carry l h q (T.Does.unmerged j i k) = h
+    does_carry {s} l h q (T.Does.changed {x = x} i (T.Leaves.left {s' = t} k)) = change_carries s l x t h q i k
+    does_carry l h q (T.Does.changed t (T.Leaves.kept k)) = h
+    does_carry {s} l h q (T.Does.merged {e = e} j i (T.Leaves.left {s' = t} k)) = merged_carries s e j t h (all.merges l e q) k
+    does_carry l h q (T.Does.merged j i (T.Leaves.kept k)) = h
     does_carry l h q T.Does.get = h
     does_carry l h q T.Does.list = h
     does_carry l h q (T.Does.export r e) = h
@@ -273,12 +273,12 @@ module _ (P : Addr × Content → Type 0) where
     acts_carry h (T.Acts.refused q) = h
     acts_carry h T.Acts.long = h
     acts_carry h T.Acts.truncated = h
-    acts_carry {s} h (T.Acts.import {p = p} {s' = t} place n a cs ws at_place read k) =
+    acts_carry {s} h (T.Acts.import {p = p} place n a ws at_place (T.Imports.contents cs read (T.Leaves.left {s' = t} k))) =
         let given = all.imports a (records (without_mark p)) cs read in
         edited_carries s (settings cs) (allowed (with_contents s.sheet cs)) t h (settings_come cs given) (λ S e. subst AllHold (allowed_is (with_contents s.sheet cs) S e).0 (hold_with_all cs s.sheet h.sheet given)) k
     acts_carry h (T.Acts.import_place place n ws none) = h
-    acts_carry h (T.Acts.import_fields place n a ws at_place read) = h
-    acts_carry h (T.Acts.import_refused place n a cs ws at_place read over) = h
+    acts_carry h (T.Acts.import place n a ws at_place (T.Imports.fault read)) = h
+    acts_carry h (T.Acts.import place n a ws at_place (T.Imports.contents cs read (T.Leaves.kept over))) = h
 
     run_carries : {s t : Script} {is : List Item} {rs : List Bytes} → Carries s → Runs records version s is t rs → Carries t
     run_carries h O.Runs.no_more = h

@@ -122,10 +122,10 @@ module _ (records : Bytes → List (List Bytes)) (version : Version) (s : Script
   -- what a request leaves and replies
   pub done : {x : Request} {s' : Script} {r : Bytes} → Does records version s x s' r → Done (asks_calculation records version s.sheet x) x s' r
   done T.Does.nothing = (refl, refl)
-  done (T.Does.changed {x = x} {s' = s'} t e) = change_done x s' ok_line t (both_is s s' (change s x) e)
-  done (T.Does.unchanged {x = x} {w = w} t e) = change_done x s (error_line w) t (both_not s w (change s x) e)
-  done (T.Does.merged {e = e} j {s' = s'} i m) = (j, i, both_is s s' (merge s e j) m)
-  done (T.Does.unmerged {e = e} j {w = w} i m) = (j, i, both_not s w (merge s e j) m)
+  done (T.Does.changed {x = x} t (T.Leaves.left {s' = s'} e)) = change_done x s' ok_line t (both_is s s' (change s x) e)
+  done (T.Does.changed {x = x} t (T.Leaves.kept {w = w} e)) = change_done x s (error_line w) t (both_not s w (change s x) e)
+  done (T.Does.merged {e = e} j i (T.Leaves.left {s' = s'} m)) = (j, i, both_is s s' (merge s e j) m)
+  done (T.Does.merged {e = e} j i (T.Leaves.kept {w = w} m)) = (j, i, both_not s w (merge s e j) m)
   done T.Does.get = (refl, refl)
   done T.Does.list = (refl, refl)
   done (T.Does.export r e) = (sym (ap (λ (o : Option Replica). (export_effect s o).0) e), sym (ap (λ (o : Option Replica). (export_effect s o).1) e))
@@ -170,13 +170,13 @@ module _ (records : Bytes → List (List Bytes)) (version : Version) (s : Script
   acted (T.Acts.refused {w = w} l) = inr (w, l, refl, refl)
   acted T.Acts.long = (refl, refl)
   acted T.Acts.truncated = (refl, refl)
-  acted (T.Acts.import {p = p} {s' = s'} place n a cs ws at_place read ok) =
+  acted (T.Acts.import {p = p} place n a ws at_place (T.Imports.contents cs read (T.Leaves.left {s' = s'} ok))) =
       let h = both_is s s' (added (imported a (records (without_mark p)))) (ap added read ∙ ok) in
       record { place = place; count = n; words = ws; by_place = inr (a, at_place, h.0, h.1) }
   acted (T.Acts.import_place place n ws none) = record { place = place; count = n; words = ws; by_place = inl (none, refl, refl) }
-  acted (T.Acts.import_fields {p = p} {w = w} place n a ws at_place read) =
+  acted (T.Acts.import {p = p} place n a ws at_place (T.Imports.fault {w = w} read)) =
       let h = both_not s w (added (imported a (records (without_mark p)))) (ap added read) in
       record { place = place; count = n; words = ws; by_place = inr (a, at_place, h.0, h.1) }
-  acted (T.Acts.import_refused {p = p} {w = w} place n a cs ws at_place read over) =
+  acted (T.Acts.import {p = p} place n a ws at_place (T.Imports.contents cs read (T.Leaves.kept {w = w} over))) =
       let h = both_not s w (added (imported a (records (without_mark p)))) (ap added read ∙ over) in
       record { place = place; count = n; words = ws; by_place = inr (a, at_place, h.0, h.1) }

@@ -69,10 +69,10 @@ module _ (records : Bytes → List (List Bytes)) (version : Version) (s : Script
 
   does_reply : {x : Request} {t : Script} {r : Bytes} → Does records version s x t r → IsError r
   does_reply T.Does.nothing = no_error empty
-  does_reply (T.Does.changed c e) = ok_reply
-  does_reply (T.Does.unchanged {w = w} c e) = an_error w
-  does_reply (T.Does.merged j i m) = ok_reply
-  does_reply (T.Does.unmerged j {w = w} i m) = an_error w
+  does_reply (T.Does.changed c (T.Leaves.left e)) = ok_reply
+  does_reply (T.Does.changed c (T.Leaves.kept {w = w} e)) = an_error w
+  does_reply (T.Does.merged j i (T.Leaves.left m)) = ok_reply
+  does_reply (T.Does.merged j i (T.Leaves.kept {w = w} m)) = an_error w
   does_reply (T.Does.get {a = a}) = get_reply (content s.sheet a)
   does_reply T.Does.list = no_error (by (omega arith) (λ e. omega (arith, e)))
   -- `export` begins with an `e` too
@@ -88,10 +88,10 @@ module _ (records : Bytes → List (List Bytes)) (version : Version) (s : Script
   acts_reply (T.Acts.refused {w = w} l) = an_error w
   acts_reply T.Acts.long = an_error (codes "line")
   acts_reply T.Acts.truncated = an_error (codes "truncated")
-  acts_reply (T.Acts.import place n a cs ws at_place read ok) = ok_reply
+  acts_reply (T.Acts.import place n a ws at_place (T.Imports.contents cs read (T.Leaves.left ok))) = ok_reply
   acts_reply (T.Acts.import_place place n ws none) = an_error (codes "address")
-  acts_reply (T.Acts.import_fields {w = w} place n a ws at_place read) = an_error w
-  acts_reply (T.Acts.import_refused {w = w} place n a cs ws at_place read over) = an_error w
+  acts_reply (T.Acts.import place n a ws at_place (T.Imports.fault {w = w} read)) = an_error w
+  acts_reply (T.Acts.import place n a ws at_place (T.Imports.contents cs read (T.Leaves.kept {w = w} over))) = an_error w
 
 pub errors_are_refusals : ErrorsAreRefusals
 errors_are_refusals w = refl

@@ -227,10 +227,10 @@ module _ (records : Bytes → List (List Bytes)) (version : Version) where
 
   does_take : {s s' : Script} {x : Request} {r : Bytes} (ds : List Edit) → IsState s → HasGot s ds → Does records version s x s' r → IsFalse (is_refusal r) → HasGot s' (ds ++ edits_of records version s x)
   does_take {s = s} ds h got T.Does.nothing f = no_more s ds got
-  does_take {s = s} ds h got (T.Does.changed {x = x} {s' = s'} t k) f = change_takes s x s' ds h got t k
-  does_take ds h got (T.Does.unchanged {w = w} t k) f = absurd (no_error w f)
-  does_take {s = s} ds h got (T.Does.merged {e = e} j {s' = s'} i k) f = merged_takes s e s' ds j got i k
-  does_take ds h got (T.Does.unmerged j {w = w} i k) f = absurd (no_error w f)
+  does_take {s = s} ds h got (T.Does.changed {x = x} t (T.Leaves.left {s' = s'} k)) f = change_takes s x s' ds h got t k
+  does_take ds h got (T.Does.changed t (T.Leaves.kept {w = w} k)) f = absurd (no_error w f)
+  does_take {s = s} ds h got (T.Does.merged {e = e} j i (T.Leaves.left {s' = s'} k)) f = merged_takes s e s' ds j got i k
+  does_take ds h got (T.Does.merged j i (T.Leaves.kept {w = w} k)) f = absurd (no_error w f)
   does_take {s = s} ds h got T.Does.get f = no_more s ds got
   does_take {s = s} ds h got T.Does.list f = no_more s ds got
   does_take {s = s} ds h got (T.Does.export r e) f = no_more s ds got
@@ -255,14 +255,14 @@ module _ (records : Bytes → List (List Bytes)) (version : Version) where
   acts_take {s = s} {s' = s'} {r = r} ds h got (S.Takes.line {l = l} y q) (T.Acts.request {x = x} p d) f =
       does_take {x = y} ds h got (subst (λ (z : Request). Does records version s z s' r) (one_request l x y p q) d) f
   acts_take ds h got (S.Takes.line y q) (T.Acts.refused {w = w} p) f = absurd (no_error w f)
-  acts_take {s = s} {s' = s'} ds h got (S.Takes.import {l = l} {p = p} q m b bs ws at_b read_b) (T.Acts.import place n a cs vs at_place read k) f =
+  acts_take {s = s} {s' = s'} ds h got (S.Takes.import {l = l} {p = p} q m b bs ws at_b read_b) (T.Acts.import place n a vs at_place (T.Imports.contents cs read (T.Leaves.left k))) f =
       let same = same_place q b a at_b (subst (λ (z : Bytes). IsAddress z a) (same_words place q n m (sym vs ∙ ws)) at_place) in
       let cells : bs ≡ cs = same_cells bs cs (sym read_b ∙ ap (λ (z : Addr). imported z (records (without_mark p))) same ∙ read) in
       let got_all = edited_takes s (settings cs) (allowed (with_contents s.sheet cs)) s' ds h (settings_rise cs (imported_rise a (records (without_mark p)) cs read)) got k in
       subst (λ (zs : Cells). HasGot s' (ds ++ own records version s (settings zs))) (sym cells) got_all
   acts_take ds h got (S.Takes.import q m b bs ws at_b read_b) (T.Acts.import_place place n vs nowhere) f = absurd (no_error (codes "address") f)
-  acts_take ds h got (S.Takes.import q m b bs ws at_b read_b) (T.Acts.import_fields {w = w} place n a vs at_place read) f = absurd (no_error w f)
-  acts_take ds h got (S.Takes.import q m b bs ws at_b read_b) (T.Acts.import_refused {w = w} place n a cs vs at_place read over) f = absurd (no_error w f)
+  acts_take ds h got (S.Takes.import q m b bs ws at_b read_b) (T.Acts.import place n a vs at_place (T.Imports.fault {w = w} read)) f = absurd (no_error w f)
+  acts_take ds h got (S.Takes.import q m b bs ws at_b read_b) (T.Acts.import place n a vs at_place (T.Imports.contents cs read (T.Leaves.kept {w = w} over))) f = absurd (no_error w f)
 
   took_all : {s u : Script} {is : List Item} {es : List Edit} (ds : List Edit) → IsState s → HasGot s ds → Took records version s is u es → IsState u × HasGot u (ds ++ es)
   took_all {s = s} ds h got S.Took.none = (h, no_more s ds got)

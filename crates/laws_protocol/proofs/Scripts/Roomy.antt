@@ -216,10 +216,10 @@ module _ (records : Bytes → List (List Bytes)) (version : Version) (s : Script
 
   does_roomy : {x : Request} {s' : Script} {r : Bytes} → IsState s → IsRoomy s → Does records version s x s' r → IsRoomy s'
   does_roomy h k T.Does.nothing = k
-  does_roomy h k (T.Does.changed {x = x} {s' = s'} t m) = change_roomy x s' h k t m
-  does_roomy h k (T.Does.unchanged t m) = k
-  does_roomy h k (T.Does.merged {e = e} j {s' = s'} i m) = merged_roomy s e j s' h m
-  does_roomy h k (T.Does.unmerged j i m) = k
+  does_roomy h k (T.Does.changed {x = x} t (T.Leaves.left {s' = s'} m)) = change_roomy x s' h k t m
+  does_roomy h k (T.Does.changed t (T.Leaves.kept m)) = k
+  does_roomy h k (T.Does.merged {e = e} j i (T.Leaves.left {s' = s'} m)) = merged_roomy s e j s' h m
+  does_roomy h k (T.Does.merged j i (T.Leaves.kept m)) = k
   does_roomy h k T.Does.get = k
   does_roomy h k T.Does.list = k
   does_roomy h k (T.Does.export r e) = k
@@ -234,14 +234,14 @@ module _ (records : Bytes → List (List Bytes)) (version : Version) (s : Script
   acts_roomy h k (T.Acts.refused q) = k
   acts_roomy h k T.Acts.long = k
   acts_roomy h k T.Acts.truncated = k
-  acts_roomy h k (T.Acts.import {p = p} {s' = s'} place n a cs ws at_place read m) =
+  acts_roomy h k (T.Acts.import {p = p} place n a ws at_place (T.Imports.contents cs read (T.Leaves.left {s' = s'} m))) =
       edited_roomy s (settings cs) (allowed (with_contents s.sheet cs)) s' h k
       (λ A e.
       let q = allowed_is (with_contents s.sheet cs) A e in
       (rooms_import s.sheet A cs h.sheet.ordered h.sheet.small q.1 (imported_const a (records (without_mark p)) cs read) q.0, sym q.0 ∙ contents_are_changes cs s.sheet)) m
   acts_roomy h k (T.Acts.import_place place n ws none) = k
-  acts_roomy h k (T.Acts.import_fields place n a ws at_place read) = k
-  acts_roomy h k (T.Acts.import_refused place n a cs ws at_place read over) = k
+  acts_roomy h k (T.Acts.import place n a ws at_place (T.Imports.fault read)) = k
+  acts_roomy h k (T.Acts.import place n a ws at_place (T.Imports.contents cs read (T.Leaves.kept over))) = k
 
 pub acts_keep_rooms : ActsKeepRooms
 acts_keep_rooms records version s s' x r h k a = acts_roomy records version s h k a
