@@ -2,6 +2,7 @@
 use Rattle.std.specs.Prelude.{ℕ, ◌-◌, max, nat_lt, List, [], ◌∷◌, ◌++◌, length, map, flat_map, take}
 use Rattle.std.specs.Prelude.{replicate, codes, Option, Some, None, encode_utf8_all, if◌then◌else◌}
 use Rattle.std.specs.List.{join_with_byte}
+use Rattle.std.specs.Option.{option_map_or}
 use Rattle.std.specs.Str.{chars}
 use Rattle.std.specs.Fmt.{decimal}
 use Rattle.gl_calculus.specs.Grid.Grid.{Addr}
@@ -65,8 +66,7 @@ abbrev pub set_text : Addr × Content → Bytes
 set_text c = codes "set " ++ address_text c.0 ++ codes " " ++ content_text c.1
 
 abbrev pub text_behind_place : Option Content → Bytes
-text_behind_place None = []
-text_behind_place (Some c) = codes " " ++ content_text c
+text_behind_place o = option_map_or (λ c. codes " " ++ content_text c) o []
 
 -- the line that a replica takes this edit by
 abbrev pub edit_text : Edit → Bytes

@@ -3,6 +3,7 @@ use Rattle.std.specs.Prelude.{◌≡◌, ◌≢◌, ℕ, suc, ◌+◌, ◌-◌, 
 use Rattle.std.specs.Prelude.{Bool, true, false, ◌&&◌, IsTrue, IsFalse, List, [], ◌∷◌, ◌++◌, length}
 use Rattle.std.specs.Prelude.{flat_map, get_or, Option, Some, None, bytes_eq, codes, if◌then◌else◌}
 use Rattle.std.specs.List.{list_all}
+use Rattle.std.specs.Option.{option_map_or}
 use Rattle.std.specs.Fmt.{decimal}
 use Rattle.std.specs.Str.{is_utf8}
 use Rattle.gl_calculus.specs.Grid.Limits.{max_text, max_payload, max_formulas, max_contents}
@@ -50,6 +51,11 @@ fault_word G.ParseFault.Arity = codes "arity"
 pub data Read (X : Type 0) : Type 0 where
   Is : X → Read X
   Not : Bytes → Read X
+
+-- what is made of a thing that was read
+abbrev pub onto : {X Y : Type 0} → (X → Y) → Read X → Read Y
+onto f (Is x) = Is (f x)
+onto f (Not w) = Not w
 
 -- the content of a text that isn't empty
 pub data ReadsContent : Bytes → Read F.Content → Type 0 where
@@ -287,15 +293,9 @@ field_fault x =
 -- the first field that is too long or off the grid, or else the contents
 abbrev pub contents : List (Addr × Bytes) → Read Cells
 contents [] = Is []
-contents (x ∷ xs) = with_rest (field_fault x) (contents xs)
-  where
-    and_one : Read Cells → Read Cells
-    and_one (Is cs) = Is ((x.0, Const (plain_scalar x.1)) ∷ cs)
-    and_one (Not w) = Not w
-
-    with_rest : Option Bytes → Read Cells → Read Cells
-    with_rest (Some w) rest = Not w
-    with_rest None rest = and_one rest
+contents (x ∷ xs) =
+    option_map_or Not (field_fault x)
+    (onto (λ cs. (x.0, Const (plain_scalar x.1)) ∷ cs) (contents xs))
 
 abbrev pub imported : Addr → List (List Bytes) → Read Cells
 imported a rs =
@@ -323,8 +323,7 @@ abbrev pub ok_line : Bytes
 ok_line = line (codes "ok")
 
 abbrev pub get_text : Option F.Content → Bytes
-get_text None = codes "."
-get_text (Some c) = content_text c
+get_text o = option_map_or content_text o (codes ".")
 
 -- a script of version Two says so in its first line
 abbrev pub version_lines : Version → Bytes

@@ -1,6 +1,7 @@
 -- The state of a script, and what its commands make of it.
 use Rattle.std.specs.Prelude.{ℕ, Bool, true, false, List, [], ◌∷◌, Option, Some, None}
 use Rattle.std.specs.Prelude.{codes, if◌then◌else◌}
+use Rattle.std.specs.Option.{option_and_then, option_map_or}
 use Rattle.gl_calculus.specs.Grid.Grid.{Addr, single}
 use Rattle.gl_calculus.specs.Formulas.Formula.{Content, Cells}
 use Rattle.gl_calculus.specs.Edits.Replicas.{Stamp, Edit, Changes, Replica, Judged, Wins, Loses}
@@ -8,7 +9,7 @@ use Rattle.gl_calculus.specs.Edits.Replicas.{Same, Conflict, register_at, new_re
 use Rattle.gl_calculus.specs.Edits.Replicas.{taking, taking_all, stamped, has_room}
 use Rattle.gl_calculus.specs.Edits.Steps.{Step, step_of, befores, afters, History, no_history}
 use Rattle.gl_calculus.specs.Edits.Steps.{pushed}
-use Rattle.gl_protocol.specs.Scripts.Commands.{Read, Is, Not}
+use Rattle.gl_protocol.specs.Scripts.Commands.{Read, Is, Not, onto}
 use Rattle.gl_protocol.specs.Scripts.Commands.{Request, Set, Clear}
 use Rattle.gl_protocol.specs.Scripts.Commands.{Site, Undo, Redo, allowed}
 use Rattle.gl_calculus.specs.Edits.Sheets.{with_content, without, with_changes, removals}
@@ -22,33 +23,23 @@ pub record Script : Type 0 where
 abbrev pub new_script : Script
 new_script = record { sheet = []; replica = None; history = no_history }
 
--- ---- changes of a sheet
-
-abbrev pub onto : (Cells → Script) → Read Cells → Read Script
-onto f (Is S) = Is (f S)
-onto f (Not w) = Not w
-
 -- ---- commands
+
+-- what a script leaves whose replica becomes this one, if that has room, and its sheet the goal
+abbrev pub taken : Script → Replica → Read Cells → Read Script
+taken s q goal =
+    if has_room q then onto (λ S. record s { sheet = S; replica = Some q }) goal
+    else Not (codes "edits")
 
 -- What an edit leaves that makes these changes of the sheet, so that it is the goal, if that isn't
 -- refused: a replica takes an edit for each change, all with its next stamp; else they are one
 -- step.
 abbrev pub edited : Script → Changes → Read Cells → Read Script
-edited s cs goal = by s.replica
-  where
-    taken : Replica → Read Script
-    taken q =
-        if has_room q then onto (λ S. record s { sheet = S; replica = Some q }) goal
-        else Not (codes "edits")
-
-    stamped_by : Replica → Option Stamp → Read Script
-    stamped_by r (Some t) = taken (taking_all r (stamped t cs))
-    stamped_by r None = Not (codes "stamp")
-
-    by : Option Replica → Read Script
-    by (Some r) = stamped_by r (next_stamp r)
-    by None =
-        onto (λ S. record s { sheet = S; history = pushed s.history (step_of s.sheet cs) }) goal
+edited s cs goal = elim s.replica [
+  | None ↦ onto (λ S. record s { sheet = S; history = pushed s.history (step_of s.sheet cs) }) goal
+  | Some r ↦ option_map_or (λ t. taken s (taking_all r (stamped t cs)) goal) (next_stamp r)
+      (Not (codes "stamp"))
+]
 
 -- a replica begins while the sheet is empty, and then nothing is undone
 abbrev pub sited : Script → ℕ → Read Script
@@ -103,11 +94,7 @@ change s x = Is s
 -- ---- edits of other replicas
 
 abbrev pub register_of : Script → Addr → Option Edit
-register_of s a = by s.replica
-  where
-    by : Option Replica → Option Edit
-    by (Some r) = register_at r.registers a
-    by None = None
+register_of s a = option_and_then (λ r. register_at r.registers a) s.replica
 
 -- a sheet with one change, within the limits
 abbrev pub allowed_change : Cells → Addr → Option Content → Read Cells
@@ -118,16 +105,9 @@ allowed_change S a None = Is (without S (single a))
 abbrev pub merge : Script → Edit → Judged → Read Script
 merge s e j = by s.replica j
   where
-    won : Replica → Read Script
-    won q =
-        if has_room q
-        then onto (λ S. record s { sheet = S; replica = Some q })
-        (allowed_change s.sheet e.place e.content)
-        else Not (codes "edits")
-
     by : Option Replica → Judged → Read Script
     by None j = Not (codes "site")
-    by (Some r) Wins = won (taking r e)
+    by (Some r) Wins = taken s (taking r e) (allowed_change s.sheet e.place e.content)
     by (Some r) Loses = Is (record s { replica = Some (taking r e) })
     by (Some r) Same = Is (record s { replica = Some (taking r e) })
     by (Some r) Conflict = Not (codes "conflict")

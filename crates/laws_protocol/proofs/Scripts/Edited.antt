@@ -5,8 +5,8 @@ use Rattle.std.proofs.Common.{◌≡◌, ◌∙◌, Bool, true, false, cond, Opt
 use Rattle.gl_calculus.specs.Formulas.Formula.{Cells}
 use Rattle.gl_calculus.specs.Edits.Replicas.{Stamp, Replica, Changes, next_stamp, taking_all, stamped, has_room}
 use Rattle.gl_calculus.specs.Edits.Steps.{step_of, pushed}
-use Rattle.gl_protocol.specs.Scripts.Commands.{Read, Is, Not}
-use Rattle.gl_protocol.specs.Scripts.Script.{Script, onto, edited}
+use Rattle.gl_protocol.specs.Scripts.Commands.{onto, Read, Is, Not}
+use Rattle.gl_protocol.specs.Scripts.Script.{Script, edited}
 
 pub is_script : (s t : Script) → Is s ≡ Is t → s ≡ t
 is_script s t h = cc h
