@@ -20,6 +20,7 @@ use Rattle.gl_protocol.specs.Scripts.Commands.{Is, Not, ReadsContent}
 use Rattle.gl_language.specs.Texts.Plain.{plain_scalar}
 use Rattle.gl_lex.specs.declared.fault.LexFault.TheVariants as lex
 use Rattle.gl_parse.specs.Outcome.{IsRefused}
+use Rattle.gl_cells.specs.Content.{content_tree}
 use Rattle.gl_parse.specs.declared.fault.ParseFault.{ParseFault}
 use Rattle.gl_parse.specs.declared.fault.ParseFault.TheVariants as parse
 use Rattle.gl_lex.specs.declared.fault.LexFault.{LexFault}
@@ -122,7 +123,7 @@ module _ (o : Option (Bor Bytes)) where
   pub text_read : (t : Bor Bytes) (c : Content) → o ≡ Some t → IsTrue (C.is_text (option_copied o)) → (0 < length t.now → IsContent t.now (Ok c)) → IsText (option_copied o) (Ok (Some c))
   text_read t c e n g =
       let x = g (some_length t.now (subst (λ (z : Option (Bor Bytes)). IsTrue (C.is_text (option_copied z))) e n)) in
-      subst (λ (z : Option (Bor Bytes)). IsText (option_copied z) (Ok (Some c))) (sym e) (C.ReadsText.text x.0, x.1)
+      subst (λ (z : Option (Bor Bytes)). IsText (option_copied z) (Ok (Some c))) (sym e) (C.ReadsText.text {r = Is (content_tree c)} x.0, x.1)
 
   pub text_not : (t : Bor Bytes) (f : CommandFault) → o ≡ Some t → IsTrue (C.is_text (option_copied o)) → (0 < length t.now → IsContent t.now (Err f)) → IsText (option_copied o) (Err f)
   text_not t f e n g =

@@ -1,6 +1,6 @@
 -- What a line asks, by its words.
 use Rattle.std.proofs.Common.{◌≡◌, ◌≢◌, ◌∙◌, ℕ, ◌*◌, ◌<◌, ◌≤◌, Bool, true, false, cond, ◌&&◌, leb, ◌∷◌, length, Option, Some, None, Ok, Err, refl, sym, ap, subst, arith, IsTrue}
-use Rattle.std.specs.Prelude.{MatchOption, IfSome, IfNone, IsFalse, bytes_eq, codes}
+use Rattle.std.specs.Prelude.{option_map, MatchOption, IfSome, IfNone, IsFalse, bytes_eq, codes}
 use Rattle.std.specs.Str.{is_utf8}
 use Rattle.std.proofs.lemmas.Bool.Decides.{nat_tests}
 use Rattle.gl_calculus.specs.Grid.Limits.{max_payload, max_cells}
@@ -57,14 +57,14 @@ text_some l place t h = subst (Says l) h.words (says l)
 pub set_asks : (l place t : Bytes) (a : Addr) (c : Content) → HasWords l (SetWords place t) → IsAddress place a → (0 < length t → IsContent t (Ok c)) → Answers l (Ok (r.Set a c))
 set_asks l place t a c h k g =
     let x = g (text_some l place t h) in
-    (line_reads l (SetWords place t) (Is (C.Request.Set a (content_tree c))) h (C.ReadsWords.set k x.0), x.1)
+    (line_reads l (SetWords place t) (Is (C.Request.Set a (content_tree c))) h (C.ReadsWords.set {r = Is (content_tree c)} a k x.0), x.1)
 
 set_gives : (l place t u : Bytes) → HasWords l (SetWords place t) → t ≡ u → GivesText l u
 set_gives l place t u h e = sets place (h.words ∙ ap (λ (x : Bytes). Some (SetWords place x)) e)
 
 pub set_refused : (l place t : Bytes) (a : Addr) (e : CommandFault) → HasWords l (SetWords place t) → IsAddress place a → (0 < length t → IsContent t (Err e)) → Answers l (Err e)
 set_refused l place t a e h k g =
-    text_by l t e (λ u q. set_gives l place t u h q) (λ w x. line_reads l (SetWords place t) (Not w) h (C.ReadsWords.set_fault a k x)) (g (text_some l place t h))
+    text_by l t e (λ u q. set_gives l place t u h q) (λ w x. line_reads l (SetWords place t) (Not w) h (C.ReadsWords.set {r = Not w} a k x)) (g (text_some l place t h))
 
 pub no_place : (l : Bytes) (ws : C.Words) → HasWords l ws → ReadsWords ws (Not (codes "address")) → Answers l (Err f.Address)
 no_place l ws h x = (line_reads l ws (Not (codes "address")) h x, tt)
@@ -128,7 +128,7 @@ module _ (l t n place : Bytes) (o : Option Bytes) (h : HasWords l (EditWords t n
       let s = stamped p q e in
       let x = g edit_says.1 in
       let now : Asks l (r.Edit (digits_value t) (digits_value n) a c) =
-      (line_reads l (EditWords t n place o) (Is (C.Request.Merge (edit_of (digits_value t) (digits_value n) a c))) h (C.ReadsWords.edit k s.0 x.0), s.0, x.1) in
+      (line_reads l (EditWords t n place o) (Is (C.Request.Merge (edit_of (digits_value t) (digits_value n) a c))) h (C.ReadsWords.edit {r = Is (option_map content_tree c)} a k s.0 x.0), s.0, x.1) in
       subst (λ (y : ℕ). Asks l (r.Edit p y a c)) s.2 (subst (λ (y : ℕ). Asks l (r.Edit y (digits_value n) a c)) s.1 now)
 
   pub edit_no_stamp : (a : Addr) → IsAddress place a → IsStampOf None t n → Answers l (Err f.Stamp)
@@ -139,13 +139,13 @@ module _ (l t n place : Bytes) (o : Option Bytes) (h : HasWords l (EditWords t n
       let x = g edit_says.1 in
       let s = stamped p q m in
       text_by l x.0 e (λ u d. edits t n place (h.words ∙ ap (λ (z : Option Bytes). Some (EditWords t n place z)) (x.1 ∙ ap (λ (z : Bytes). Some z) d)))
-      (λ w y. line_reads l (EditWords t n place o) (Not w) h (C.ReadsWords.edit_fault a k s.0 (subst (λ (z : Option Bytes). C.ReadsText z (Not w)) (sym x.1) (C.ReadsText.text_fault y)))) x.2
+      (λ w y. line_reads l (EditWords t n place o) (Not w) h (C.ReadsWords.edit {r = Not w} a k s.0 (subst (λ (z : Option Bytes). C.ReadsText z (Not w)) (sym x.1) (C.ReadsText.text {r = Not w} y)))) x.2
 
 -- ---- ranges
 
 pub clear_refused : (l place : Bytes) (e : CommandFault) → HasWords l (ClearWords place) → IsRange place (Err e) → Answers l (Err e)
-clear_refused l place f.Address h x = (line_reads l (ClearWords place) (Not (codes "address")) h (C.ReadsWords.clear_place x), tt)
-clear_refused l place f.Range h x = (line_reads l (ClearWords place) (Not (codes "range")) h (C.ReadsWords.clear_place x), other_words l (ClearWords place) h (λ p t e. cc) (λ p q s t e. cc))
+clear_refused l place f.Address h x = (line_reads l (ClearWords place) (Not (codes "address")) h (C.ReadsWords.clear {r = Not (codes "address")} x), tt)
+clear_refused l place f.Range h x = (line_reads l (ClearWords place) (Not (codes "range")) h (C.ReadsWords.clear {r = Not (codes "range")} x), other_words l (ClearWords place) h (λ p t e. cc) (λ p q s t e. cc))
 clear_refused l place f.Utf8 h x = absurd x
 clear_refused l place f.Word h x = absurd x
 clear_refused l place f.Payload h x = absurd x

@@ -153,56 +153,27 @@ range_or_word {r = r} {w = w} p q = let e : Is r ≡ Not w = one_range p q in cc
 viewable_not : (r s : Range) → r ≡ s → IsTrue (C.is_viewable r) → IsFalse (C.is_viewable s) → ⊥
 viewable_not r s e t f = let k : C.is_viewable r ≡ C.is_viewable s = ap C.is_viewable e in cc
 
-same_content : {t : Bytes} {c d : F.Content} → ReadsContent t (Is c) → ReadsContent t (Is d) → c ≡ d
-same_content {t = t} {c = c} {d = d} p q = let e : Is c ≡ Is d = one_content t (Is c) (Is d) p q in cc
-
-same_fault : {t : Bytes} {w v : Bytes} → ReadsContent t (Not w) → ReadsContent t (Not v) → w ≡ v
-same_fault {t = t} {w = w} {v = v} p q = let e : Not w ≡ Not v = one_content t (Not w) (Not v) p q in cc
-
-content_or_fault : {t : Bytes} {c : F.Content} {w : Bytes} → ReadsContent t (Is c) → ReadsContent t (Not w) → ⊥
-content_or_fault {t = t} {c = c} {w = w} p q = let e : Is c ≡ Not w = one_content t (Is c) (Not w) p q in cc
-
 same_text : {o : Option Bytes} {x y : Read (Option F.Content)} → C.ReadsText o x → C.ReadsText o y → x ≡ y
 same_text C.ReadsText.no_text C.ReadsText.no_text = refl
-same_text (C.ReadsText.text {c = c} r) (C.ReadsText.text {c = d} s) = ap (λ (z : F.Content). Is (Some z)) (same_content r s)
-same_text (C.ReadsText.text r) (C.ReadsText.text_fault s) = absurd (content_or_fault r s)
-same_text (C.ReadsText.text_fault r) (C.ReadsText.text s) = absurd (content_or_fault s r)
-same_text (C.ReadsText.text_fault r) (C.ReadsText.text_fault s) = ap Not (same_fault r s)
-
-text_or_fault : {o : Option Bytes} {c : Option F.Content} {w : Bytes} → C.ReadsText o (Is c) → C.ReadsText o (Not w) → ⊥
-text_or_fault {c = c} {w = w} p q = let e : Is c ≡ Not w = same_text p q in cc
-
-same_text_fault : {o : Option Bytes} {w v : Bytes} → C.ReadsText o (Not w) → C.ReadsText o (Not v) → w ≡ v
-same_text_fault {w = w} {v = v} p q = let e : Not w ≡ Not v = same_text p q in cc
-
-same_edit : {o : Option Bytes} {c d : Option F.Content} → C.ReadsText o (Is c) → C.ReadsText o (Is d) → c ≡ d
-same_edit {c = c} {d = d} p q = let e : Is c ≡ Is d = same_text p q in cc
+same_text (C.ReadsText.text {t = t} {r = x} r) (C.ReadsText.text {r = y} s) = ap (λ (z : Read F.Content). C.onto (λ (c : F.Content). Some c) z) (one_content t x y r s)
 
 stamp_or_not : (b : Bool) → IsTrue b → IsFalse b → ⊥
 stamp_or_not b t f = cc
 
 -- what an edit with this stamp asks
-abbrev edit_by : Bytes → Bytes → Addr → Option F.Content → Read C.Request
-edit_by t n a c = Is (C.Request.Merge (record { stamp = stamp (digits_value t) (digits_value n); place = a; content = c }))
+abbrev edit_by : Bytes → Bytes → Addr → Read (Option F.Content) → Read C.Request
+edit_by t n a r = C.onto (λ c. C.Request.Merge (record { stamp = stamp (digits_value t) (digits_value n); place = a; content = c })) r
 
 pub one_words : {ws : C.Words} {x y : Read C.Request} → ReadsWords ws x → ReadsWords ws y → x ≡ y
 one_words C.ReadsWords.list C.ReadsWords.list = refl
 one_words C.ReadsWords.calc C.ReadsWords.calc = refl
 one_words C.ReadsWords.oracle C.ReadsWords.oracle = refl
 one_words C.ReadsWords.quit C.ReadsWords.quit = refl
-one_words (C.ReadsWords.set {place = p} {a = a} {c = c} h r) (C.ReadsWords.set {a = b} {c = d} k s) = ap (λ (z : Addr). Is (C.Request.Set z c)) (same_place p a b h k) ∙ ap (λ (z : F.Content). Is (C.Request.Set b z)) (same_content r s)
-one_words (C.ReadsWords.set h r) (C.ReadsWords.set_fault b k s) = absurd (content_or_fault r s)
-one_words (C.ReadsWords.set {a = a} h r) (C.ReadsWords.set_place n) = absurd (n a h)
-one_words (C.ReadsWords.set_fault a h r) (C.ReadsWords.set k s) = absurd (content_or_fault s r)
-one_words (C.ReadsWords.set_fault a h r) (C.ReadsWords.set_fault b k s) = ap Not (same_fault r s)
-one_words (C.ReadsWords.set_fault a h r) (C.ReadsWords.set_place n) = absurd (n a h)
-one_words (C.ReadsWords.set_place n) (C.ReadsWords.set {a = b} k s) = absurd (n b k)
-one_words (C.ReadsWords.set_place n) (C.ReadsWords.set_fault b k s) = absurd (n b k)
+one_words (C.ReadsWords.set {place = p} {t = t} {r = x} a h r) (C.ReadsWords.set {r = y} b k s) = ap (λ (z : Addr). C.onto (C.Request.Set z) x) (same_place p a b h k) ∙ ap (λ (z : Read F.Content). C.onto (C.Request.Set b) z) (one_content t x y r s)
+one_words (C.ReadsWords.set a h r) (C.ReadsWords.set_place n) = absurd (n a h)
+one_words (C.ReadsWords.set_place n) (C.ReadsWords.set b k s) = absurd (n b k)
 one_words (C.ReadsWords.set_place n) (C.ReadsWords.set_place m) = refl
-one_words (C.ReadsWords.clear r) (C.ReadsWords.clear s) = ap (λ (z : Range). Is (C.Request.Clear z)) (same_range r s)
-one_words (C.ReadsWords.clear r) (C.ReadsWords.clear_place s) = absurd (range_or_word r s)
-one_words (C.ReadsWords.clear_place r) (C.ReadsWords.clear s) = absurd (range_or_word s r)
-one_words (C.ReadsWords.clear_place r) (C.ReadsWords.clear_place s) = ap Not (same_word r s)
+one_words (C.ReadsWords.clear r) (C.ReadsWords.clear s) = ap (λ (z : Read Range). C.onto C.Request.Clear z) (one_range r s)
 one_words (C.ReadsWords.view r v) (C.ReadsWords.view s w) = ap (λ (z : Range). Is (C.Request.View z)) (same_range r s)
 one_words (C.ReadsWords.view {r = x} r v) (C.ReadsWords.view_size {r = y} s w) = absurd (viewable_not x y (same_range r s) v w)
 one_words (C.ReadsWords.view r v) (C.ReadsWords.view_place s) = absurd (range_or_word r s)
@@ -234,20 +205,13 @@ one_words C.ReadsWords.undo C.ReadsWords.undo = refl
 one_words C.ReadsWords.redo C.ReadsWords.redo = refl
 one_words C.ReadsWords.flow C.ReadsWords.flow = refl
 one_words C.ReadsWords.site C.ReadsWords.site = refl
-one_words (C.ReadsWords.edit {t = t} {n = n} {place = p} {a = a} {c = c} h i r) (C.ReadsWords.edit {a = b} {c = d} k j s) = ap (λ (z : Addr). edit_by t n z c) (same_place p a b h k) ∙ ap (λ (z : Option F.Content). edit_by t n b z) (same_edit r s)
-one_words (C.ReadsWords.edit h i r) (C.ReadsWords.edit_fault b k j s) = absurd (text_or_fault r s)
-one_words (C.ReadsWords.edit {t = t} {n = n} h i r) (C.ReadsWords.edit_stamp b k j) = absurd (stamp_or_not (is_stamp (digits_value t) (digits_value n)) i j)
-one_words (C.ReadsWords.edit {a = a} h i r) (C.ReadsWords.edit_place m) = absurd (m a h)
-one_words (C.ReadsWords.edit_fault a h i r) (C.ReadsWords.edit k j s) = absurd (text_or_fault s r)
-one_words (C.ReadsWords.edit_fault a h i r) (C.ReadsWords.edit_fault b k j s) = ap Not (same_text_fault r s)
-one_words (C.ReadsWords.edit_fault {t = t} {n = n} a h i r) (C.ReadsWords.edit_stamp b k j) = absurd (stamp_or_not (is_stamp (digits_value t) (digits_value n)) i j)
-one_words (C.ReadsWords.edit_fault a h i r) (C.ReadsWords.edit_place m) = absurd (m a h)
-one_words (C.ReadsWords.edit_stamp {t = t} {n = n} a h i) (C.ReadsWords.edit k j s) = absurd (stamp_or_not (is_stamp (digits_value t) (digits_value n)) j i)
-one_words (C.ReadsWords.edit_stamp {t = t} {n = n} a h i) (C.ReadsWords.edit_fault b k j s) = absurd (stamp_or_not (is_stamp (digits_value t) (digits_value n)) j i)
+one_words (C.ReadsWords.edit {t = t} {n = n} {place = p} {r = x} a h i r) (C.ReadsWords.edit {r = y} b k j s) = ap (λ (z : Addr). edit_by t n z x) (same_place p a b h k) ∙ ap (λ (z : Read (Option F.Content)). edit_by t n b z) (same_text r s)
+one_words (C.ReadsWords.edit {t = t} {n = n} a h i r) (C.ReadsWords.edit_stamp b k j) = absurd (stamp_or_not (is_stamp (digits_value t) (digits_value n)) i j)
+one_words (C.ReadsWords.edit a h i r) (C.ReadsWords.edit_place m) = absurd (m a h)
+one_words (C.ReadsWords.edit_stamp {t = t} {n = n} a h i) (C.ReadsWords.edit b k j s) = absurd (stamp_or_not (is_stamp (digits_value t) (digits_value n)) j i)
 one_words (C.ReadsWords.edit_stamp a h i) (C.ReadsWords.edit_stamp b k j) = refl
 one_words (C.ReadsWords.edit_stamp a h i) (C.ReadsWords.edit_place m) = absurd (m a h)
-one_words (C.ReadsWords.edit_place m) (C.ReadsWords.edit {a = b} k j s) = absurd (m b k)
-one_words (C.ReadsWords.edit_place m) (C.ReadsWords.edit_fault b k j s) = absurd (m b k)
+one_words (C.ReadsWords.edit_place m) (C.ReadsWords.edit b k j s) = absurd (m b k)
 one_words (C.ReadsWords.edit_place m) (C.ReadsWords.edit_stamp b k j) = absurd (m b k)
 one_words (C.ReadsWords.edit_place m) (C.ReadsWords.edit_place k) = refl
 

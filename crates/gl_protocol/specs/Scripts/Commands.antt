@@ -77,8 +77,7 @@ pub data ReadsContent : Bytes → Read F.Content → Type 0 where
 -- the content of a text, or none where there is no text
 pub data ReadsText : Option Bytes → Read (Option F.Content) → Type 0 where
   no_text : ReadsText None (Is None)
-  text : {t : Bytes} {c : F.Content} → ReadsContent t (Is c) → ReadsText (Some t) (Is (Some c))
-  text_fault : {t : Bytes} {w : Bytes} → ReadsContent t (Not w) → ReadsText (Some t) (Not w)
+  text : {t : Bytes} {r : Read F.Content} → ReadsContent t r → ReadsText (Some t) (onto Some r)
 
 -- ---- requests
 
@@ -203,32 +202,24 @@ pub data ReadsWords : Words → Read Request → Type 0 where
   redo : ReadsWords RedoWords (Is Redo)
   flow : ReadsWords FlowWords (Is Flow)
   site : {n : Bytes} → ReadsWords (SiteWords n) (Is (Site (digits_value n)))
-  edit : {t n place : Bytes} {text : Option Bytes} {a : Addr} {c : Option F.Content}
-      → IsAddress place a → IsTrue (is_stamp (digits_value t) (digits_value n))
-      → ReadsText text (Is c)
-      → ReadsWords (EditWords t n place text) (Is (Merge (record {
+  edit : {t n place : Bytes} {text : Option Bytes} {r : Read (Option F.Content)} (a : Addr)
+      → IsAddress place a → IsTrue (is_stamp (digits_value t) (digits_value n)) → ReadsText text r
+      → ReadsWords (EditWords t n place text) (onto (λ c. Merge (record {
         stamp = stamp (digits_value t) (digits_value n);
         place = a;
         content = c;
-      })))
-  edit_fault : {t n place : Bytes} {text : Option Bytes} {w : Bytes} (a : Addr) → IsAddress place a
-      → IsTrue (is_stamp (digits_value t) (digits_value n)) → ReadsText text (Not w)
-      → ReadsWords (EditWords t n place text) (Not w)
+      })) r)
   edit_stamp : {t n place : Bytes} {text : Option Bytes} (a : Addr) → IsAddress place a
       → IsFalse (is_stamp (digits_value t) (digits_value n))
       → ReadsWords (EditWords t n place text) (Not (codes "stamp"))
   edit_place : {t n place : Bytes} {text : Option Bytes} → NoAddress place
       → ReadsWords (EditWords t n place text) (Not (codes "address"))
-  set : {place t : Bytes} {a : Addr} {c : F.Content} → IsAddress place a → ReadsContent t (Is c)
-      → ReadsWords (SetWords place t) (Is (Set a c))
-  set_fault : {place t : Bytes} {w : Bytes} (a : Addr) → IsAddress place a → ReadsContent t (Not w)
-      → ReadsWords (SetWords place t) (Not w)
+  set : {place t : Bytes} {r : Read F.Content} (a : Addr) → IsAddress place a → ReadsContent t r
+      → ReadsWords (SetWords place t) (onto (Set a) r)
   set_place : {place t : Bytes} → NoAddress place
       → ReadsWords (SetWords place t) (Not (codes "address"))
-  clear : {place : Bytes} {r : Range} → ReadsRange place (Is r)
-      → ReadsWords (ClearWords place) (Is (Clear r))
-  clear_place : {place : Bytes} {w : Bytes} → ReadsRange place (Not w)
-      → ReadsWords (ClearWords place) (Not w)
+  clear : {place : Bytes} {r : Read Range} → ReadsRange place r
+      → ReadsWords (ClearWords place) (onto Clear r)
   view : {place : Bytes} {r : Range} → ReadsRange place (Is r) → IsTrue (is_viewable r)
       → ReadsWords (ViewWords place) (Is (View r))
   view_size : {place : Bytes} {r : Range} → ReadsRange place (Is r) → IsFalse (is_viewable r)

@@ -79,8 +79,8 @@ IfProperText (Not w) = ⊤
 
 text_proper : {o : Option Bytes} {x : Read (Option Content)} → ReadsText o x → IsTextIn o → IfProperText x
 text_proper C.ReadsText.no_text u = tt
-text_proper (C.ReadsText.text r) u = read_proper r u
-text_proper (C.ReadsText.text_fault r) u = tt
+text_proper (C.ReadsText.text {r = Is c} r) u = read_proper r u
+text_proper (C.ReadsText.text {r = Not w} r) u = tt
 
 -- what is set is proper, and an edit has a stamp
 abbrev IfSet : Read Request → Type 0
@@ -98,15 +98,15 @@ words_set l u h C.ReadsWords.undo = tt
 words_set l u h C.ReadsWords.redo = tt
 words_set l u h C.ReadsWords.flow = tt
 words_set l u h C.ReadsWords.site = tt
-words_set l u h (C.ReadsWords.edit {t = t} {n = n} {place = place} {text = o} k b r) = (b, text_proper r (text_of_edit l t n place o h u))
-words_set l u h (C.ReadsWords.edit_fault a k b r) = tt
+words_set l u h (C.ReadsWords.edit {t = t} {n = n} {place = place} {text = o} {r = Is c} a k b r) = (b, text_proper r (text_of_edit l t n place o h u))
+words_set l u h (C.ReadsWords.edit {r = Not w} a k b r) = tt
 words_set l u h (C.ReadsWords.edit_stamp a k b) = tt
 words_set l u h (C.ReadsWords.edit_place n) = tt
-words_set l u h (C.ReadsWords.set {place = place} {t = t} k r) = read_proper r (text_of_set l place t h u)
-words_set l u h (C.ReadsWords.set_fault a k r) = tt
+words_set l u h (C.ReadsWords.set {place = place} {t = t} {r = Is c} a k r) = read_proper r (text_of_set l place t h u)
+words_set l u h (C.ReadsWords.set {r = Not w} a k r) = tt
 words_set l u h (C.ReadsWords.set_place n) = tt
-words_set l u h (C.ReadsWords.clear r) = tt
-words_set l u h (C.ReadsWords.clear_place r) = tt
+words_set l u h (C.ReadsWords.clear {r = Is x} r) = tt
+words_set l u h (C.ReadsWords.clear {r = Not w} r) = tt
 words_set l u h (C.ReadsWords.view r v) = tt
 words_set l u h (C.ReadsWords.view_size r v) = tt
 words_set l u h (C.ReadsWords.view_place r) = tt

@@ -35,8 +35,8 @@ IfBackOption (Not w) = ⊤
 
 text_back : {o : Option Bytes} {x : Read (Option Content)} → ReadsText o x → IfBackOption x
 text_back C.ReadsText.no_text = tt
-text_back (C.ReadsText.text {t = t} {c = c} r) = set_reads_back t c r
-text_back (C.ReadsText.text_fault r) = tt
+text_back (C.ReadsText.text {t = t} {r = Is c} r) = set_reads_back t c r
+text_back (C.ReadsText.text {r = Not w} r) = tt
 
 -- what is set, or comes with an edit
 abbrev IfSet : Read Request → Type 0
@@ -54,15 +54,15 @@ words_set C.ReadsWords.undo = tt
 words_set C.ReadsWords.redo = tt
 words_set C.ReadsWords.flow = tt
 words_set C.ReadsWords.site = tt
-words_set (C.ReadsWords.edit k b r) = (k.0, text_back r)
-words_set (C.ReadsWords.edit_fault a k b r) = tt
+words_set (C.ReadsWords.edit {r = Is c} a k b r) = (k.0, text_back r)
+words_set (C.ReadsWords.edit {r = Not w} a k b r) = tt
 words_set (C.ReadsWords.edit_stamp a k b) = tt
 words_set (C.ReadsWords.edit_place n) = tt
-words_set (C.ReadsWords.set {t = t} {c = c} k r) = (k.0, set_reads_back t c r)
-words_set (C.ReadsWords.set_fault a k r) = tt
+words_set (C.ReadsWords.set {t = t} {r = Is c} a k r) = (k.0, set_reads_back t c r)
+words_set (C.ReadsWords.set {r = Not w} a k r) = tt
 words_set (C.ReadsWords.set_place n) = tt
-words_set (C.ReadsWords.clear r) = tt
-words_set (C.ReadsWords.clear_place r) = tt
+words_set (C.ReadsWords.clear {r = Is x} r) = tt
+words_set (C.ReadsWords.clear {r = Not w} r) = tt
 words_set (C.ReadsWords.view r v) = tt
 words_set (C.ReadsWords.view_size r v) = tt
 words_set (C.ReadsWords.view_place r) = tt
