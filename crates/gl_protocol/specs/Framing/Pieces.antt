@@ -1,7 +1,7 @@
 -- A text cut at a separator.
 use Rattle.std.specs.Prelude.{ℕ, ◌==◌, Bool, false, ◌&&◌, not, List, [], ◌∷◌, Option, Some, None}
 use Rattle.std.specs.Prelude.{if◌then◌else◌}
-use Rattle.std.specs.List.{list_all}
+use Rattle.std.specs.List.{list_all, slice_split}
 use Rattle.gl_language.specs.Texts.Text.{Bytes}
 use Rattle.gl_language.specs.Reading.Token.{is_digit}
 
@@ -16,13 +16,7 @@ cut_at separator (b ∷ bs) =
 
 -- the pieces between the separators
 abbrev pub pieces : ℕ → Bytes → List Bytes
-pieces separator [] = [] ∷ []
-pieces separator (b ∷ bs) =
-    if b == separator then [] ∷ pieces separator bs else with_front b (pieces separator bs)
-  where
-    with_front : ℕ → List Bytes → List Bytes
-    with_front b [] = (b ∷ []) ∷ []
-    with_front b (p ∷ ps) = (b ∷ p) ∷ ps
+pieces separator = slice_split (λ b. b == separator)
 
 -- digits without a leading zero, or `0`
 abbrev pub is_number : Bytes → Bool

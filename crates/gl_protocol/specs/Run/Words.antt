@@ -1,6 +1,7 @@
 -- The words with which the program is called.
 use Rattle.std.specs.Prelude.{ℕ, nat_lt, nat_le, ◌&&◌, List, [], ◌∷◌, Option, Some, None, bytes_eq}
 use Rattle.std.specs.Prelude.{codes, option_map, if◌then◌else◌}
+use Rattle.std.specs.Map.{lookup}
 use Rattle.std.specs.Option.{option_and_then, option_or}
 use Rattle.gl_calculus.specs.Grid.Limits.{max_generated}
 use Rattle.gl_language.specs.Texts.Text.{Bytes}
@@ -14,10 +15,7 @@ pub record Call : Type 0 where
   pub size : Option ℕ
 
 abbrev pub kind_of : Bytes → Option ℕ
-kind_of w =
-    if bytes_eq w (codes "first") then Some 0
-    else if bytes_eq w (codes "last") then Some 1
-    else if bytes_eq w (codes "turn") then Some 2 else None
+kind_of w = lookup (bytes_eq w) ((codes "first", 0) ∷ (codes "last", 1) ∷ (codes "turn", 2) ∷ [])
 
 abbrev pub size_of : Bytes → Option ℕ
 size_of w =

@@ -3,6 +3,7 @@ use Rattle.std.specs.Prelude.{◌≡◌, ◌≢◌, ℕ, suc, ◌+◌, ◌-◌, 
 use Rattle.std.specs.Prelude.{Bool, true, false, ◌&&◌, IsTrue, IsFalse, List, [], ◌∷◌, ◌++◌, length}
 use Rattle.std.specs.Prelude.{flat_map, get_or, Option, Some, None, bytes_eq, codes, if◌then◌else◌}
 use Rattle.std.specs.List.{list_all}
+use Rattle.std.specs.Map.{lookup}
 use Rattle.std.specs.Option.{option_map_or}
 use Rattle.std.specs.Fmt.{decimal}
 use Rattle.std.specs.Str.{is_utf8}
@@ -33,14 +34,11 @@ use Rattle.gl_calculus.specs.Evaluation.Oracle as O
 
 -- ---- contents
 
-abbrev pub lex_word : LexFault → Bytes
-lex_word T.LexFault.TokenFault = codes "token"
-lex_word T.LexFault.NumberFault = codes "number"
-lex_word T.LexFault.TextFault = codes "text"
-
 abbrev pub fault_word : ParseFault → Bytes
 fault_word G.ParseFault.Long = codes "long"
-fault_word (G.ParseFault.Lex fault n) = lex_word fault
+fault_word (G.ParseFault.Lex T.LexFault.TokenFault n) = codes "token"
+fault_word (G.ParseFault.Lex T.LexFault.NumberFault n) = codes "number"
+fault_word (G.ParseFault.Lex T.LexFault.TextFault n) = codes "text"
 fault_word G.ParseFault.Deep = codes "deep"
 fault_word G.ParseFault.Syntax = codes "syntax"
 fault_word G.ParseFault.Range = codes "range"
@@ -129,14 +127,10 @@ some_words false x = None
 
 abbrev pub one_word : Bytes → Option Words
 one_word w =
-    if bytes_eq w (codes "list") then Some ListWords
-    else if bytes_eq w (codes "calc") then Some CalcWords
-    else if bytes_eq w (codes "oracle") then Some OracleWords
-    else if bytes_eq w (codes "quit") then Some QuitWords
-    else if bytes_eq w (codes "export") then Some ExportWords
-    else if bytes_eq w (codes "undo") then Some UndoWords
-    else if bytes_eq w (codes "redo") then Some RedoWords
-    else if bytes_eq w (codes "flow") then Some FlowWords else None
+    lookup (bytes_eq w) (
+    (codes "list", ListWords) ∷ (codes "calc", CalcWords) ∷ (codes "oracle", OracleWords)
+    ∷ (codes "quit", QuitWords) ∷ (codes "export", ExportWords) ∷ (codes "undo", UndoWords)
+    ∷ (codes "redo", RedoWords) ∷ (codes "flow", FlowWords) ∷ [])
 
 abbrev pub two_words : Bytes → Bytes → Option Words
 two_words w place =
