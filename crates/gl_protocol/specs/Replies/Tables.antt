@@ -1,6 +1,6 @@
 -- The texts of tables, oracles and lists, as bytes.
 use Rattle.std.specs.Prelude.{ℕ, ◌-◌, max, nat_lt, List, [], ◌∷◌, ◌++◌, length, map, flat_map, take}
-use Rattle.std.specs.Prelude.{replicate, codes, Option, Some, None, encode_utf8_all, if◌then◌else◌}
+use Rattle.std.specs.Prelude.{replicate, codes, Option, encode_utf8_all, if◌then◌else◌}
 use Rattle.std.specs.List.{join_with_byte}
 use Rattle.std.specs.Option.{option_map_or}
 use Rattle.std.specs.Str.{chars}
