@@ -18,7 +18,8 @@ use Rattle.gl_run.specs.Changed.{IsChanged, Marks}
 use Rattle.gl_run.specs.Script.{script_of}
 use Rattle.gl_run.specs.declared.script.Script.{Script}
 use Rattle.gl_calculus.specs.Edits.Sheets.{and_content, coming}
-use Rattle.gl_protocol.specs.Run.Touched.{and_address, going, without_these, cleared, touched_by_all, latest_changes}
+use Rattle.gl_run.specs.Going.{and_address}
+use Rattle.gl_protocol.specs.Run.Touched.{going, without_these, cleared, touched_by_all, latest_changes}
 use Rattle.gl_run.proofs.Readying.{changed_to, changed_not}
 use Rattle.gl_run.proofs.Restoring.{plain_places, put_and_cleared}
 

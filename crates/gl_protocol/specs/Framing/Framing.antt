@@ -1,9 +1,10 @@
 -- Framing: what a whole text is made of, by splitting it at its first line, and again at the first
 -- line of what follows.
-use Rattle.std.specs.Prelude.{ℕ, zero, suc, Bool, true, false, ◌==◌, ◌||◌, nat_lt, nat_le, ◌-◌}
+use Rattle.std.specs.Prelude.{ℕ, zero, suc, Bool, false, ◌==◌, nat_lt, nat_le, ◌-◌}
 use Rattle.std.specs.Prelude.{List, [], ◌∷◌, length, take, drop, if◌then◌else◌, Option, None, Some}
 use Rattle.std.specs.Prelude.{slice_index}
 use Rattle.std.specs.List.{list_any}
+use Rattle.std.specs.Option.{option_map_or}
 use Rattle.gl_calculus.specs.Grid.Limits.{max_line}
 use Rattle.gl_language.specs.Texts.Text.{Bytes}
 use Rattle.gl_protocol.specs.Framing.Header.{payload_len, is_quit_line}
@@ -28,9 +29,7 @@ abbrev pub drop_cr : Bytes → Bytes
 drop_cr bs = if slice_index bs (length bs - 1) == 13 then take (length bs - 1) bs else bs
 
 abbrev pub kind_by : Bool → Option ℕ → Kind
-kind_by true count = past_limit
-kind_by false None = plain
-kind_by false (Some n) = header n
+kind_by is_long count = if is_long then past_limit else option_map_or header count plain
 
 -- the kind of a line without its CR
 unfoldable pub kind_of : Bytes → Kind
@@ -38,8 +37,7 @@ kind_of bs = kind_by (nat_lt max_line (length bs)) (payload_len bs)
 
 -- some byte is an LF
 abbrev pub has_lf : Bytes → Bool
-has_lf [] = false
-has_lf (b ∷ bs) = b == 10 || has_lf bs
+has_lf = list_any (λ b. b == 10)
 
 -- what stands before the first LF, or all
 abbrev pub first_line : Bytes → Bytes

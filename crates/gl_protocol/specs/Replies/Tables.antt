@@ -1,6 +1,6 @@
 -- The texts of tables, oracles and lists, as bytes.
 use Rattle.std.specs.Prelude.{ℕ, ◌-◌, max, nat_lt, List, [], ◌∷◌, ◌++◌, length, map, flat_map, take}
-use Rattle.std.specs.Prelude.{replicate, codes, Option, encode_utf8_all, if◌then◌else◌}
+use Rattle.std.specs.Prelude.{replicate, fold, codes, Option, encode_utf8_all, if◌then◌else◌}
 use Rattle.std.specs.List.{join_with_byte}
 use Rattle.std.specs.Option.{option_map_or}
 use Rattle.std.specs.Str.{chars}
@@ -33,8 +33,7 @@ wider (n ∷ ns) [] = n ∷ ns
 wider (n ∷ ns) (t ∷ row) = max n (length (chars t)) ∷ wider ns row
 
 abbrev pub widths : List ℕ → List (List Bytes) → List ℕ
-widths ns [] = ns
-widths ns (row ∷ rows) = widths (wider ns row) rows
+widths = fold wider
 
 abbrev pub aligned : List ℕ → List Bytes → List Bytes
 aligned [] row = []

@@ -4,7 +4,7 @@ use Rattle.std.specs.Prelude.{Bool, true, false, ◌&&◌, IsTrue, IsFalse, List
 use Rattle.std.specs.Prelude.{flat_map, get_or, Option, Some, None, bytes_eq, codes, if◌then◌else◌}
 use Rattle.std.specs.List.{list_all}
 use Rattle.std.specs.Map.{lookup}
-use Rattle.std.specs.Option.{option_map_or}
+use Rattle.std.specs.Option.{option_and_then, option_map_or}
 use Rattle.std.specs.Fmt.{decimal}
 use Rattle.std.specs.Str.{is_utf8}
 use Rattle.gl_calculus.specs.Grid.Limits.{max_text, max_payload, max_formulas, max_contents}
@@ -122,8 +122,7 @@ pub data Words : Type 0 where
   EditWords : (time site place : Bytes) → (text : Option Bytes) → Words
 
 abbrev pub some_words : Bool → Words → Option Words
-some_words true x = Some x
-some_words false x = None
+some_words b x = if b then Some x else None
 
 abbrev pub one_word : Bytes → Option Words
 one_word w =
@@ -152,23 +151,18 @@ words_of_pieces (w ∷ place ∷ n ∷ []) =
     (ImportWords place n)
 words_of_pieces ps = None
 
+abbrev pub behind : Option Bytes → (Bytes → Option Words) → Option Words
+behind o f = option_and_then f o
+
 -- all behind the second space is the text of `set`
 abbrev pub set_words : Option Bytes → Option Words
-set_words None = None
-set_words (Some rest) = let c = cut_at 32 rest in with_text c.0 c.1
-  where
-    with_text : Bytes → Option Bytes → Option Words
-    with_text place None = None
-    with_text place (Some t) =
-        some_words (nat_lt 0 (length place) && nat_lt 0 (length t)) (SetWords place t)
-
-abbrev pub behind : Option Bytes → (Bytes → Option Words) → Option Words
-behind None f = None
-behind (Some t) f = f t
+set_words o =
+    behind o (λ r. let place = cut_at 32 r in
+    behind place.1 (λ t.
+    some_words (nat_lt 0 (length place.0) && nat_lt 0 (length t)) (SetWords place.0 t)))
 
 abbrev pub is_text : Option Bytes → Bool
-is_text None = true
-is_text (Some t) = nat_lt 0 (length t)
+is_text o = option_map_or (λ t. nat_lt 0 (length t)) o true
 
 -- of `edit` a time, a site and an address, and all behind the fourth space is its text, if there is
 -- one
