@@ -10,10 +10,10 @@ use Rattle.gl_calculus.specs.Grid.Grid.{Addr, grid, covers}
 use Rattle.gl_calculus.specs.Grid.Notation.{address_text}
 use Rattle.gl_calculus.specs.Formulas.Formula.{Op, Fun, Formula, Formulas, Operands}
 use Rattle.gl_calculus.specs.Formulas.Formula as F
-use Rattle.gl_language.specs.Texts.Text.{Bytes, escaped, is_control, hex_digit, literal_text, truth_text, op_text, fun_text, level_place, one_more, minus_of, in_parens, in_place, needs_parens, text_behind, operands_text, texts, formula_text}
+use Rattle.gl_language.specs.Texts.Text.{Bytes, escaped, is_control, hex_digit, literal_text, truth_text, op_text, fun_text, level_place, one_more, minus_of, in_parens, needs_parens, text_behind, operands_text, texts, formula_text}
 use Rattle.gl_language.specs.Reading.Token as T
 use Rattle.gl_language.specs.Reading.Token.{is_digit, is_upper, is_lower, IsRow, NotBefore, Decodes, Spells, EndsBefore, Lexes, no_more, token, integer, quoted, address, truth, word, variable, signed}
-use Rattle.gl_language.specs.Texts.Canonical.{Tokens, op_sign, tokens_in_place, tokens_behind, operands_tokens, arguments_tokens, more_tokens, HasTokens, HaveTokens, AllHaveTokens}
+use Rattle.gl_language.specs.Texts.Canonical.{in_place, Tokens, op_sign, tokens_in_place, tokens_behind, operands_tokens, arguments_tokens, more_tokens, HasTokens, HaveTokens, AllHaveTokens}
 use Rattle.gl_lex.specs.Laws.{CanonicalIsLexed}
 use Rattle.gl_lex.proofs.Starts.{starts, spells_begins}
 use Rattle.gl_lex.proofs.Letters.{decimal_row, not_same}

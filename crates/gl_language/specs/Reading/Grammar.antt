@@ -4,6 +4,7 @@ use Rattle.std.specs.Prelude.{◌≡◌, ℕ, ◌+◌, ◌-◌, ◌*◌, ◌<◌
 use Rattle.std.specs.Prelude.{false, ◌&&◌, ◌||◌, not, IsTrue, IsFalse, List, [], ◌∷◌, length, find}
 use Rattle.std.specs.Prelude.{Option, Some, None, is_some, bytes_eq, codes, if◌then◌else◌}
 use Rattle.std.specs.List.{list_any, AllByRecursion}
+use Rattle.std.specs.Option.{option_map_or}
 use Rattle.gl_calculus.specs.Grid.Limits.{max_minus, max_open, max_arguments, max_formula}
 use Rattle.gl_calculus.specs.Grid.Limits.{max_cells}
 use Rattle.gl_calculus.specs.Grid.Grid.{Addr, range, extents}
@@ -302,8 +303,7 @@ allows_let (v ∷ f ∷ body ∷ []) = is_variable v
 allows_let xs = false
 
 abbrev pub allows_word : Option Fun → List Raw → Bool
-allows_word (Some f) xs = allows f xs
-allows_word None xs = allows_let xs
+allows_word o xs = option_map_or (λ f. allows f xs) o (allows_let xs)
 
 abbrev pub is_bad_call : Raw → Bool
 is_bad_call (Apply word xs) = not (allows_word (function_of word) (raws xs))

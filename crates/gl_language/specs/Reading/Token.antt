@@ -2,6 +2,7 @@
 use Rattle.std.specs.Prelude.{◌≡◌, ◌≢◌, ℕ, ◌+◌, ◌-◌, ◌*◌, ◌^◌, ◌<◌, ◌≤◌, nat_le, ◌==◌, Bool, true}
 use Rattle.std.specs.Prelude.{false, ◌&&◌, ◌||◌, IsTrue, IsFalse, ◌⊎◌, List, [], ◌∷◌, ◌++◌, length}
 use Rattle.std.specs.Prelude.{fold, codes, ⊤}
+use Rattle.std.specs.Prelude.{if◌then◌else◌}
 use Rattle.std.specs.List.{AllByRecursion}
 use Rattle.std.specs.Str.{is_utf8}
 use Rattle.gl_calculus.specs.Grid.Limits.{max_text}
@@ -96,14 +97,13 @@ IsToken t = (bs : Bytes) × Spells t bs
 -- what follows doesn't make the token longer: no row of letters or digits is cut, and no sign
 abbrev pub EndsBefore : Token → Bytes → Type 0
 EndsBefore (Integer n) rest = NotBefore is_digit rest
-EndsBefore (Quoted t) rest = ⊤
 EndsBefore (Address a) rest = NotBefore is_digit rest
 EndsBefore (Truth b) rest = NotBefore (λ b. is_upper b || is_digit b) rest
 EndsBefore (Word w) rest = NotBefore (λ b. is_upper b || is_digit b) rest
 EndsBefore (Variable v) rest = NotBefore is_lower rest
 EndsBefore (Signed Lt) rest = NotBefore (λ b. (b == 61) || (b == 62)) rest
 EndsBefore (Signed Gt) rest = NotBefore (λ b. b == 61) rest
-EndsBefore (Signed s) rest = ⊤
+EndsBefore t rest = ⊤
 
 -- a token is read at the front, and leaves the rest
 abbrev pub Takes : Bytes → Token → Bytes → Type 0
@@ -124,11 +124,7 @@ pub data LexFault : Type 0 where
   TokenFault NumberFault TextFault : LexFault
 
 abbrev pub fault_at : ℕ → LexFault
-fault_at b =
-    elim (is_digit b) [
-      | true ↦ NumberFault
-      | false ↦ elim (b == 34) [ true ↦ TextFault | false ↦ TokenFault ]
-    ]
+fault_at b = if is_digit b then NumberFault else if b == 34 then TextFault else TokenFault
 
 -- the first place at which no token can be read, with the fault there
 pub record IsLexFault (text : Bytes) (fault : LexFault) (at_byte : ℕ) : Type 0 where

@@ -1,12 +1,14 @@
 -- The canonical tokens of a formula: those that its canonical text has.
 use Rattle.std.specs.Prelude.{ℕ, ◌+◌, ◌^◌, ◌<◌, ◌≤◌, pos, negsuc, Bool, true, false, IsTrue, List}
 use Rattle.std.specs.Prelude.{[], ◌∷◌, ◌++◌, length, codes}
+use Rattle.std.specs.Prelude.{if◌then◌else◌}
 use Rattle.std.specs.Str.{is_utf8}
 use Rattle.gl_calculus.specs.Grid.Limits.{max_text}
 use Rattle.gl_calculus.specs.Grid.Grid.{grid, covers}
 use Rattle.gl_calculus.specs.Formulas.Formula.{Op, Formula, Formulas, Operands}
 use Rattle.gl_calculus.specs.Formulas.Formula as F
-use Rattle.gl_language.specs.Texts.Text.{fun_text, level_place, one_more, minus_of, needs_parens}
+use Rattle.gl_language.specs.Texts.Text.{Bytes, in_parens, fun_text, level_place, one_more}
+use Rattle.gl_language.specs.Texts.Text.{minus_of, needs_parens}
 use Rattle.gl_language.specs.Reading.Token.{Token, Sign, Integer, Quoted, Address, Truth, Word}
 use Rattle.gl_language.specs.Reading.Token.{Variable, Signed, IsRow, is_lower}
 use Rattle.gl_language.specs.Reading.Token as T
@@ -26,6 +28,11 @@ op_sign F.Op.Add = T.Sign.Plus
 op_sign F.Op.Sub = T.Sign.Minus
 op_sign F.Op.Mul = T.Sign.Times
 op_sign F.Op.Div = T.Sign.Over
+
+-- a form's texts, or its tokens, in its place: in parentheses, where no `-` stands before it, or
+-- behind so many `-`
+abbrev pub in_place : Bool → (ℕ → Bytes) → ℕ → Bytes
+in_place b text minus = if b then in_parens (text 0) else text minus
 
 abbrev pub tokens_in_place : Bool → (ℕ → Tokens) → ℕ → Tokens
 tokens_in_place true ts minus = Signed T.Sign.LeftParen ∷ (ts 0 ++ Signed T.Sign.RightParen ∷ [])
