@@ -11,9 +11,9 @@ use Rattle.gl_calculus.specs.Grid.Grid.{Addr, range, extents}
 use Rattle.gl_calculus.specs.Formulas.Formula.{Op, Level, Fun, Formula, Formulas, Operands}
 use Rattle.gl_calculus.specs.Formulas.Formula as F
 use Rattle.gl_language.specs.Texts.Text.{Bytes, fun_text}
+use Rattle.gl_language.specs.Reading.Token.{Operator, Hash, LeftParen, RightParen, Comma, Colon}
 use Rattle.gl_language.specs.Reading.Token.{Sign, Token, Integer, Quoted, Address, Truth, Word}
 use Rattle.gl_language.specs.Reading.Token.{Variable, Signed, Lexes, LexFault, IsLexFault, IsToken}
-use Rattle.gl_language.specs.Reading.Token as T
 
 -- a form as it is written, before its names and ranges are looked at
 mutual
@@ -39,20 +39,20 @@ mutual
 
 -- the comparison of a sign, and its operator in a chain of a level
 abbrev pub comparison : Sign → Option Op
-comparison T.Sign.Eq = Some F.Op.Eq
-comparison T.Sign.Ne = Some F.Op.Ne
-comparison T.Sign.Lt = Some F.Op.Lt
-comparison T.Sign.Le = Some F.Op.Le
-comparison T.Sign.Gt = Some F.Op.Gt
-comparison T.Sign.Ge = Some F.Op.Ge
+comparison (Operator F.Op.Eq) = Some F.Op.Eq
+comparison (Operator F.Op.Ne) = Some F.Op.Ne
+comparison (Operator F.Op.Lt) = Some F.Op.Lt
+comparison (Operator F.Op.Le) = Some F.Op.Le
+comparison (Operator F.Op.Gt) = Some F.Op.Gt
+comparison (Operator F.Op.Ge) = Some F.Op.Ge
 comparison s = None
 
 abbrev pub operator : Level → Sign → Option Op
-operator F.Level.Cat T.Sign.Join = Some F.Op.Join
-operator F.Level.Sum T.Sign.Plus = Some F.Op.Add
-operator F.Level.Sum T.Sign.Minus = Some F.Op.Sub
-operator F.Level.Prod T.Sign.Times = Some F.Op.Mul
-operator F.Level.Prod T.Sign.Over = Some F.Op.Div
+operator F.Level.Cat (Operator F.Op.Join) = Some F.Op.Join
+operator F.Level.Sum (Operator F.Op.Add) = Some F.Op.Add
+operator F.Level.Sum (Operator F.Op.Sub) = Some F.Op.Sub
+operator F.Level.Prod (Operator F.Op.Mul) = Some F.Op.Mul
+operator F.Level.Prod (Operator F.Op.Div) = Some F.Op.Div
 operator level s = None
 
 -- operands with an operator are a chain, and one alone is itself
@@ -92,7 +92,7 @@ mutual
   -- unary = "-" unary | atom
   pub data IsUnary : Tokens → Raw → Tokens → Type 0 where
     neg : {ts us : Tokens} {f : Raw} → IsUnary ts f us
-        → IsUnary (Signed T.Sign.Minus ∷ ts) (Neg f) us
+        → IsUnary (Signed (Operator F.Op.Sub) ∷ ts) (Neg f) us
     atom : {ts us : Tokens} {f : Raw} → IsAtom ts f us → IsUnary ts f us
 
   pub data IsAtom : Tokens → Raw → Tokens → Type 0 where
@@ -100,25 +100,25 @@ mutual
     text : {t : Bytes} {ts : Tokens} → IsAtom (Quoted t ∷ ts) (Text t) ts
     truth : {b : Bool} {ts : Tokens} → IsAtom (Truth b ∷ ts) (Boolean b) ts
     address : {a : Addr} {ts : Tokens} → IsAtom (Address a ∷ ts) (At a) ts
-    spill : {a : Addr} {ts : Tokens} → IsAtom (Address a ∷ Signed T.Sign.Hash ∷ ts) (Spill a) ts
+    spill : {a : Addr} {ts : Tokens} → IsAtom (Address a ∷ Signed Hash ∷ ts) (Spill a) ts
     corners : {a b : Addr} {ts : Tokens}
-        → IsAtom (Address a ∷ Signed T.Sign.Colon ∷ Address b ∷ ts) (Corners a b) ts
+        → IsAtom (Address a ∷ Signed Colon ∷ Address b ∷ ts) (Corners a b) ts
     variable : {v : Bytes} {ts : Tokens} → IsAtom (Variable v ∷ ts) (Var v) ts
     apply : {word : Bytes} {ts us : Tokens} {xs : Raws} → IsArguments ts xs us
-        → IsAtom (Word word ∷ Signed T.Sign.LeftParen ∷ ts) (Apply word xs) us
-    parens : {ts us : Tokens} {f : Raw} → IsExpr ts f (Signed T.Sign.RightParen ∷ us)
-        → IsAtom (Signed T.Sign.LeftParen ∷ ts) f us
+        → IsAtom (Word word ∷ Signed LeftParen ∷ ts) (Apply word xs) us
+    parens : {ts us : Tokens} {f : Raw} → IsExpr ts f (Signed RightParen ∷ us)
+        → IsAtom (Signed LeftParen ∷ ts) f us
 
   -- what stands behind the left parenthesis of a call, up to the right one
   pub data IsArguments : Tokens → Raws → Tokens → Type 0 where
-    no_argument : {ts : Tokens} → IsArguments (Signed T.Sign.RightParen ∷ ts) no_raw ts
+    no_argument : {ts : Tokens} → IsArguments (Signed RightParen ∷ ts) no_raw ts
     argument : {ts us vs : Tokens} {f : Raw} {xs : Raws} → IsExpr ts f us → IsMore us xs vs
         → IsArguments ts (raw_and f xs) vs
 
   pub data IsMore : Tokens → Raws → Tokens → Type 0 where
-    close : {ts : Tokens} → IsMore (Signed T.Sign.RightParen ∷ ts) no_raw ts
+    close : {ts : Tokens} → IsMore (Signed RightParen ∷ ts) no_raw ts
     comma : {ts us vs : Tokens} {f : Raw} {xs : Raws} → IsExpr ts f us → IsMore us xs vs
-        → IsMore (Signed T.Sign.Comma ∷ ts) (raw_and f xs) vs
+        → IsMore (Signed Comma ∷ ts) (raw_and f xs) vs
 
 -- ---- from a form to a tree
 
@@ -196,9 +196,9 @@ abbrev mutual
 -- more than 64 `(` are unclosed after some tokens, or more than 8 `-` stand in a row
 abbrev pub is_deep_from : (open_parens minus : ℕ) → Tokens → Bool
 is_deep_from n m [] = false
-is_deep_from n m (Signed T.Sign.LeftParen ∷ ts) = nat_le max_open n || is_deep_from (n + 1) 0 ts
-is_deep_from n m (Signed T.Sign.RightParen ∷ ts) = is_deep_from (n - 1) 0 ts
-is_deep_from n m (Signed T.Sign.Minus ∷ ts) = nat_le max_minus m || is_deep_from n (m + 1) ts
+is_deep_from n m (Signed LeftParen ∷ ts) = nat_le max_open n || is_deep_from (n + 1) 0 ts
+is_deep_from n m (Signed RightParen ∷ ts) = is_deep_from (n - 1) 0 ts
+is_deep_from n m (Signed (Operator F.Op.Sub) ∷ ts) = nat_le max_minus m || is_deep_from n (m + 1) ts
 is_deep_from n m (t ∷ ts) = is_deep_from n 0 ts
 
 abbrev pub is_deep : Tokens → Bool

@@ -8,10 +8,14 @@ use Rattle.std.specs.Str.{is_utf8}
 use Rattle.gl_calculus.specs.Grid.Limits.{max_text}
 use Rattle.gl_calculus.specs.Grid.Grid.{Addr, grid, covers}
 use Rattle.gl_calculus.specs.Grid.Notation.{address_text}
-use Rattle.gl_language.specs.Texts.Text.{Bytes, truth_text, is_control, hex_digit}
+use Rattle.gl_calculus.specs.Formulas.Formula.{Op}
+use Rattle.gl_calculus.specs.Formulas.Formula as F
+use Rattle.gl_language.specs.Texts.Text.{Bytes, op_text, truth_text, is_control, hex_digit}
 
+-- an operator, or what else stands between forms
 pub data Sign : Type 0 where
-  Eq Ne Lt Le Gt Ge Join Plus Minus Times Over Hash LeftParen RightParen Comma Colon : Sign
+  Operator : Op → Sign
+  Hash LeftParen RightParen Comma Colon : Sign
 
 pub data Token : Type 0 where
   Integer : ℕ → Token
@@ -60,17 +64,7 @@ pub data Decodes : Bytes → Bytes → Type 0 where
       → Decodes (92 ∷ 120 ∷ h ∷ l ∷ s) ((16 * m + n) ∷ t)
 
 abbrev pub sign_text : Sign → Bytes
-sign_text Eq = codes "="
-sign_text Ne = codes "<>"
-sign_text Lt = codes "<"
-sign_text Le = codes "<="
-sign_text Gt = codes ">"
-sign_text Ge = codes ">="
-sign_text Join = codes "&"
-sign_text Plus = codes "+"
-sign_text Minus = codes "-"
-sign_text Times = codes "*"
-sign_text Over = codes "/"
+sign_text (Operator op) = op_text op
 sign_text Hash = codes "#"
 sign_text LeftParen = codes "("
 sign_text RightParen = codes ")"
@@ -101,8 +95,8 @@ EndsBefore (Address a) rest = NotBefore is_digit rest
 EndsBefore (Truth b) rest = NotBefore (λ b. is_upper b || is_digit b) rest
 EndsBefore (Word w) rest = NotBefore (λ b. is_upper b || is_digit b) rest
 EndsBefore (Variable v) rest = NotBefore is_lower rest
-EndsBefore (Signed Lt) rest = NotBefore (λ b. (b == 61) || (b == 62)) rest
-EndsBefore (Signed Gt) rest = NotBefore (λ b. b == 61) rest
+EndsBefore (Signed (Operator F.Op.Lt)) rest = NotBefore (λ b. (b == 61) || (b == 62)) rest
+EndsBefore (Signed (Operator F.Op.Gt)) rest = NotBefore (λ b. b == 61) rest
 EndsBefore t rest = ⊤
 
 -- a token is read at the front, and leaves the rest

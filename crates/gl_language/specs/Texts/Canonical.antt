@@ -17,17 +17,7 @@ abbrev pub Tokens : Type 0
 Tokens = List Token
 
 abbrev pub op_sign : Op → Sign
-op_sign F.Op.Eq = T.Sign.Eq
-op_sign F.Op.Ne = T.Sign.Ne
-op_sign F.Op.Lt = T.Sign.Lt
-op_sign F.Op.Le = T.Sign.Le
-op_sign F.Op.Gt = T.Sign.Gt
-op_sign F.Op.Ge = T.Sign.Ge
-op_sign F.Op.Join = T.Sign.Join
-op_sign F.Op.Add = T.Sign.Plus
-op_sign F.Op.Sub = T.Sign.Minus
-op_sign F.Op.Mul = T.Sign.Times
-op_sign F.Op.Div = T.Sign.Over
+op_sign op = T.Sign.Operator op
 
 -- a form's texts, or its tokens, in its place: in parentheses, where no `-` stands before it, or
 -- behind so many `-`
@@ -51,7 +41,7 @@ abbrev mutual
       Address r.first ∷ Signed T.Sign.Colon ∷ Address r.last ∷ []
   tokens_behind minus (F.Formula.Var name) = Variable name ∷ []
   tokens_behind minus (F.Formula.Neg f) =
-      Signed T.Sign.Minus ∷
+      Signed (T.Sign.Operator F.Op.Sub) ∷
       tokens_in_place (needs_parens (one_more minus) 4 f) (λ m. tokens_behind m f) (one_more minus)
   tokens_behind minus (F.Formula.Chain level f rest) =
       tokens_in_place (needs_parens minus (level_place level + 1) f) (λ m. tokens_behind m f) minus

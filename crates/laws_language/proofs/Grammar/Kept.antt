@@ -61,12 +61,12 @@ minus_small F.Op.Sub = omega arith
 minus_small op = omega arith
 
 comparison_minus : (s : Sign) (op : Op) → comparison s ≡ Some op → minus_of op ≡ 0
-comparison_minus T.Sign.Eq op h = ap minus_of (sym (same_some h))
-comparison_minus T.Sign.Ne op h = ap minus_of (sym (same_some h))
-comparison_minus T.Sign.Lt op h = ap minus_of (sym (same_some h))
-comparison_minus T.Sign.Le op h = ap minus_of (sym (same_some h))
-comparison_minus T.Sign.Gt op h = ap minus_of (sym (same_some h))
-comparison_minus T.Sign.Ge op h = ap minus_of (sym (same_some h))
+comparison_minus (T.Sign.Operator F.Op.Eq) op h = ap minus_of (sym (same_some h))
+comparison_minus (T.Sign.Operator F.Op.Ne) op h = ap minus_of (sym (same_some h))
+comparison_minus (T.Sign.Operator F.Op.Lt) op h = ap minus_of (sym (same_some h))
+comparison_minus (T.Sign.Operator F.Op.Le) op h = ap minus_of (sym (same_some h))
+comparison_minus (T.Sign.Operator F.Op.Gt) op h = ap minus_of (sym (same_some h))
+comparison_minus (T.Sign.Operator F.Op.Ge) op h = ap minus_of (sym (same_some h))
 comparison_minus s op h = absurd (cc h)
 
 -- a left parenthesis, and a right one
@@ -142,7 +142,7 @@ fewer k h = omega (arith, h)
 
 minus_by : (f : Formula) (n m o k d q : ℕ) (ts us : Tokens) → q ≤ 4 → SideBySide n m o k d → m < max_minus →
     ((p j e : ℕ) → SideBySide n (m + 1) p j e → Kept n p j e (placed 4 j f) ts us) →
-    (b : Bool) → nat_le max_minus k ≡ b → Kept n o k d (placed q k (F.Formula.Neg f)) (Signed T.Sign.Minus ∷ ts) us
+    (b : Bool) → nat_le max_minus k ≡ b → Kept n o k d (placed q k (F.Formula.Neg f)) (Signed (T.Sign.Operator F.Op.Sub) ∷ ts) us
 minus_by f n m o k d q ts us l s few inside true h =
     let e : max_minus ≤ k = leb-true max_minus k h in
     let r = inside (o + 1) (one_more 0) (d - 1) (record { opened = omega (arith, s.opened, s.row, e, few); most = s.most; row = omega arith; short = omega arith }) in
@@ -152,7 +152,7 @@ minus_by f n m o k d q ts us l s few inside true h =
     moved (with_parens k q (F.Formula.Neg f) p) (record {
       behind = r.behind;
       shallow = λ rest i.
-          opening o k (Signed T.Sign.Minus ∷ ((xs ++ close) ++ rest)) (omega (arith, s.opened, s.most, s.row, e, few)) (subst (λ z. IsShallow (o + 1) 1 z) (sym (append_assoc xs close rest)) (r.shallow (Signed T.Sign.RightParen ∷ rest) (closing o 0 rest i)));
+          opening o k (Signed (T.Sign.Operator F.Op.Sub) ∷ ((xs ++ close) ++ rest)) (omega (arith, s.opened, s.most, s.row, e, few)) (subst (λ z. IsShallow (o + 1) 1 z) (sym (append_assoc xs close rest)) (r.shallow (Signed T.Sign.RightParen ∷ rest) (closing o 0 rest i)));
       no_longer = omega (arith, size-append xs close, r.no_longer, s.row, e, few);
     })
 minus_by f n m o k d q ts us l s few inside false h =
