@@ -2,11 +2,11 @@
 -- after, and of a source `left` and `left'` those that it has left, where they tell them.
 use Rattle.std.specs.Prelude.{◌≡◌, ℕ, Bool, false, ◌<◌, ◌≤◌, List, ◌++◌, length, take, IfSome}
 use Rattle.std.specs.declared.option.Option.{Option}
-use Rattle.std.specs.List.{concat}
+use Rattle.std.specs.List.{concat, list_any}
 use Rattle.std.specs.Io.KnownBytes.{Appends, Consumes}
 use Rattle.gl_language.specs.Texts.Text.{Bytes}
 use Rattle.gl_protocol.specs.Framing.Framing.{Item, ended, has_quit}
-use Rattle.gl_protocol.specs.Scripts.Output.{AreReplies, is_refused, items_of}
+use Rattle.gl_protocol.specs.Scripts.Output.{AreReplies, is_refusal, items_of}
 use Rattle.gl_protocol.specs.Run.Records.{csv_records}
 
 -- these are the first of those, or all
@@ -21,7 +21,8 @@ pub record WroteAll (old new : Option Bytes) (is : List Item) : Type 0 where
 
 -- the same, and whether one of them is a refusal
 abbrev pub WroteAllTelling : Option Bytes → Option Bytes → List Item → Bool → Type 0
-WroteAllTelling old new is refused = (w : WroteAll old new is) × (refused ≡ is_refused w.replies)
+WroteAllTelling old new is refused =
+    (w : WroteAll old new is) × (refused ≡ list_any is_refusal w.replies)
 
 -- some first items, with the replies to them
 pub record Front (is : List Item) : Type 0 where

@@ -39,10 +39,6 @@ pub data AreReplies (records : Bytes → List (List Bytes)) : List Item → List
 abbrev pub is_refusal : Bytes → Bool
 is_refusal reply = bytes_eq (take 6 reply) (codes "error ")
 
--- some item was refused
-abbrev pub is_refused : List Bytes → Bool
-is_refused replies = list_any is_refusal replies
-
 -- what is written for the items
 abbrev pub IsOutput : (Bytes → List (List Bytes)) → List Item → Bytes → Type 0
 IsOutput records is out =
