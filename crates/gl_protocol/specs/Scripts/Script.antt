@@ -47,8 +47,7 @@ sited s n = by s.replica s.sheet
   where
     by : Option Replica → Cells → Read Script
     by None [] = Is (record { sheet = []; replica = Some (new_replica n); history = no_history })
-    by None (c ∷ cs) = Not (codes "site")
-    by (Some r) S = Not (codes "site")
+    by r S = Not (codes "site")
 
 abbrev pub undone : Script → Read Script
 undone s = by s.replica s.history.done
@@ -108,6 +107,5 @@ merge s e j = by s.replica j
     by : Option Replica → Judged → Read Script
     by None j = Not (codes "site")
     by (Some r) Wins = taken s (taking r e) (allowed_change s.sheet e.place e.content)
-    by (Some r) Loses = Is (record s { replica = Some (taking r e) })
-    by (Some r) Same = Is (record s { replica = Some (taking r e) })
     by (Some r) Conflict = Not (codes "conflict")
+    by (Some r) j = Is (record s { replica = Some (taking r e) })
