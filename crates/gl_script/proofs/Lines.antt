@@ -168,10 +168,10 @@ view_refused l place f.Field h x = absurd x
 view_refused l place f.NoMemory h x = absurd x
 
 pub view_asks : (l place : Bytes) (x : Range) → HasWords l (ViewWords place) → ReadsRange place (Is x) → is_viewable x ≡ true → ReadsLine l (Is (C.Request.View x))
-view_asks l place x h k v = line_reads l (ViewWords place) (Is (C.Request.View x)) h (C.ReadsWords.view k v)
+view_asks l place x h k v = subst (λ (u : Bool). ReadsLine l (cond u (Is (C.Request.View x)) (Not (codes "range")))) v (line_reads l (ViewWords place) (cond (is_viewable x) (Is (C.Request.View x)) (Not (codes "range"))) h (C.ReadsWords.view k))
 
 pub view_large : (l place : Bytes) (x : Range) → HasWords l (ViewWords place) → ReadsRange place (Is x) → is_viewable x ≡ false → Answers l (Err f.Range)
-view_large l place x h k v = (line_reads l (ViewWords place) (Not (codes "range")) h (C.ReadsWords.view_size k v), other_words l (ViewWords place) h (λ p t e. cc) (λ p q s t e. cc))
+view_large l place x h k v = (subst (λ (u : Bool). ReadsLine l (cond u (Is (C.Request.View x)) (Not (codes "range")))) v (line_reads l (ViewWords place) (cond (is_viewable x) (Is (C.Request.View x)) (Not (codes "range"))) h (C.ReadsWords.view k)), other_words l (ViewWords place) h (λ p t e. cc) (λ p q s t e. cc))
 
 -- ---- imports
 

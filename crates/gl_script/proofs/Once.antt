@@ -1,6 +1,6 @@
 -- A text is read as one content, and a line as one request.
 use Rattle.std.specs.Prelude.{codes}
-use Rattle.std.proofs.Common.{◌≡◌, ◌≢◌, ◌∙◌, ℕ, ◌+◌, ◌<◌, ◌≤◌, Bool, true, false, [], ◌∷◌, ◌++◌, length, Option, Some, None, ◌⊎◌, inl, inr, refl, sym, ap, subst, arith, IsTrue}
+use Rattle.std.proofs.Common.{cond, ◌≡◌, ◌≢◌, ◌∙◌, ℕ, ◌+◌, ◌<◌, ◌≤◌, Bool, true, false, [], ◌∷◌, ◌++◌, length, Option, Some, None, ◌⊎◌, inl, inr, refl, sym, ap, subst, arith, IsTrue}
 use Rattle.std.specs.Prelude.{ℤ, IsFalse, ◌==◌}
 use Rattle.std.specs.Str.{is_utf8}
 use Rattle.std.proofs.lemmas.Bool.Decides.{nat_tests}
@@ -123,20 +123,10 @@ corners_same bs a b c d (inr h) (inr k) =
 one_place : (bs : Bytes) (a b c d : Addr) → IsPlace bs a b → IsPlace bs c d → range a b ≡ range c d
 one_place bs a b c d p q = corners_same bs a b c d (corners p) (corners q)
 
-other_order : (bs : Bytes) (a b c d : Addr) → IsPlace bs a b → IsPlace bs c d → IsTrue (in_order a b) → IsFalse (in_order c d) → ⊥
-other_order bs a b c d p q t f =
-    let e : in_order a b ≡ in_order c d = ap (λ (r : Range). in_order r.first r.last) (one_place bs a b c d p q) in
-    cc
-
 pub one_range : {bs : Bytes} {x y : Read Range} → ReadsRange bs x → ReadsRange bs y → x ≡ y
-one_range (C.ReadsRange.range_of {bs = bs} {a = a} {b = b} p o) (C.ReadsRange.range_of {a = c} {b = d} q t) = ap Is (one_place bs a b c d p q)
-one_range (C.ReadsRange.range_of {bs = bs} {a = a} {b = b} p o) (C.ReadsRange.unordered {a = c} {b = d} q t) = absurd (other_order bs a b c d p q o t)
-one_range (C.ReadsRange.range_of {a = a} {b = b} p o) (C.ReadsRange.no_address n) = absurd (n a b p)
-one_range (C.ReadsRange.unordered {bs = bs} {a = a} {b = b} p o) (C.ReadsRange.range_of {a = c} {b = d} q t) = absurd (other_order bs c d a b q p t o)
-one_range (C.ReadsRange.unordered p o) (C.ReadsRange.unordered q t) = refl
-one_range (C.ReadsRange.unordered {a = a} {b = b} p o) (C.ReadsRange.no_address n) = absurd (n a b p)
-one_range (C.ReadsRange.no_address n) (C.ReadsRange.range_of {a = a} {b = b} p o) = absurd (n a b p)
-one_range (C.ReadsRange.no_address n) (C.ReadsRange.unordered {a = a} {b = b} p o) = absurd (n a b p)
+one_range (C.ReadsRange.range_of {bs = bs} {a = a} {b = b} p) (C.ReadsRange.range_of {a = c} {b = d} q) = ap (λ (r : Range). cond (in_order r.first r.last) (Is r) (Not (codes "range"))) (one_place bs a b c d p q)
+one_range (C.ReadsRange.range_of {a = a} {b = b} p) (C.ReadsRange.no_address n) = absurd (n a b p)
+one_range (C.ReadsRange.no_address n) (C.ReadsRange.range_of {a = a} {b = b} p) = absurd (n a b p)
 one_range (C.ReadsRange.no_address n) (C.ReadsRange.no_address m) = refl
 
 -- ---- words
@@ -149,9 +139,6 @@ same_word {w = w} {v = v} p q = let e : Not w ≡ Not v = one_range p q in cc
 
 range_or_word : {bs : Bytes} {r : Range} {w : Bytes} → ReadsRange bs (Is r) → ReadsRange bs (Not w) → ⊥
 range_or_word {r = r} {w = w} p q = let e : Is r ≡ Not w = one_range p q in cc
-
-viewable_not : (r s : Range) → r ≡ s → IsTrue (C.is_viewable r) → IsFalse (C.is_viewable s) → ⊥
-viewable_not r s e t f = let k : C.is_viewable r ≡ C.is_viewable s = ap C.is_viewable e in cc
 
 same_text : {o : Option Bytes} {x y : Read (Option F.Content)} → C.ReadsText o x → C.ReadsText o y → x ≡ y
 same_text C.ReadsText.no_text C.ReadsText.no_text = refl
@@ -174,14 +161,9 @@ one_words (C.ReadsWords.set a h r) (C.ReadsWords.set_place n) = absurd (n a h)
 one_words (C.ReadsWords.set_place n) (C.ReadsWords.set b k s) = absurd (n b k)
 one_words (C.ReadsWords.set_place n) (C.ReadsWords.set_place m) = refl
 one_words (C.ReadsWords.clear r) (C.ReadsWords.clear s) = ap (λ (z : Read Range). C.onto C.Request.Clear z) (one_range r s)
-one_words (C.ReadsWords.view r v) (C.ReadsWords.view s w) = ap (λ (z : Range). Is (C.Request.View z)) (same_range r s)
-one_words (C.ReadsWords.view {r = x} r v) (C.ReadsWords.view_size {r = y} s w) = absurd (viewable_not x y (same_range r s) v w)
-one_words (C.ReadsWords.view r v) (C.ReadsWords.view_place s) = absurd (range_or_word r s)
-one_words (C.ReadsWords.view_size {r = x} r v) (C.ReadsWords.view {r = y} s w) = absurd (viewable_not y x (same_range s r) w v)
-one_words (C.ReadsWords.view_size r v) (C.ReadsWords.view_size s w) = refl
-one_words (C.ReadsWords.view_size r v) (C.ReadsWords.view_place s) = absurd (range_or_word r s)
-one_words (C.ReadsWords.view_place r) (C.ReadsWords.view s w) = absurd (range_or_word s r)
-one_words (C.ReadsWords.view_place r) (C.ReadsWords.view_size s w) = absurd (range_or_word s r)
+one_words (C.ReadsWords.view r) (C.ReadsWords.view s) = ap (λ (z : Range). cond (C.is_viewable z) (Is (C.Request.View z)) (Not (codes "range"))) (same_range r s)
+one_words (C.ReadsWords.view r) (C.ReadsWords.view_place s) = absurd (range_or_word r s)
+one_words (C.ReadsWords.view_place r) (C.ReadsWords.view s) = absurd (range_or_word s r)
 one_words (C.ReadsWords.view_place r) (C.ReadsWords.view_place s) = ap Not (same_word r s)
 one_words (C.ReadsWords.show {place = p} {a = a} h) (C.ReadsWords.show {a = b} k) = ap (λ (z : Addr). Is (C.Request.Show z)) (same_place p a b h k)
 one_words (C.ReadsWords.show {a = a} h) (C.ReadsWords.show_place n) = absurd (n a h)

@@ -6,10 +6,7 @@ use Rattle.gl_language.specs.Texts.Text.{Bytes}
 use Rattle.gl_language.specs.Reading.Token.{is_digit}
 
 -- what stands before the first separator, and what follows it if there is one
-abbrev pub Cut : Type 0
-Cut = Bytes × Option Bytes
-
-abbrev pub cut_at : ℕ → Bytes → Cut
+abbrev pub cut_at : ℕ → Bytes → Bytes × Option Bytes
 cut_at separator [] = ([], None)
 cut_at separator (b ∷ bs) =
     let rest = cut_at separator bs in if b == separator then ([], Some bs) else (b ∷ rest.0, rest.1)

@@ -102,10 +102,8 @@ abbrev pub in_order : Addr → Addr → Bool
 in_order a b = nat_le a.col b.col && nat_le a.row b.row
 
 pub data ReadsRange : Bytes → Read Range → Type 0 where
-  range_of : {bs : Bytes} {a b : Addr} → IsPlace bs a b → IsTrue (in_order a b)
-      → ReadsRange bs (Is (range a b))
-  unordered : {bs : Bytes} {a b : Addr} → IsPlace bs a b → IsFalse (in_order a b)
-      → ReadsRange bs (Not (codes "range"))
+  range_of : {bs : Bytes} {a b : Addr} → IsPlace bs a b
+      → ReadsRange bs (if in_order a b then Is (range a b) else Not (codes "range"))
   no_address : {bs : Bytes} → ((a b : Addr) → IsPlace bs a b → ⊥)
       → ReadsRange bs (Not (codes "address"))
 
@@ -120,9 +118,6 @@ pub data Words : Type 0 where
   ImportWords : (place count : Bytes) → Words
   SiteWords : (site : Bytes) → Words
   EditWords : (time site place : Bytes) → (text : Option Bytes) → Words
-
-abbrev pub some_words : Bool → Words → Option Words
-some_words b x = if b then Some x else None
 
 abbrev pub one_word : Bytes → Option Words
 one_word w =
@@ -140,17 +135,19 @@ two_words w place =
     else if bytes_eq w (codes "why") then Some (WhyWords place)
     else if bytes_eq w (codes "explain") then Some (ExplainWords place)
     else if bytes_eq w (codes "site")
-    then some_words (is_number place && nat_le (digits_value place) max_site) (SiteWords place)
+    then (if is_number place && nat_le (digits_value place) max_site
+    then Some (SiteWords place) else None)
     else None
 
 abbrev pub words_of_pieces : List Bytes → Option Words
 words_of_pieces (w ∷ []) = one_word w
 words_of_pieces (w ∷ place ∷ []) = if length place == 0 then None else two_words w place
 words_of_pieces (w ∷ place ∷ n ∷ []) =
-    some_words (bytes_eq w (codes "import") && nat_lt 0 (length place) && is_number n)
-    (ImportWords place n)
+    if bytes_eq w (codes "import") && nat_lt 0 (length place) && is_number n
+    then Some (ImportWords place n) else None
 words_of_pieces ps = None
 
+-- what is cut behind a separator, where there is one
 abbrev pub behind : Option Bytes → (Bytes → Option Words) → Option Words
 behind o f = option_and_then f o
 
@@ -159,7 +156,7 @@ abbrev pub set_words : Option Bytes → Option Words
 set_words o =
     behind o (λ r. let place = cut_at 32 r in
     behind place.1 (λ t.
-    some_words (nat_lt 0 (length place.0) && nat_lt 0 (length t)) (SetWords place.0 t)))
+    if nat_lt 0 (length place.0) && nat_lt 0 (length t) then Some (SetWords place.0 t) else None))
 
 abbrev pub is_text : Option Bytes → Bool
 is_text o = option_map_or (λ t. nat_lt 0 (length t)) o true
@@ -168,11 +165,11 @@ is_text o = option_map_or (λ t. nat_lt 0 (length t)) o true
 -- one
 abbrev pub edit_words : Option Bytes → Option Words
 edit_words o =
-    behind o (λ r. let t = cut_at 32 r in
-    behind t.1 (λ r. let n = cut_at 32 r in
-    behind n.1 (λ r. let p = cut_at 32 r in
-    some_words ((is_number t.0 && is_number n.0) && (nat_lt 0 (length p.0) && is_text p.1))
-    (EditWords t.0 n.0 p.0 p.1))))
+    behind o (λ r. let time = cut_at 32 r in
+    behind time.1 (λ r. let site = cut_at 32 r in
+    behind site.1 (λ r. let place = cut_at 32 r in
+    if (is_number time.0 && is_number site.0) && (nat_lt 0 (length place.0) && is_text place.1)
+    then Some (EditWords time.0 site.0 place.0 place.1) else None)))
 
 abbrev pub words_of : Bytes → Option Words
 words_of l =
@@ -192,11 +189,8 @@ pub data ReadsWords : Words → Read Request → Type 0 where
   site : {n : Bytes} → ReadsWords (SiteWords n) (Is (Site (digits_value n)))
   edit : {t n place : Bytes} {text : Option Bytes} {r : Read (Option F.Content)} (a : Addr)
       → IsAddress place a → IsTrue (is_stamp (digits_value t) (digits_value n)) → ReadsText text r
-      → ReadsWords (EditWords t n place text) (onto (λ c. Merge (record {
-        stamp = stamp (digits_value t) (digits_value n);
-        place = a;
-        content = c;
-      })) r)
+      → ReadsWords (EditWords t n place text) (onto (λ c. Merge
+      (record { stamp = stamp (digits_value t) (digits_value n); place = a; content = c })) r)
   edit_stamp : {t n place : Bytes} {text : Option Bytes} (a : Addr) → IsAddress place a
       → IsFalse (is_stamp (digits_value t) (digits_value n))
       → ReadsWords (EditWords t n place text) (Not (codes "stamp"))
@@ -208,10 +202,8 @@ pub data ReadsWords : Words → Read Request → Type 0 where
       → ReadsWords (SetWords place t) (Not (codes "address"))
   clear : {place : Bytes} {r : Read Range} → ReadsRange place r
       → ReadsWords (ClearWords place) (onto Clear r)
-  view : {place : Bytes} {r : Range} → ReadsRange place (Is r) → IsTrue (is_viewable r)
-      → ReadsWords (ViewWords place) (Is (View r))
-  view_size : {place : Bytes} {r : Range} → ReadsRange place (Is r) → IsFalse (is_viewable r)
-      → ReadsWords (ViewWords place) (Not (codes "range"))
+  view : {place : Bytes} {r : Range} → ReadsRange place (Is r)
+      → ReadsWords (ViewWords place) (if is_viewable r then Is (View r) else Not (codes "range"))
   view_place : {place : Bytes} {w : Bytes} → ReadsRange place (Not w)
       → ReadsWords (ViewWords place) (Not w)
   show : {place : Bytes} {a : Addr} → IsAddress place a → ReadsWords (ShowWords place) (Is (Show a))

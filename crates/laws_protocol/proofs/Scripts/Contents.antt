@@ -1,13 +1,13 @@
 -- What is set or imported is a proper content.
 use Rattle.std.specs.Prelude.{codes}
-use Rattle.std.proofs.Common.{◌≡◌, ◌∙◌, ◌≤◌, nat_lt, nat_le, Bool, true, false, ◌&&◌, List, [], ◌∷◌, ◌++◌, length, Option, Some, None, refl, sym, subst, arith, IsTrue}
+use Rattle.std.proofs.Common.{cond, ◌≡◌, ◌∙◌, ◌≤◌, nat_lt, nat_le, Bool, true, false, ◌&&◌, List, [], ◌∷◌, ◌++◌, length, Option, Some, None, refl, sym, subst, arith, IsTrue}
 use Rattle.std.specs.Prelude.{ℤ, bytes_eq, ⊤}
 use Rattle.std.specs.List.{list_all, AllByRecursion}
 use Rattle.std.specs.Str.{IsUtf8, is_utf8}
 use Rattle.std.proofs.lemmas.Str.{IsUtf8-from_is_utf8, is_utf8-from_IsUtf8}
 use Rattle.std.proofs.lemmas.Bool.Decides.{nat_tests}
 use Rattle.gl_calculus.specs.Grid.Limits.{max_text}
-use Rattle.gl_calculus.specs.Grid.Grid.{Addr, shifted}
+use Rattle.gl_calculus.specs.Grid.Grid.{Range, Addr, shifted}
 use Rattle.gl_calculus.specs.Values.Operators.{exact}
 use Rattle.gl_calculus.specs.Values.Value as V
 use Rattle.gl_calculus.specs.Formulas.Formula.{Content, Const, Cells}
@@ -88,6 +88,10 @@ IfSet (Is (C.Request.Set a c)) = IsProperContent c
 IfSet (Is (C.Request.Merge e)) = IsTrue (is_stamp e.stamp.time e.stamp.site) × IsProperOption e.content
 IfSet x = ⊤
 
+view_set : (b : Bool) (x : Range) → IfSet (cond b (Is (C.Request.View x)) (Not (codes "range")))
+view_set true x = tt
+view_set false x = tt
+
 words_set : (l : Bytes) {ws : C.Words} {x : Read Request} → IsUtf8 l → words_of l ≡ Some ws → ReadsWords ws x → IfSet x
 words_set l u h C.ReadsWords.list = tt
 words_set l u h C.ReadsWords.calc = tt
@@ -107,8 +111,7 @@ words_set l u h (C.ReadsWords.set {r = Not w} a k r) = tt
 words_set l u h (C.ReadsWords.set_place n) = tt
 words_set l u h (C.ReadsWords.clear {r = Is x} r) = tt
 words_set l u h (C.ReadsWords.clear {r = Not w} r) = tt
-words_set l u h (C.ReadsWords.view r v) = tt
-words_set l u h (C.ReadsWords.view_size r v) = tt
+words_set l u h (C.ReadsWords.view {r = x} r) = view_set (C.is_viewable x) x
 words_set l u h (C.ReadsWords.view_place r) = tt
 words_set l u h (C.ReadsWords.show k) = tt
 words_set l u h (C.ReadsWords.show_place n) = tt

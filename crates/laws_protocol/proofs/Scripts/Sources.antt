@@ -5,7 +5,7 @@ use Rattle.std.specs.Prelude.{⊤}
 use Rattle.std.specs.List.{AllByRecursion, list_all}
 use Rattle.std.specs.Str.{is_utf8}
 use Rattle.gl_calculus.specs.Grid.Limits.{max_text}
-use Rattle.gl_calculus.specs.Grid.Grid.{Addr, grid, covers, same_addr}
+use Rattle.gl_calculus.specs.Grid.Grid.{Range, Addr, grid, covers, same_addr}
 use Rattle.gl_calculus.specs.Formulas.Formula.{Content, Cells, IsSheet, content}
 use Rattle.gl_calculus.proofs.Tests.{addr_exact, addr_same}
 use Rattle.gl_language.specs.Texts.Text.{Bytes, content_text}
@@ -44,6 +44,10 @@ IfSet (Is (C.Request.Set a c)) = IsTrue (covers grid a) × IsBack c
 IfSet (Is (C.Request.Merge e)) = IsTrue (covers grid e.place) × IsBackOption e.content
 IfSet x = ⊤
 
+view_set : (b : Bool) (x : Range) → IfSet (cond b (Is (C.Request.View x)) (Not (codes "range")))
+view_set true x = tt
+view_set false x = tt
+
 words_set : {ws : C.Words} {x : Read Request} → ReadsWords ws x → IfSet x
 words_set C.ReadsWords.list = tt
 words_set C.ReadsWords.calc = tt
@@ -63,8 +67,7 @@ words_set (C.ReadsWords.set {r = Not w} a k r) = tt
 words_set (C.ReadsWords.set_place n) = tt
 words_set (C.ReadsWords.clear {r = Is x} r) = tt
 words_set (C.ReadsWords.clear {r = Not w} r) = tt
-words_set (C.ReadsWords.view r v) = tt
-words_set (C.ReadsWords.view_size r v) = tt
+words_set (C.ReadsWords.view {r = x} r) = view_set (C.is_viewable x) x
 words_set (C.ReadsWords.view_place r) = tt
 words_set (C.ReadsWords.show k) = tt
 words_set (C.ReadsWords.show_place n) = tt
