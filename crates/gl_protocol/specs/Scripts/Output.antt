@@ -1,7 +1,7 @@
 -- What a whole run writes.
 use Rattle.std.specs.Prelude.{◌≡◌, ℕ, ◌*◌, ◌%◌, nat_le, Bool, true, false, ◌||◌, List, [], ◌∷◌}
 use Rattle.std.specs.Prelude.{◌++◌, length, take, flat_map, codes, bytes_eq, if◌then◌else◌}
-use Rattle.std.specs.List.{list_any, range_with_len}
+use Rattle.std.specs.List.{range_with_len}
 use Rattle.std.specs.Fmt.{decimal}
 use Rattle.gl_calculus.specs.Grid.Limits.{max_script}
 use Rattle.gl_calculus.specs.Formulas.Formula.{Version, One, Two}

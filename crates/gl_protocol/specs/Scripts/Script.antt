@@ -4,8 +4,8 @@ use Rattle.std.specs.Prelude.{codes, if◌then◌else◌}
 use Rattle.std.specs.Option.{option_and_then, option_map_or}
 use Rattle.gl_calculus.specs.Grid.Grid.{Addr, single}
 use Rattle.gl_calculus.specs.Formulas.Formula.{Content, Cells}
-use Rattle.gl_calculus.specs.Edits.Replicas.{Edit, Changes, Replica, Judged, Wins, Loses}
-use Rattle.gl_calculus.specs.Edits.Replicas.{Same, Conflict, register_at, new_replica, next_stamp}
+use Rattle.gl_calculus.specs.Edits.Replicas.{Edit, Changes, Replica, Judged, Wins}
+use Rattle.gl_calculus.specs.Edits.Replicas.{Conflict, register_at, new_replica, next_stamp}
 use Rattle.gl_calculus.specs.Edits.Replicas.{taking, taking_all, stamped, has_room}
 use Rattle.gl_calculus.specs.Edits.Steps.{Step, step_of, befores, afters, History, no_history}
 use Rattle.gl_calculus.specs.Edits.Steps.{pushed}

@@ -2,7 +2,7 @@
 --
 -- Both lists are gone through side by side. The tokens read have `n` parentheses open and `m` times `-` in a row before them, the canonical ones `o` and `k`.
 -- Parentheses that the canonical tokens leave out are spared: each lets them put a pair later, where `-` stands a ninth time in a row, and `d` pairs are left.
-use Rattle.std.proofs.Common.{◌&&◌, ◌≡◌, ℕ, ◌+◌, ◌-◌, ◌*◌, ◌<◌, ◌≤◌, Bool, true, false, ◌||◌, [], ◌∷◌, ◌++◌, append_assoc, ap, refl, sym, subst, ◌∙◌, arith, if◌then◌else◌}
+use Rattle.std.proofs.Common.{◌&&◌, ◌≡◌, ℕ, ◌+◌, ◌-◌, ◌*◌, ◌<◌, ◌≤◌, Bool, true, false, ◌||◌, [], ◌∷◌, ◌++◌, append_assoc, ap, refl, sym, subst, ◌∙◌, arith}
 use Rattle.std.specs.Prelude.{Some, nat_lt, nat_le}
 use Rattle.std.proofs.lemmas.Bool.{or_parts, or_from, le-ltb, leb-true, leb-false, lt-leb}
 use Rattle.gl_calculus.specs.Grid.Limits.{max_minus, max_open}
