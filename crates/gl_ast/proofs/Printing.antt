@@ -3,7 +3,8 @@ use Rattle.std.proofs.Common.{◌≡◌, ℕ, ◌≤◌, Bool, true, false, List
 use Rattle.std.specs.List.{join_with_byte}
 use Rattle.std.proofs.lemmas.List.{at_drop_all}
 use Rattle.gl_calculus.specs.Formulas.Formula as F
-use Rattle.gl_language.specs.Texts.Text.{Bytes, in_place, needs_parens, text_behind, operands_text, texts, placed_text}
+use Rattle.gl_language.specs.Texts.Canonical.{in_place}
+use Rattle.gl_language.specs.Texts.Text.{Bytes, needs_parens, text_behind, operands_text, texts, placed_text}
 use Rattle.gl_ast.specs.View.{argument_trees, operand_trees}
 use Rattle.gl_ast.specs.declared.Op.{Op}
 use Rattle.gl_ast.specs.declared.Formula.{Formula}

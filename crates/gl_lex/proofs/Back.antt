@@ -10,10 +10,10 @@ use Rattle.gl_calculus.specs.Grid.Grid.{Addr, grid, covers}
 use Rattle.gl_calculus.specs.Grid.Notation.{address_text}
 use Rattle.gl_calculus.specs.Formulas.Formula.{Op, Fun, Formula, Formulas, Operands}
 use Rattle.gl_calculus.specs.Formulas.Formula as F
-use Rattle.gl_language.specs.Texts.Text.{Bytes, escaped, is_control, hex_digit, literal_text, truth_text, op_text, fun_text, level_place, one_more, minus_of, in_parens, in_place, needs_parens, text_behind, operands_text, texts, formula_text}
+use Rattle.gl_language.specs.Texts.Text.{Bytes, escaped, is_control, hex_digit, literal_text, truth_text, op_text, fun_text, level_place, one_more, minus_of, in_parens, needs_parens, text_behind, operands_text, texts, formula_text}
 use Rattle.gl_language.specs.Reading.Token as T
 use Rattle.gl_language.specs.Reading.Token.{is_digit, is_upper, is_lower, IsRow, NotBefore, Decodes, Spells, EndsBefore, Lexes, no_more, token, integer, quoted, address, truth, word, variable, signed}
-use Rattle.gl_language.specs.Texts.Canonical.{Tokens, op_sign, tokens_in_place, tokens_behind, operands_tokens, arguments_tokens, more_tokens, HasTokens, HaveTokens, AllHaveTokens}
+use Rattle.gl_language.specs.Texts.Canonical.{in_place, Tokens, op_sign, tokens_in_place, tokens_behind, operands_tokens, arguments_tokens, more_tokens, HasTokens, HaveTokens, AllHaveTokens}
 use Rattle.gl_lex.specs.Laws.{CanonicalIsLexed}
 use Rattle.gl_lex.proofs.Starts.{starts, spells_begins}
 use Rattle.gl_lex.proofs.Letters.{decimal_row, not_same}
@@ -78,17 +78,17 @@ one : (t : T.Token) (x : Bytes) → Spells t x → ((rest : Bytes) → Apart res
 one t x s ends rest us a r = token (x, refl, s, ends rest a) r
 
 sign_ends : (s : T.Sign) (rest : Bytes) → Opens rest → EndsBefore (T.Signed s) rest
-sign_ends T.Sign.Lt rest o = o
-sign_ends T.Sign.Gt rest o = no_equal rest o
-sign_ends T.Sign.Eq rest o = tt
-sign_ends T.Sign.Ne rest o = tt
-sign_ends T.Sign.Le rest o = tt
-sign_ends T.Sign.Ge rest o = tt
-sign_ends T.Sign.Join rest o = tt
-sign_ends T.Sign.Plus rest o = tt
-sign_ends T.Sign.Minus rest o = tt
-sign_ends T.Sign.Times rest o = tt
-sign_ends T.Sign.Over rest o = tt
+sign_ends (T.Sign.Operator F.Op.Lt) rest o = o
+sign_ends (T.Sign.Operator F.Op.Gt) rest o = no_equal rest o
+sign_ends (T.Sign.Operator F.Op.Eq) rest o = tt
+sign_ends (T.Sign.Operator F.Op.Ne) rest o = tt
+sign_ends (T.Sign.Operator F.Op.Le) rest o = tt
+sign_ends (T.Sign.Operator F.Op.Ge) rest o = tt
+sign_ends (T.Sign.Operator F.Op.Join) rest o = tt
+sign_ends (T.Sign.Operator F.Op.Add) rest o = tt
+sign_ends (T.Sign.Operator F.Op.Sub) rest o = tt
+sign_ends (T.Sign.Operator F.Op.Mul) rest o = tt
+sign_ends (T.Sign.Operator F.Op.Div) rest o = tt
 sign_ends T.Sign.Hash rest o = tt
 sign_ends T.Sign.LeftParen rest o = tt
 sign_ends T.Sign.RightParen rest o = tt
@@ -96,17 +96,17 @@ sign_ends T.Sign.Comma rest o = tt
 sign_ends T.Sign.Colon rest o = tt
 
 sign_apart : (s : T.Sign) (rest : Bytes) → Apart (T.sign_text s ++ rest)
-sign_apart T.Sign.Eq rest = refl
-sign_apart T.Sign.Ne rest = refl
-sign_apart T.Sign.Lt rest = refl
-sign_apart T.Sign.Le rest = refl
-sign_apart T.Sign.Gt rest = refl
-sign_apart T.Sign.Ge rest = refl
-sign_apart T.Sign.Join rest = refl
-sign_apart T.Sign.Plus rest = refl
-sign_apart T.Sign.Minus rest = refl
-sign_apart T.Sign.Times rest = refl
-sign_apart T.Sign.Over rest = refl
+sign_apart (T.Sign.Operator F.Op.Eq) rest = refl
+sign_apart (T.Sign.Operator F.Op.Ne) rest = refl
+sign_apart (T.Sign.Operator F.Op.Lt) rest = refl
+sign_apart (T.Sign.Operator F.Op.Le) rest = refl
+sign_apart (T.Sign.Operator F.Op.Gt) rest = refl
+sign_apart (T.Sign.Operator F.Op.Ge) rest = refl
+sign_apart (T.Sign.Operator F.Op.Join) rest = refl
+sign_apart (T.Sign.Operator F.Op.Add) rest = refl
+sign_apart (T.Sign.Operator F.Op.Sub) rest = refl
+sign_apart (T.Sign.Operator F.Op.Mul) rest = refl
+sign_apart (T.Sign.Operator F.Op.Div) rest = refl
 sign_apart T.Sign.Hash rest = refl
 sign_apart T.Sign.LeftParen rest = refl
 sign_apart T.Sign.RightParen rest = refl
@@ -279,7 +279,7 @@ mutual
       (shut_then T.Sign.Colon (address_text r.last) (T.Address r.last ∷ []) (λ r. tt) (back_address r.last h.1)))
   back (F.Formula.Var v) h minus = back_variable v h
   back (F.Formula.Neg f) h minus =
-      shut_then T.Sign.Minus (in_place (needs_parens (one_more minus) 4 f) (λ m. text_behind m f) (one_more minus)) _ (λ r. tt)
+      shut_then (T.Sign.Operator F.Op.Sub) (in_place (needs_parens (one_more minus) 4 f) (λ m. text_behind m f) (one_more minus)) _ (λ r. tt)
       (place_back (needs_parens (one_more minus) 4 f) (λ m. text_behind m f) (λ m. tokens_behind m f) (one_more minus) (λ m. back f h m))
   back (F.Formula.Chain level f os) h minus =
       back_operands (level_place level + 1) os h.1 (in_place (needs_parens minus (level_place level + 1) f) (λ m. text_behind m f) minus) (tokens_in_place (needs_parens minus (level_place level + 1) f) (λ m. tokens_behind m f) minus)

@@ -1,4 +1,5 @@
 -- What stands in front of a text that begins with a sign, or with no token.
+use Rattle.gl_calculus.specs.Formulas.Formula as F
 use Rattle.std.proofs.Common.{◌≡◌, ℕ, ◌<◌, ◌≤◌, true, false, ◌==◌, ◌||◌, [], ◌∷◌, ◌++◌, take, drop, length, get_or, Some, None, refl, ap, sym, subst, ◌∙◌, arith}
 use Rattle.std.proofs.lemmas.Bool.Decides.{nat_tests}
 use Rattle.gl_language.specs.Texts.Text.{Bytes}
@@ -18,26 +19,26 @@ second bytes = get_or bytes 1 0
 
 -- ---- from the rules to the bytes
 
-less_than : (rest : Bytes) → NotBefore (λ b. (b == 61) || (b == 62)) rest → sign_at 60 (get_or rest 0 0) ≡ Some T.Sign.Lt
+less_than : (rest : Bytes) → NotBefore (λ b. (b == 61) || (b == 62)) rest → sign_at 60 (get_or rest 0 0) ≡ Some (T.Sign.Operator F.Op.Lt)
 less_than [] n = refl
 less_than (b ∷ bs) n = grind (arith, nat_tests, n)
 
-greater_than : (rest : Bytes) → NotBefore (λ b. b == 61) rest → sign_at 62 (get_or rest 0 0) ≡ Some T.Sign.Gt
+greater_than : (rest : Bytes) → NotBefore (λ b. b == 61) rest → sign_at 62 (get_or rest 0 0) ≡ Some (T.Sign.Operator F.Op.Gt)
 greater_than [] n = refl
 greater_than (b ∷ bs) n = grind (arith, nat_tests, n)
 
 sign_front : (s : T.Sign) (rest : Bytes) → EndsBefore (T.Signed s) rest → sign_at (first (T.sign_text s ++ rest)) (second (T.sign_text s ++ rest)) ≡ Some s
-sign_front T.Sign.Lt rest e = less_than rest e
-sign_front T.Sign.Gt rest e = greater_than rest e
-sign_front T.Sign.Eq rest e = refl
-sign_front T.Sign.Ne rest e = refl
-sign_front T.Sign.Le rest e = refl
-sign_front T.Sign.Ge rest e = refl
-sign_front T.Sign.Join rest e = refl
-sign_front T.Sign.Plus rest e = refl
-sign_front T.Sign.Minus rest e = refl
-sign_front T.Sign.Times rest e = refl
-sign_front T.Sign.Over rest e = refl
+sign_front (T.Sign.Operator F.Op.Lt) rest e = less_than rest e
+sign_front (T.Sign.Operator F.Op.Gt) rest e = greater_than rest e
+sign_front (T.Sign.Operator F.Op.Eq) rest e = refl
+sign_front (T.Sign.Operator F.Op.Ne) rest e = refl
+sign_front (T.Sign.Operator F.Op.Le) rest e = refl
+sign_front (T.Sign.Operator F.Op.Ge) rest e = refl
+sign_front (T.Sign.Operator F.Op.Join) rest e = refl
+sign_front (T.Sign.Operator F.Op.Add) rest e = refl
+sign_front (T.Sign.Operator F.Op.Sub) rest e = refl
+sign_front (T.Sign.Operator F.Op.Mul) rest e = refl
+sign_front (T.Sign.Operator F.Op.Div) rest e = refl
 sign_front T.Sign.Hash rest e = refl
 sign_front T.Sign.LeftParen rest e = refl
 sign_front T.Sign.RightParen rest e = refl
@@ -76,27 +77,27 @@ pub record Reads (bytes : Bytes) (s : T.Sign) : Type 0 where
   pub within : sign_len s ≤ length bytes
 
 sign_by : (b : ℕ) (bs : Bytes) (s : T.Sign) → sign_at b (get_or bs 0 0) ≡ Some s → Reads (b ∷ bs) s
-sign_by b bs T.Sign.Eq e = let i : b ≡ 61 = grind (arith, nat_tests, e) in record { text = ap (λ z. z ∷ []) i; ends = tt; within = omega arith }
-sign_by b bs T.Sign.Join e = let i : b ≡ 38 = grind (arith, nat_tests, e) in record { text = ap (λ z. z ∷ []) i; ends = tt; within = omega arith }
-sign_by b bs T.Sign.Plus e = let i : b ≡ 43 = grind (arith, nat_tests, e) in record { text = ap (λ z. z ∷ []) i; ends = tt; within = omega arith }
-sign_by b bs T.Sign.Minus e = let i : b ≡ 45 = grind (arith, nat_tests, e) in record { text = ap (λ z. z ∷ []) i; ends = tt; within = omega arith }
-sign_by b bs T.Sign.Times e = let i : b ≡ 42 = grind (arith, nat_tests, e) in record { text = ap (λ z. z ∷ []) i; ends = tt; within = omega arith }
-sign_by b bs T.Sign.Over e = let i : b ≡ 47 = grind (arith, nat_tests, e) in record { text = ap (λ z. z ∷ []) i; ends = tt; within = omega arith }
+sign_by b bs (T.Sign.Operator F.Op.Eq) e = let i : b ≡ 61 = grind (arith, nat_tests, e) in record { text = ap (λ z. z ∷ []) i; ends = tt; within = omega arith }
+sign_by b bs (T.Sign.Operator F.Op.Join) e = let i : b ≡ 38 = grind (arith, nat_tests, e) in record { text = ap (λ z. z ∷ []) i; ends = tt; within = omega arith }
+sign_by b bs (T.Sign.Operator F.Op.Add) e = let i : b ≡ 43 = grind (arith, nat_tests, e) in record { text = ap (λ z. z ∷ []) i; ends = tt; within = omega arith }
+sign_by b bs (T.Sign.Operator F.Op.Sub) e = let i : b ≡ 45 = grind (arith, nat_tests, e) in record { text = ap (λ z. z ∷ []) i; ends = tt; within = omega arith }
+sign_by b bs (T.Sign.Operator F.Op.Mul) e = let i : b ≡ 42 = grind (arith, nat_tests, e) in record { text = ap (λ z. z ∷ []) i; ends = tt; within = omega arith }
+sign_by b bs (T.Sign.Operator F.Op.Div) e = let i : b ≡ 47 = grind (arith, nat_tests, e) in record { text = ap (λ z. z ∷ []) i; ends = tt; within = omega arith }
 sign_by b bs T.Sign.Hash e = let i : b ≡ 35 = grind (arith, nat_tests, e) in record { text = ap (λ z. z ∷ []) i; ends = tt; within = omega arith }
 sign_by b bs T.Sign.LeftParen e = let i : b ≡ 40 = grind (arith, nat_tests, e) in record { text = ap (λ z. z ∷ []) i; ends = tt; within = omega arith }
 sign_by b bs T.Sign.RightParen e = let i : b ≡ 41 = grind (arith, nat_tests, e) in record { text = ap (λ z. z ∷ []) i; ends = tt; within = omega arith }
 sign_by b bs T.Sign.Comma e = let i : b ≡ 44 = grind (arith, nat_tests, e) in record { text = ap (λ z. z ∷ []) i; ends = tt; within = omega arith }
 sign_by b bs T.Sign.Colon e = let i : b ≡ 58 = grind (arith, nat_tests, e) in record { text = ap (λ z. z ∷ []) i; ends = tt; within = omega arith }
-sign_by b [] T.Sign.Lt e = let i : b ≡ 60 = grind (arith, nat_tests, e) in record { text = ap (λ z. z ∷ []) i; ends = tt; within = omega arith }
-sign_by b (c ∷ bs) T.Sign.Lt e = let i : b ≡ 60 = grind (arith, nat_tests, e) in record { text = ap (λ z. z ∷ []) i; ends = grind (arith, nat_tests, e, i); within = omega arith }
-sign_by b [] T.Sign.Gt e = let i : b ≡ 62 = grind (arith, nat_tests, e) in record { text = ap (λ z. z ∷ []) i; ends = tt; within = omega arith }
-sign_by b (c ∷ bs) T.Sign.Gt e = let i : b ≡ 62 = grind (arith, nat_tests, e) in record { text = ap (λ z. z ∷ []) i; ends = grind (arith, nat_tests, e, i); within = omega arith }
-sign_by b [] T.Sign.Ne e = absurd (grind (arith, nat_tests, e))
-sign_by b (c ∷ bs) T.Sign.Ne e = let i : b ≡ 60 = grind (arith, nat_tests, e) in let j : c ≡ 62 = grind (arith, nat_tests, e, i) in record { text = ap (λ z. z ∷ c ∷ []) i ∙ ap (λ z. 60 ∷ z ∷ []) j; ends = tt; within = omega arith }
-sign_by b [] T.Sign.Le e = absurd (grind (arith, nat_tests, e))
-sign_by b (c ∷ bs) T.Sign.Le e = let i : b ≡ 60 = grind (arith, nat_tests, e) in let j : c ≡ 61 = grind (arith, nat_tests, e, i) in record { text = ap (λ z. z ∷ c ∷ []) i ∙ ap (λ z. 60 ∷ z ∷ []) j; ends = tt; within = omega arith }
-sign_by b [] T.Sign.Ge e = absurd (grind (arith, nat_tests, e))
-sign_by b (c ∷ bs) T.Sign.Ge e = let i : b ≡ 62 = grind (arith, nat_tests, e) in let j : c ≡ 61 = grind (arith, nat_tests, e, i) in record { text = ap (λ z. z ∷ c ∷ []) i ∙ ap (λ z. 62 ∷ z ∷ []) j; ends = tt; within = omega arith }
+sign_by b [] (T.Sign.Operator F.Op.Lt) e = let i : b ≡ 60 = grind (arith, nat_tests, e) in record { text = ap (λ z. z ∷ []) i; ends = tt; within = omega arith }
+sign_by b (c ∷ bs) (T.Sign.Operator F.Op.Lt) e = let i : b ≡ 60 = grind (arith, nat_tests, e) in record { text = ap (λ z. z ∷ []) i; ends = grind (arith, nat_tests, e, i); within = omega arith }
+sign_by b [] (T.Sign.Operator F.Op.Gt) e = let i : b ≡ 62 = grind (arith, nat_tests, e) in record { text = ap (λ z. z ∷ []) i; ends = tt; within = omega arith }
+sign_by b (c ∷ bs) (T.Sign.Operator F.Op.Gt) e = let i : b ≡ 62 = grind (arith, nat_tests, e) in record { text = ap (λ z. z ∷ []) i; ends = grind (arith, nat_tests, e, i); within = omega arith }
+sign_by b [] (T.Sign.Operator F.Op.Ne) e = absurd (grind (arith, nat_tests, e))
+sign_by b (c ∷ bs) (T.Sign.Operator F.Op.Ne) e = let i : b ≡ 60 = grind (arith, nat_tests, e) in let j : c ≡ 62 = grind (arith, nat_tests, e, i) in record { text = ap (λ z. z ∷ c ∷ []) i ∙ ap (λ z. 60 ∷ z ∷ []) j; ends = tt; within = omega arith }
+sign_by b [] (T.Sign.Operator F.Op.Le) e = absurd (grind (arith, nat_tests, e))
+sign_by b (c ∷ bs) (T.Sign.Operator F.Op.Le) e = let i : b ≡ 60 = grind (arith, nat_tests, e) in let j : c ≡ 61 = grind (arith, nat_tests, e, i) in record { text = ap (λ z. z ∷ c ∷ []) i ∙ ap (λ z. 60 ∷ z ∷ []) j; ends = tt; within = omega arith }
+sign_by b [] (T.Sign.Operator F.Op.Ge) e = absurd (grind (arith, nat_tests, e))
+sign_by b (c ∷ bs) (T.Sign.Operator F.Op.Ge) e = let i : b ≡ 62 = grind (arith, nat_tests, e) in let j : c ≡ 61 = grind (arith, nat_tests, e, i) in record { text = ap (λ z. z ∷ c ∷ []) i ∙ ap (λ z. 62 ∷ z ∷ []) j; ends = tt; within = omega arith }
 
 reads_at : (bytes : Bytes) (s : T.Sign) → 0 < length bytes → sign_at (first bytes) (second bytes) ≡ Some s → Reads bytes s
 reads_at [] s h e = absurd (omega (arith, h))
@@ -106,17 +107,17 @@ some_len : (s : T.Sign) → 0 < sign_len s
 some_len s = by s refl
   where
     by : (s : T.Sign) → s ≡ s → 0 < sign_len s
-    by T.Sign.Eq e = omega arith
-    by T.Sign.Ne e = omega arith
-    by T.Sign.Lt e = omega arith
-    by T.Sign.Le e = omega arith
-    by T.Sign.Gt e = omega arith
-    by T.Sign.Ge e = omega arith
-    by T.Sign.Join e = omega arith
-    by T.Sign.Plus e = omega arith
-    by T.Sign.Minus e = omega arith
-    by T.Sign.Times e = omega arith
-    by T.Sign.Over e = omega arith
+    by (T.Sign.Operator F.Op.Eq) e = omega arith
+    by (T.Sign.Operator F.Op.Ne) e = omega arith
+    by (T.Sign.Operator F.Op.Lt) e = omega arith
+    by (T.Sign.Operator F.Op.Le) e = omega arith
+    by (T.Sign.Operator F.Op.Gt) e = omega arith
+    by (T.Sign.Operator F.Op.Ge) e = omega arith
+    by (T.Sign.Operator F.Op.Join) e = omega arith
+    by (T.Sign.Operator F.Op.Add) e = omega arith
+    by (T.Sign.Operator F.Op.Sub) e = omega arith
+    by (T.Sign.Operator F.Op.Mul) e = omega arith
+    by (T.Sign.Operator F.Op.Div) e = omega arith
     by T.Sign.Hash e = omega arith
     by T.Sign.LeftParen e = omega arith
     by T.Sign.RightParen e = omega arith

@@ -1,4 +1,5 @@
 -- The first byte of a token.
+use Rattle.gl_calculus.specs.Formulas.Formula as F
 use Rattle.std.proofs.Common.{◌≡◌, ℕ, ◌+◌, ◌-◌, ◌/◌, ◌%◌, ◌≤◌, Bool, true, false, ◌||◌, not, ◌==◌, [], ◌∷◌, ◌++◌, get_or, refl, ap, sym, subst, ◌∙◌, arith, IsTrue}
 use Rattle.std.proofs.lemmas.Bool.Decides.{nat_tests}
 use Rattle.std.specs.Prelude.{nat_le}
@@ -45,17 +46,17 @@ truth_begins true = record { first = 84; more = 82 ∷ 85 ∷ 69 ∷ []; is = re
 truth_begins false = record { first = 70; more = 65 ∷ 76 ∷ 83 ∷ 69 ∷ []; is = refl; begins = refl }
 
 sign_begins : (s : T.Sign) → Begins (T.Signed s) (T.sign_text s)
-sign_begins T.Sign.Eq = record { first = 61; more = []; is = refl; begins = refl }
-sign_begins T.Sign.Ne = record { first = 60; more = 62 ∷ []; is = refl; begins = refl }
-sign_begins T.Sign.Lt = record { first = 60; more = []; is = refl; begins = refl }
-sign_begins T.Sign.Le = record { first = 60; more = 61 ∷ []; is = refl; begins = refl }
-sign_begins T.Sign.Gt = record { first = 62; more = []; is = refl; begins = refl }
-sign_begins T.Sign.Ge = record { first = 62; more = 61 ∷ []; is = refl; begins = refl }
-sign_begins T.Sign.Join = record { first = 38; more = []; is = refl; begins = refl }
-sign_begins T.Sign.Plus = record { first = 43; more = []; is = refl; begins = refl }
-sign_begins T.Sign.Minus = record { first = 45; more = []; is = refl; begins = refl }
-sign_begins T.Sign.Times = record { first = 42; more = []; is = refl; begins = refl }
-sign_begins T.Sign.Over = record { first = 47; more = []; is = refl; begins = refl }
+sign_begins (T.Sign.Operator F.Op.Eq) = record { first = 61; more = []; is = refl; begins = refl }
+sign_begins (T.Sign.Operator F.Op.Ne) = record { first = 60; more = 62 ∷ []; is = refl; begins = refl }
+sign_begins (T.Sign.Operator F.Op.Lt) = record { first = 60; more = []; is = refl; begins = refl }
+sign_begins (T.Sign.Operator F.Op.Le) = record { first = 60; more = 61 ∷ []; is = refl; begins = refl }
+sign_begins (T.Sign.Operator F.Op.Gt) = record { first = 62; more = []; is = refl; begins = refl }
+sign_begins (T.Sign.Operator F.Op.Ge) = record { first = 62; more = 61 ∷ []; is = refl; begins = refl }
+sign_begins (T.Sign.Operator F.Op.Join) = record { first = 38; more = []; is = refl; begins = refl }
+sign_begins (T.Sign.Operator F.Op.Add) = record { first = 43; more = []; is = refl; begins = refl }
+sign_begins (T.Sign.Operator F.Op.Sub) = record { first = 45; more = []; is = refl; begins = refl }
+sign_begins (T.Sign.Operator F.Op.Mul) = record { first = 42; more = []; is = refl; begins = refl }
+sign_begins (T.Sign.Operator F.Op.Div) = record { first = 47; more = []; is = refl; begins = refl }
 sign_begins T.Sign.Hash = record { first = 35; more = []; is = refl; begins = refl }
 sign_begins T.Sign.LeftParen = record { first = 40; more = []; is = refl; begins = refl }
 sign_begins T.Sign.RightParen = record { first = 41; more = []; is = refl; begins = refl }

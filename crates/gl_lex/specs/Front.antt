@@ -1,4 +1,5 @@
 -- The token in front of a text that isn't empty and begins with no space.
+use Rattle.gl_calculus.specs.Formulas.Formula as F
 use Rattle.std.specs.Prelude.{◌≡◌, ℕ, ◌+◌, ◌-◌, ◌*◌, ◌<◌, ◌≤◌, Bool, true, false, if◌then◌else◌, ◌==◌, take, drop, length, Option, Some, None, slice_index, Result, Ok, Err, ⊤, bytes_eq}
 use Rattle.std.specs.List.{prefix_len, fold}
 use Rattle.std.specs.declared.alloc.Global.{Global}
@@ -60,11 +61,11 @@ word_token w = if bytes_eq w (truth_text true) then T.Truth true else if bytes_e
 
 abbrev pub sign_at : ℕ → ℕ → Option T.Sign
 sign_at b next =
-    if b == 61 then Some T.Sign.Eq
-    else if b == 60 then (if next == 62 then Some T.Sign.Ne else if next == 61 then Some T.Sign.Le else Some T.Sign.Lt)
-    else if b == 62 then (if next == 61 then Some T.Sign.Ge else Some T.Sign.Gt)
-    else if b == 38 then Some T.Sign.Join else if b == 43 then Some T.Sign.Plus else if b == 45 then Some T.Sign.Minus
-    else if b == 42 then Some T.Sign.Times else if b == 47 then Some T.Sign.Over else if b == 35 then Some T.Sign.Hash
+    if b == 61 then Some (T.Sign.Operator F.Op.Eq)
+    else if b == 60 then (if next == 62 then Some (T.Sign.Operator F.Op.Ne) else if next == 61 then Some (T.Sign.Operator F.Op.Le) else Some (T.Sign.Operator F.Op.Lt))
+    else if b == 62 then (if next == 61 then Some (T.Sign.Operator F.Op.Ge) else Some (T.Sign.Operator F.Op.Gt))
+    else if b == 38 then Some (T.Sign.Operator F.Op.Join) else if b == 43 then Some (T.Sign.Operator F.Op.Add) else if b == 45 then Some (T.Sign.Operator F.Op.Sub)
+    else if b == 42 then Some (T.Sign.Operator F.Op.Mul) else if b == 47 then Some (T.Sign.Operator F.Op.Div) else if b == 35 then Some T.Sign.Hash
     else if b == 40 then Some T.Sign.LeftParen else if b == 41 then Some T.Sign.RightParen
     else if b == 44 then Some T.Sign.Comma else if b == 58 then Some T.Sign.Colon else None
 

@@ -1,4 +1,5 @@
 -- The tokens of the language that those of the code stand for.
+use Rattle.gl_calculus.specs.Formulas.Formula as F
 use Rattle.std.specs.Prelude.{◌≡◌, ℕ, ◌+◌, ◌^◌, ◌<◌, ◌≤◌, ℤ, pos, negsuc, List, [], ◌∷◌, map, slice_range, Result, Ok, Err, ⊤}
 use Rattle.std.specs.List.{AllByRecursion}
 use Rattle.std.specs.Rc.{rc_str_bytes}
@@ -15,17 +16,17 @@ use Rattle.gl_lex.specs.declared.fault.LexFault.{LexFault}
 use Rattle.gl_lex.specs.declared.fault.LexFault.TheVariants as fault
 
 abbrev pub sign_of : Sign → T.Sign
-sign_of s.Eq = T.Sign.Eq
-sign_of s.Ne = T.Sign.Ne
-sign_of s.Lt = T.Sign.Lt
-sign_of s.Le = T.Sign.Le
-sign_of s.Gt = T.Sign.Gt
-sign_of s.Ge = T.Sign.Ge
-sign_of s.Join = T.Sign.Join
-sign_of s.Plus = T.Sign.Plus
-sign_of s.Minus = T.Sign.Minus
-sign_of s.Times = T.Sign.Times
-sign_of s.Over = T.Sign.Over
+sign_of s.Eq = (T.Sign.Operator F.Op.Eq)
+sign_of s.Ne = (T.Sign.Operator F.Op.Ne)
+sign_of s.Lt = (T.Sign.Operator F.Op.Lt)
+sign_of s.Le = (T.Sign.Operator F.Op.Le)
+sign_of s.Gt = (T.Sign.Operator F.Op.Gt)
+sign_of s.Ge = (T.Sign.Operator F.Op.Ge)
+sign_of s.Join = (T.Sign.Operator F.Op.Join)
+sign_of s.Plus = (T.Sign.Operator F.Op.Add)
+sign_of s.Minus = (T.Sign.Operator F.Op.Sub)
+sign_of s.Times = (T.Sign.Operator F.Op.Mul)
+sign_of s.Over = (T.Sign.Operator F.Op.Div)
 sign_of s.Hash = T.Sign.Hash
 sign_of s.LeftParen = T.Sign.LeftParen
 sign_of s.RightParen = T.Sign.RightParen

@@ -18,20 +18,20 @@ levels F.Level.Sum = omega arith
 levels F.Level.Prod = omega arith
 
 pub compares : (s : Sign) (o : Op) → comparison s ≡ Some o → binds s ≡ 1
-compares T.Sign.Eq o h = omega arith
-compares T.Sign.Ne o h = omega arith
-compares T.Sign.Lt o h = omega arith
-compares T.Sign.Le o h = omega arith
-compares T.Sign.Gt o h = omega arith
-compares T.Sign.Ge o h = omega arith
+compares (T.Sign.Operator F.Op.Eq) o h = omega arith
+compares (T.Sign.Operator F.Op.Ne) o h = omega arith
+compares (T.Sign.Operator F.Op.Lt) o h = omega arith
+compares (T.Sign.Operator F.Op.Le) o h = omega arith
+compares (T.Sign.Operator F.Op.Gt) o h = omega arith
+compares (T.Sign.Operator F.Op.Ge) o h = omega arith
 compares _ o h = cc
 
 pub operates : (l : Level) (s : Sign) (o : Op) → operator l s ≡ Some o → binds s ≡ chain_end l
-operates F.Level.Cat T.Sign.Join o h = omega arith
-operates F.Level.Sum T.Sign.Plus o h = omega arith
-operates F.Level.Sum T.Sign.Minus o h = omega arith
-operates F.Level.Prod T.Sign.Times o h = omega arith
-operates F.Level.Prod T.Sign.Over o h = omega arith
+operates F.Level.Cat (T.Sign.Operator F.Op.Join) o h = omega arith
+operates F.Level.Sum (T.Sign.Operator F.Op.Add) o h = omega arith
+operates F.Level.Sum (T.Sign.Operator F.Op.Sub) o h = omega arith
+operates F.Level.Prod (T.Sign.Operator F.Op.Mul) o h = omega arith
+operates F.Level.Prod (T.Sign.Operator F.Op.Div) o h = omega arith
 operates _ _ o h = cc
 
 pub looser : (l : Level) → chain_end l < operand_end l

@@ -113,17 +113,17 @@ plains_pushed text items longer x h = ap (plains text) h ∙ plains_push text it
 -- ---- signs
 
 abbrev sign_back : T.Sign → Sign
-sign_back T.Sign.Eq = s.Eq
-sign_back T.Sign.Ne = s.Ne
-sign_back T.Sign.Lt = s.Lt
-sign_back T.Sign.Le = s.Le
-sign_back T.Sign.Gt = s.Gt
-sign_back T.Sign.Ge = s.Ge
-sign_back T.Sign.Join = s.Join
-sign_back T.Sign.Plus = s.Plus
-sign_back T.Sign.Minus = s.Minus
-sign_back T.Sign.Times = s.Times
-sign_back T.Sign.Over = s.Over
+sign_back (T.Sign.Operator F.Op.Eq) = s.Eq
+sign_back (T.Sign.Operator F.Op.Ne) = s.Ne
+sign_back (T.Sign.Operator F.Op.Lt) = s.Lt
+sign_back (T.Sign.Operator F.Op.Le) = s.Le
+sign_back (T.Sign.Operator F.Op.Gt) = s.Gt
+sign_back (T.Sign.Operator F.Op.Ge) = s.Ge
+sign_back (T.Sign.Operator F.Op.Join) = s.Join
+sign_back (T.Sign.Operator F.Op.Add) = s.Plus
+sign_back (T.Sign.Operator F.Op.Sub) = s.Minus
+sign_back (T.Sign.Operator F.Op.Mul) = s.Times
+sign_back (T.Sign.Operator F.Op.Div) = s.Over
 sign_back T.Sign.Hash = s.Hash
 sign_back T.Sign.LeftParen = s.LeftParen
 sign_back T.Sign.RightParen = s.RightParen

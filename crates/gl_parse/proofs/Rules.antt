@@ -209,25 +209,25 @@ never_at : {A : Type 0} {R : Form A} {k : ℕ} {ts xs : Tokens} → ts ≡ xs �
 never_at {A} {R} {k} h n = subst (λ z. Never R k z) (sym h) n
 
 module _ {us vs : Tokens} {t : Raw} (one : Only IsUnary 5 us t vs) where
-  minus_only : (u : Raw) (other : Tokens) → IsUnary (Signed T.Sign.Minus ∷ us) u other → Ends 5 other → (u ≡ G.Raw.Neg t) × (other ≡ vs)
+  minus_only : (u : Raw) (other : Tokens) → IsUnary (Signed (T.Sign.Operator F.Op.Sub) ∷ us) u other → Ends 5 other → (u ≡ G.Raw.Neg t) × (other ≡ vs)
   minus_only u other (neg c) e = let p = one.only _ _ c e in (ap G.Raw.Neg p.0, p.1)
   minus_only u other (atom c) e = elim c [ ]
 
-  pub unary_minus : {ts : Tokens} {n : Raw} → ts ≡ Signed T.Sign.Minus ∷ us → n ≡ G.Raw.Neg t → Only IsUnary 5 ts n vs
+  pub unary_minus : {ts : Tokens} {n : Raw} → ts ≡ Signed (T.Sign.Operator F.Op.Sub) ∷ us → n ≡ G.Raw.Neg t → Only IsUnary 5 ts n vs
   unary_minus h k = at h k (record { reads = neg one.reads; only = minus_only })
 
-minus_never : {us : Tokens} → Never IsUnary 5 us → (u : Raw) (other : Tokens) → IsUnary (Signed T.Sign.Minus ∷ us) u other → Ends 5 other → ⊥
+minus_never : {us : Tokens} → Never IsUnary 5 us → (u : Raw) (other : Tokens) → IsUnary (Signed (T.Sign.Operator F.Op.Sub) ∷ us) u other → Ends 5 other → ⊥
 minus_never n u other (neg c) e = n.never _ _ c e
 minus_never n u other (atom c) e = elim c [ ]
 
-pub unary_minus_none : {ts us : Tokens} → Never IsUnary 5 us → ts ≡ Signed T.Sign.Minus ∷ us → Never IsUnary 5 ts
+pub unary_minus_none : {ts us : Tokens} → Never IsUnary 5 us → ts ≡ Signed (T.Sign.Operator F.Op.Sub) ∷ us → Never IsUnary 5 ts
 unary_minus_none n h = never_at h (record { never = minus_never n })
 
-atom_by : {ts : Tokens} → ((us : Tokens) → ts ≡ Signed T.Sign.Minus ∷ us → ⊥) → {u : Raw} {other : Tokens} → IsUnary ts u other → IsAtom ts u other
+atom_by : {ts : Tokens} → ((us : Tokens) → ts ≡ Signed (T.Sign.Operator F.Op.Sub) ∷ us → ⊥) → {u : Raw} {other : Tokens} → IsUnary ts u other → IsAtom ts u other
 atom_by free (neg c) = absurd (free _ refl)
 atom_by free (atom c) = c
 
-module _ {ts : Tokens} (free : (us : Tokens) → ts ≡ Signed T.Sign.Minus ∷ us → ⊥) where
+module _ {ts : Tokens} (free : (us : Tokens) → ts ≡ Signed (T.Sign.Operator F.Op.Sub) ∷ us → ⊥) where
   pub unary_atom : {us : Tokens} {t : Raw} → Only IsAtom 5 ts t us → Only IsUnary 5 ts t us
   unary_atom one = record { reads = atom one.reads; only = λ u other r e. one.only u other (atom_by free r) e }
 

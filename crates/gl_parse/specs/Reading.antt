@@ -20,11 +20,11 @@ use Rattle.gl_parse.specs.declared.stop.Stop.TheVariants.{Syntax, NoMemory}
 abbrev pub binds : Sign → ℕ
 binds T.Sign.Hash = 5
 binds T.Sign.Colon = 5
-binds T.Sign.Times = 4
-binds T.Sign.Over = 4
-binds T.Sign.Plus = 3
-binds T.Sign.Minus = 3
-binds T.Sign.Join = 2
+binds (T.Sign.Operator F.Op.Mul) = 4
+binds (T.Sign.Operator F.Op.Div) = 4
+binds (T.Sign.Operator F.Op.Add) = 3
+binds (T.Sign.Operator F.Op.Sub) = 3
+binds (T.Sign.Operator F.Op.Join) = 2
 binds T.Sign.LeftParen = 0
 binds T.Sign.RightParen = 0
 binds T.Sign.Comma = 0

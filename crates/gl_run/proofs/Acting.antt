@@ -3,7 +3,7 @@ use Rattle.std.proofs.Common.{◌≡◌, ◌∙◌, ℕ, Bool, true, false, Opti
 use Rattle.gl_calculus.specs.Formulas.Formula as F
 use Rattle.gl_language.specs.Texts.Text.{Bytes}
 use Rattle.gl_protocol.specs.Framing.Framing.{Item}
-use Rattle.gl_protocol.specs.Scripts.Commands.{LineWord, TruncatedWord, error_line, ok_line}
+use Rattle.gl_protocol.specs.Scripts.Commands.{error_line, ok_line}
 use Rattle.gl_protocol.specs.Scripts.Script.{Script}
 use Rattle.gl_protocol.specs.Scripts.Acts.{Acts}
 use Rattle.gl_protocol.specs.Scripts.Output.{is_line}
@@ -42,14 +42,14 @@ module _ (o : Option Item) (K : Known) (n : ℕ) where
 -- ---- the same of a reply, where there is one
 
 module _ {V E : Type 0} (items : V → Bytes) (s : Script) (r : Result V E) where
-  pub long_reply : (version : F.Version) → IfOk r (λ v. items v ≡ error_line LineWord) → IfOk r (λ v. Acts csv_records version s Item.Long s (items v))
+  pub long_reply : (version : F.Version) → IfOk r (λ v. items v ≡ error_line (codes "line")) → IfOk r (λ v. Acts csv_records version s Item.Long s (items v))
   long_reply version h =
-      let P : Result V E → Type 0 = λ r. IfOk r (λ v. items v ≡ error_line LineWord) → IfOk r (λ v. Acts csv_records version s Item.Long s (items v)) in
+      let P : Result V E → Type 0 = λ r. IfOk r (λ v. items v ≡ error_line (codes "line")) → IfOk r (λ v. Acts csv_records version s Item.Long s (items v)) in
       (elim r as P [ Ok v ↦ λ e. rw e Acts.long | Err x ↦ λ e. tt ]) h
 
-  pub truncated_reply : (version : F.Version) → IfOk r (λ v. items v ≡ error_line TruncatedWord) → IfOk r (λ v. Acts csv_records version s Item.Truncated s (items v))
+  pub truncated_reply : (version : F.Version) → IfOk r (λ v. items v ≡ error_line (codes "truncated")) → IfOk r (λ v. Acts csv_records version s Item.Truncated s (items v))
   truncated_reply version h =
-      let P : Result V E → Type 0 = λ r. IfOk r (λ v. items v ≡ error_line TruncatedWord) → IfOk r (λ v. Acts csv_records version s Item.Truncated s (items v)) in
+      let P : Result V E → Type 0 = λ r. IfOk r (λ v. items v ≡ error_line (codes "truncated")) → IfOk r (λ v. Acts csv_records version s Item.Truncated s (items v)) in
       (elim r as P [ Ok v ↦ λ e. rw e Acts.truncated | Err x ↦ λ e. tt ]) h
 
 module _ {V E : Type 0} (items : V → Bytes) (K K' : Known) (n m : ℕ) (r : Result V E) (o : Option Item) where

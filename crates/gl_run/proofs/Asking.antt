@@ -72,19 +72,19 @@ pub changed_does : (version : Version) (s s' : Script) (x : C.Request) (reply : 
 changed_does version s s' x reply is h = by (change s x) refl h
   where
     by : (r : Read Script) → change s x ≡ r → IsChanged r s s' reply → Does csv_records version s x s' reply
-    by (Is t) e k = subst (λ y. Does csv_records version s x s' y) (sym k.1) (T.Does.changed is (e ∙ ap (λ (z : Script). Is z) (sym k.0)))
+    by (Is t) e k = subst (λ y. Does csv_records version s x s' y) (sym k.1) (T.Does.changed is (T.Leaves.left (e ∙ ap (λ (z : Script). Is z) (sym k.0))))
     by (Not w) e k =
         subst (λ y. Does csv_records version s x s' y) (sym k.1)
-        (subst (λ z. Does csv_records version s x z (error_line w)) (sym k.0) (T.Does.unchanged is e))
+        (subst (λ z. Does csv_records version s x z (error_line w)) (sym k.0) (T.Does.changed is (T.Leaves.kept e)))
 
 pub merged_does : (version : Version) (s s' : Script) (d : Edit) (reply : Bytes) → IsMerged s d s' reply → Does csv_records version s (C.Request.Merge d) s' reply
 merged_does version s s' d reply h = by (merge s d h.0) refl h.2
   where
     by : (r : Read Script) → merge s d h.0 ≡ r → IsChanged r s s' reply → Does csv_records version s (C.Request.Merge d) s' reply
-    by (Is t) e k = subst (λ y. Does csv_records version s (C.Request.Merge d) s' y) (sym k.1) (T.Does.merged h.0 h.1 (e ∙ ap (λ (z : Script). Is z) (sym k.0)))
+    by (Is t) e k = subst (λ y. Does csv_records version s (C.Request.Merge d) s' y) (sym k.1) (T.Does.merged h.0 h.1 (T.Leaves.left (e ∙ ap (λ (z : Script). Is z) (sym k.0))))
     by (Not w) e k =
         subst (λ y. Does csv_records version s (C.Request.Merge d) s' y) (sym k.1)
-        (subst (λ z. Does csv_records version s (C.Request.Merge d) z (error_line w)) (sym k.0) (T.Does.unmerged h.0 h.1 e))
+        (subst (λ z. Does csv_records version s (C.Request.Merge d) z (error_line w)) (sym k.0) (T.Does.merged h.0 h.1 (T.Leaves.kept e)))
 
 pub export_does : (version : Version) (s : Script) (reply : Bytes) → IsExport s reply → Does csv_records version s C.Request.Export s reply
 export_does version s reply h = by s.replica refl h
@@ -94,9 +94,9 @@ export_does version s reply h = by s.replica refl h
     by None e k = subst (λ y. Does csv_records version s C.Request.Export s y) (sym k) (T.Does.export_alone e)
 
 -- the version line is refused
-pub version_refused : {E : Type 0} (version : Version) (s : Script) (q : Request) (result : Result (Vec ℕ Global) E) → q ≡ r.Version → IfOk result (λ reply. reply.items ≡ error_line C.CommandWord) → IfOk result (λ reply. AnswersAll version s s q reply.items)
+pub version_refused : {E : Type 0} (version : Version) (s : Script) (q : Request) (result : Result (Vec ℕ Global) E) → q ≡ r.Version → IfOk result (λ reply. reply.items ≡ error_line (codes "command")) → IfOk result (λ reply. AnswersAll version s s q reply.items)
 version_refused {E} version s q result is h =
-    let P : Vec ℕ Global → Type 0 = λ reply. reply.items ≡ error_line C.CommandWord in
+    let P : Vec ℕ Global → Type 0 = λ reply. reply.items ≡ error_line (codes "command") in
     let Q : Vec ℕ Global → Type 0 = λ reply. AnswersAll version s s q reply.items in
     IfOk-weaker result P Q (λ reply e l none k. subst (λ y. Acts csv_records version s (Line l) s y) (sym e) (T.Acts.refused (subst (λ (y : Request). Asks l y) is k).1)) h
 

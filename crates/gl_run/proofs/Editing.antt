@@ -1,4 +1,5 @@
 -- Edits within the limits of a sheet, and refused ones.
+use Rattle.std.specs.Prelude.{codes}
 use Rattle.std.proofs.Common.{◌≡◌, ◌∙◌, ℕ, ◌≤◌, ◌<◌, nat_lt, Bool, true, false, [], ◌∷◌, ◌++◌, Result, Ok, Err, OnOk, OnErr, if◌then◌else◌, length, append-nil, ap, refl, sym, arith}
 use Rattle.std.proofs.lemmas.Bool.Decides.{nat_tests}
 use Rattle.gl_calculus.specs.Grid.Limits.{max_formulas, max_contents}
@@ -20,7 +21,7 @@ less a b h = grind (arith, nat_tests)
 
 -- by the tests of the limits
 abbrev by_tests : Bool → Bool → Cells → Read Cells
-by_tests b d goal = if b then Not C.FormulasWord else if d then Not C.ContentsWord else Is goal
+by_tests b d goal = if b then Not (codes "formulas") else if d then Not (codes "contents") else Is goal
 
 tested : (goal : Cells) (b d : Bool) → nat_lt max_formulas (length (formula_addresses goal)) ≡ b → nat_lt max_contents (length goal) ≡ d → allowed goal ≡ by_tests b d goal
 tested goal b d p q = ap (λ x. by_tests x (nat_lt max_contents (length goal)) goal) p ∙ ap (λ x. by_tests b x goal) q

@@ -9,7 +9,15 @@ use Rattle.gl_protocol.specs.Scripts.Output.{AreReplies}
 use Rattle.gl_protocol.specs.Run.Records.{csv_records}
 use Rattle.laws_protocol.proofs.Scripts.Fronts.{first_replies_first}
 use Rattle.laws_protocol.proofs.Scripts.Outputs.{one_output}
-use Rattle.gl_protocol.specs.Run.Out.{IsPrefix, Fits, Exceeds}
+use Rattle.gl_protocol.specs.Run.Out.{IsPrefix, Front, Exceeds}
+
+-- the replies to these items have n bytes at most
+abbrev pub Fits : ℕ → List Item → Type 0
+Fits n is = (replies : List (List ℕ)) × AreReplies csv_records is replies × (length (concat replies) ≤ n)
+
+-- the first of the first items are first items
+pub front_within : {a b : List Item} → Front a → IsPrefix a b → Front b
+front_within {a = a} {b = b} f p = record { items = f.items; are_first = IsPrefix-trans f.items a b f.are_first p; replies = f.replies; are_replies = f.are_replies }
 
 shorter : (rs qs : List (List ℕ)) → length (concat rs) ≤ length (concat (rs ++ qs))
 shorter rs qs = let e : length (concat (rs ++ qs)) ≡ length (concat rs) + length (concat qs) = ap length (concat-append rs qs) ∙ length-append (concat rs) (concat qs) in omega (arith, e)
@@ -35,7 +43,13 @@ more_than a b h = by (nat_le a b) refl
 
 -- the replies to these first items have no room
 pub exceeding : (n : ℕ) (l is : List Item) (replies : List (List ℕ)) → IsPrefix l is → AreReplies csv_records l replies → (length (concat replies) ≤ n → ⊥) → Exceeds n is
-exceeding n l is replies p out small = ((l, p, replies, out, more_than (length (concat replies)) n small), λ fits. small (first_fits n l is replies p out fits))
+exceeding n l is replies p out small = (record { items = l; are_first = p; replies = replies; are_replies = out }, more_than (length (concat replies)) n small)
 
 pub exceeds_within : (n : ℕ) (a b : List Item) → IsPrefix a b → Exceeds n a → Exceeds n b
-exceeds_within n a b p h = ((h.0.0, IsPrefix-trans h.0.0 a b h.0.1 p, h.0.2, h.0.3, h.0.4), λ fits. h.1 (front_fits n a b p fits))
+exceeds_within n a b p h = (front_within h.0 p, h.1)
+
+-- so those to all have no room
+pub none_fit : (n : ℕ) (is : List Item) → Exceeds n is → Fits n is → ⊥
+none_fit n is h fits =
+    let le : length (concat h.0.replies) ≤ n = first_fits n h.0.items is h.0.replies h.0.are_first h.0.are_replies fits in
+    omega (arith, le, h.1)

@@ -1,4 +1,5 @@
 -- What edits of other replicas come to.
+use Rattle.std.specs.Prelude.{codes}
 use Rattle.std.proofs.Common.{◌≡◌, ◌∙◌, ◌⊎◌, inl, inr, ℕ, ◌+◌, ◌<◌, ◌≤◌, true, false, Bool, cond, List, [], ◌∷◌, length, Option, Some, None, IsSome, option_map, ◌++◌, take, slice_get, append-nil, append_assoc, IsTrue, Result, Ok, Err, refl, sym, ap, subst, arith}
 use Rattle.std.proofs.lemmas.Grind.{common_steps}
 use Rattle.gl_calculus.specs.Grid.Grid.{Addr, AreInOrder}
@@ -8,7 +9,7 @@ use Rattle.gl_calculus.specs.Edits.Replicas as R
 use Rattle.gl_calculus.specs.Edits.Replicas.{Stamp, Edit, Replica, Judged, IsJudged, IsTakeable, register_at, taking, missing, has_room, is_earlier}
 use Rattle.gl_language.specs.Texts.Text.{Bytes}
 use Rattle.gl_protocol.specs.Scripts.Commands as C
-use Rattle.gl_protocol.specs.Scripts.Commands.{Is, Not, Word, SiteWord, ConflictWord, EditsWord, error_line, ok_line}
+use Rattle.gl_protocol.specs.Scripts.Commands.{Is, Not, error_line, ok_line}
 use Rattle.gl_protocol.specs.Scripts.Script as P
 use Rattle.gl_protocol.specs.Scripts.Script.{register_of, merge, allowed_change}
 use Rattle.gl_protocol.specs.Replies.Tables.{line, edit_text, export_text}
@@ -45,7 +46,7 @@ module _ (s : P.Script) (e : Edit) (r : Replica) (is : s.replica ≡ Some r) whe
   judged_there : (j : Judged) → IsJudged (register_at r.registers e.place) e j → IsJudged (register_of s e.place) e j
   judged_there j h = subst (λ (o : Option Edit). IsJudged o e j) (sym register_there) h
 
-  conflicts : merge s e R.Judged.Conflict ≡ Not ConflictWord
+  conflicts : merge s e R.Judged.Conflict ≡ Not (codes "conflict")
   conflicts = rw is refl
 
   loses : merge s e R.Judged.Loses ≡ Is (record s { replica = Some (taking r e) })
@@ -57,23 +58,23 @@ module _ (s : P.Script) (e : Edit) (r : Replica) (is : s.replica ≡ Some r) whe
   wins : (T : Cells) → has_room (taking r e) ≡ true → allowed_change s.sheet e.place e.content ≡ Is T → merge s e R.Judged.Wins ≡ Is (record s { sheet = T; replica = Some (taking r e) })
   wins T f k = rw (is, f, k) refl
 
-  wins_over : (w : Word) → has_room (taking r e) ≡ true → allowed_change s.sheet e.place e.content ≡ Not w → merge s e R.Judged.Wins ≡ Not w
+  wins_over : (w : Bytes) → has_room (taking r e) ≡ true → allowed_change s.sheet e.place e.content ≡ Not w → merge s e R.Judged.Wins ≡ Not w
   wins_over w f k = rw (is, f, k) refl
 
-  wins_full : has_room (taking r e) ≡ false → merge s e R.Judged.Wins ≡ Not EditsWord
+  wins_full : has_room (taking r e) ≡ false → merge s e R.Judged.Wins ≡ Not (codes "edits")
   wins_full f = rw (is, f) refl
 
 -- ---- refusals
 
-pub alone_merged : (s : P.Script) (e : Edit) (reply : Bytes) → s.replica ≡ None → reply ≡ error_line SiteWord → IsMerged s e s reply
+pub alone_merged : (s : P.Script) (e : Edit) (reply : Bytes) → s.replica ≡ None → reply ≡ error_line (codes "site") → IsMerged s e s reply
 alone_merged s e reply is p =
     let none : register_of s e.place ≡ None = rw is refl in
-    let not_one : merge s e R.Judged.Wins ≡ Not SiteWord = rw is refl in
-    (R.Judged.Wins, subst (λ (o : Option Edit). IsJudged o e R.Judged.Wins) (sym none) tt, changed_not (merge s e R.Judged.Wins) s s reply SiteWord not_one refl p)
+    let not_one : merge s e R.Judged.Wins ≡ Not (codes "site") = rw is refl in
+    (R.Judged.Wins, subst (λ (o : Option Edit). IsJudged o e R.Judged.Wins) (sym none) tt, changed_not (merge s e R.Judged.Wins) s s reply (codes "site") not_one refl p)
 
-pub conflict_merged : (s : P.Script) (e : Edit) (reply : Bytes) → IsJudgedIn s e R.Judged.Conflict → reply ≡ error_line ConflictWord → IsMerged s e s reply
+pub conflict_merged : (s : P.Script) (e : Edit) (reply : Bytes) → IsJudgedIn s e R.Judged.Conflict → reply ≡ error_line (codes "conflict") → IsMerged s e s reply
 conflict_merged s e reply h p =
-    (R.Judged.Conflict, judged_there s e h.0 h.1 R.Judged.Conflict h.2, changed_not (merge s e R.Judged.Conflict) s s reply ConflictWord (conflicts s e h.0 h.1) refl p)
+    (R.Judged.Conflict, judged_there s e h.0 h.1 R.Judged.Conflict h.2, changed_not (merge s e R.Judged.Conflict) s s reply (codes "conflict") (conflicts s e h.0 h.1) refl p)
 
 -- ---- what the replica takes
 
@@ -136,11 +137,11 @@ module _ (x : Script) (e : EditValue) (h : IsLater (script_of x) (edit_tree e)) 
       let there = ap (λ (z : Replica). length (taking z (edit_tree e)).registers) same in
       omega (arith, one, long, there)
 
-  pub full_merged : (reply : Bytes) → IsFull x e.place → reply ≡ error_line EditsWord → IsMerged (script_of x) (edit_tree e) (script_of x) reply
+  pub full_merged : (reply : Bytes) → IsFull x e.place → reply ≡ error_line (codes "edits") → IsMerged (script_of x) (edit_tree e) (script_of x) reply
   full_merged reply f p =
       let s = script_of x in
       let gone = room_gone (taking h.0 (edit_tree e)) (length (registers_of f.replica)) (missing (registers_of f.replica) (e.place ∷ [])) (count_with f.replica f.is f.ordered) f.many in
-      (R.Judged.Wins, judged_there s (edit_tree e) h.0 h.1 R.Judged.Wins h.2, changed_not (merge s (edit_tree e) R.Judged.Wins) s s reply EditsWord (wins_full s (edit_tree e) h.0 h.1 gone) refl p)
+      (R.Judged.Wins, judged_there s (edit_tree e) h.0 h.1 R.Judged.Wins h.2, changed_not (merge s (edit_tree e) R.Judged.Wins) s s reply (codes "edits") (wins_full s (edit_tree e) h.0 h.1 gone) refl p)
 
   module _ (c : View) (reply : Bytes) (room : HasRoom x e.place) where
     there : has_room (taking h.0 (edit_tree e)) ≡ true
@@ -154,7 +155,7 @@ module _ (x : Script) (e : EditValue) (h : IsLater (script_of x) (edit_tree e)) 
           changed_to (merge s (edit_tree e) R.Judged.Wins) s s' reply (wins s (edit_tree e) h.0 h.1 (sheet_of c) there k ∙ ap (λ (z : P.Script). Is z) (sym (t h.0 h.1))) p,
         )
 
-    over_merged : (w : Word) → allowed_change (sheet_of x.calc) e.place (edit_tree e).content ≡ Not w → sheet_of c ≡ sheet_of x.calc → reply ≡ error_line w → IsMerged (script_of x) (edit_tree e) (script_of (record x { calc = c })) reply
+    over_merged : (w : Bytes) → allowed_change (sheet_of x.calc) e.place (edit_tree e).content ≡ Not w → sheet_of c ≡ sheet_of x.calc → reply ≡ error_line w → IsMerged (script_of x) (edit_tree e) (script_of (record x { calc = c })) reply
     over_merged w k same p =
         let s = script_of x in (
           R.Judged.Wins,
@@ -163,8 +164,8 @@ module _ (x : Script) (e : EditValue) (h : IsLater (script_of x) (edit_tree e)) 
         )
 
     pub put_merged : (f : PutFault) → Puts (Err f) (allowed_change (sheet_of x.calc) e.place (edit_tree e).content) (sheet_of x.calc) (sheet_of c) → IsRefusal (put_word f) reply → IsMerged (script_of x) (edit_tree e) (script_of (record x { calc = c })) reply
-    put_merged put.Formulas k p = over_merged C.FormulasWord k.1 k.0 p
-    put_merged put.Contents k p = over_merged C.ContentsWord k.1 k.0 p
+    put_merged put.Formulas k p = over_merged (codes "formulas") k.1 k.0 p
+    put_merged put.Contents k p = over_merged (codes "contents") k.1 k.0 p
     put_merged put.NoMemory k p = absurd p
 
 -- ---- room
@@ -244,15 +245,15 @@ proper_shared (Some c) (Some d) e h = let same : content_tree c ≡ content_tree
 
 -- ---- a script becomes a replica
 
-pub site_in_replica : (s : P.Script) (n : ℕ) (r : Replica) (reply : Bytes) → s.replica ≡ Some r → reply ≡ error_line SiteWord → IsChanged (P.sited s n) s s reply
-site_in_replica s n r reply is p = let no : P.sited s n ≡ Not SiteWord = rw is refl in changed_not (P.sited s n) s s reply SiteWord no refl p
+pub site_in_replica : (s : P.Script) (n : ℕ) (r : Replica) (reply : Bytes) → s.replica ≡ Some r → reply ≡ error_line (codes "site") → IsChanged (P.sited s n) s s reply
+site_in_replica s n r reply is p = let no : P.sited s n ≡ Not (codes "site") = rw is refl in changed_not (P.sited s n) s s reply (codes "site") no refl p
 
-pub site_too_late : (s : P.Script) (n : ℕ) (reply : Bytes) → s.replica ≡ None → 0 < length s.sheet → reply ≡ error_line SiteWord → IsChanged (P.sited s n) s s reply
+pub site_too_late : (s : P.Script) (n : ℕ) (reply : Bytes) → s.replica ≡ None → 0 < length s.sheet → reply ≡ error_line (codes "site") → IsChanged (P.sited s n) s s reply
 site_too_late s n reply is some p = by s.sheet refl some
   where
     by : (S : Cells) → s.sheet ≡ S → 0 < length S → IsChanged (P.sited s n) s s reply
     by [] e l = absurd (omega (arith, l))
-    by (c ∷ S) e l = let no : P.sited s n ≡ Not SiteWord = rw (is, e) refl in changed_not (P.sited s n) s s reply SiteWord no refl p
+    by (c ∷ S) e l = let no : P.sited s n ≡ Not (codes "site") = rw (is, e) refl in changed_not (P.sited s n) s s reply (codes "site") no refl p
 
 pub site_done : (s : P.Script) (n : ℕ) (q : Replica) (h : History) (reply : Bytes) → s.replica ≡ None → length s.sheet ≡ 0 → q ≡ R.new_replica n → h ≡ no_history → reply ≡ ok_line → IsChanged (P.sited s n) s (record s { replica = Some q; history = h }) reply
 site_done s n q h reply is none e f p = by s.sheet refl none
@@ -271,7 +272,7 @@ site_done s n q h reply is none e f p = by s.sheet refl none
 pub export_some : (s : P.Script) (r : Replica) (reply : Bytes) → s.replica ≡ Some r → reply ≡ export_text r.registers → IsExport s reply
 export_some s r reply is p = rw is p
 
-pub export_none : (s : P.Script) (reply : Bytes) → s.replica ≡ None → reply ≡ error_line SiteWord → IsExport s reply
+pub export_none : (s : P.Script) (reply : Bytes) → s.replica ≡ None → reply ≡ error_line (codes "site") → IsExport s reply
 export_none s reply is p = rw is p
 
 pub lines_more : (xs : List Edit) (e : Edit) → edit_lines (xs ++ e ∷ []) ≡ edit_lines xs ++ line (edit_text e)

@@ -6,7 +6,7 @@ use Rattle.gl_calculus.specs.Edits.Limits.{max_registers}
 use Rattle.gl_calculus.specs.Edits.Replicas.{Stamp, Edit, Changes, Replica, IsJudged, IsTakeable, Wins, IsOlder, AreOlder, register_at, with_edit, next_stamp, taking, taking_all, stamped, missing, has_room}
 use Rattle.gl_calculus.specs.Edits.Steps.{Step, step_of, pushed}
 use Rattle.gl_language.specs.Texts.Text.{Bytes}
-use Rattle.gl_protocol.specs.Scripts.Commands.{Read, Is, Not, Word, error_line, ok_line}
+use Rattle.gl_protocol.specs.Scripts.Commands.{Read, Is, Not, error_line, ok_line}
 use Rattle.gl_protocol.specs.Scripts.Script as P
 use Rattle.gl_protocol.specs.Scripts.Script.{edited}
 use Rattle.laws_protocol.proofs.Scripts.Edited.{alone_done, alone_over, no_stamp, no_room, replica_done}
@@ -120,11 +120,11 @@ refused_by f x cs r is fault.NoMemory h = tt
 pub changed_to : (r : Read P.Script) (s s' : P.Script) (reply : Bytes) → r ≡ Is s' → reply ≡ ok_line → IsChanged r s s' reply
 changed_to r s s' reply e p = subst (λ (z : Read P.Script). IsChanged z s s' reply) (sym e) (refl, p)
 
-pub changed_not : (r : Read P.Script) (s s' : P.Script) (reply : Bytes) (w : Word) → r ≡ Not w → s' ≡ s → reply ≡ error_line w → IsChanged r s s' reply
+pub changed_not : (r : Read P.Script) (s s' : P.Script) (reply : Bytes) (w : Bytes) → r ≡ Not w → s' ≡ s → reply ≡ error_line w → IsChanged r s s' reply
 changed_not r s s' reply w e k p = subst (λ (z : Read P.Script). IsChanged z s s' reply) (sym e) (k, p)
 
 -- an edit that is refused for what it becomes
-pub refused_changed : (o : Option Word) (s s' : P.Script) (cs : Changes) (goal : Read Cells) (reply : Bytes) → s' ≡ s → IsRefusedBy o s' cs → IsRefusal o reply → IsChanged (edited s cs goal) s s' reply
+pub refused_changed : (o : Option Bytes) (s s' : P.Script) (cs : Changes) (goal : Read Cells) (reply : Bytes) → s' ≡ s → IsRefusedBy o s' cs → IsRefusal o reply → IsChanged (edited s cs goal) s s' reply
 refused_changed (Some w) s s' cs goal reply e h p = changed_not (edited s cs goal) s s' reply w (ap (λ (z : P.Script). edited z cs goal) (sym e) ∙ h goal) e p
 refused_changed None s s' cs goal reply e h p = absurd p
 
@@ -147,7 +147,7 @@ module _ (x : Script) (cs : Changes) (c : View) where
       let whole : s' ≡ record s { sheet = sheet_of c; replica = Some (taking_all r (stamped own.stamp cs)) } = k h.0 h.1 ∙ ap (λ (y : List Edit). record s { sheet = sheet_of c; replica = Some (taking_all r y) }) own.edits in
       replica_done s cs r (ap (option_map replica_tree) h.1) goal own.stamp (sheet_of c) own.next own.few e ∙ ap (λ (z : P.Script). Is z) (sym whole)
 
-  over : (z : Ready) (goal : Read Cells) (w : Word) → IsReady x cs z → goal ≡ Not w → edited (script_of x) cs goal ≡ Not w
+  over : (z : Ready) (goal : Read Cells) (w : Bytes) → IsReady x cs z → goal ≡ Not w → edited (script_of x) cs goal ≡ Not w
   over (ready.Step d) goal w h e = alone_over (script_of x) cs w goal (ap (option_map replica_tree) h.0) e
   over (ready.Edits es) goal w h e = in_replica (script_of x) (replica_tree h.0) (ap (option_map replica_tree) h.1) h.2.stamp h.2.next h.2.few
     where

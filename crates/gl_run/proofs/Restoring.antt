@@ -12,7 +12,8 @@ use Rattle.laws_calculus.proofs.SheetEdits.SheetChanges.{found, order_changes}
 use Rattle.laws_calculus.proofs.SheetEdits.SheetOrders.{order_with_all, order_filter}
 use Rattle.laws_calculus.proofs.SheetEdits.TakenBack.{after_changes, found_changes, is_changed, unchanged, contents_are_changes}
 use Rattle.gl_calculus.specs.Edits.Sheets.{and_content, coming}
-use Rattle.gl_protocol.specs.Run.Touched.{and_address, going, without_these}
+use Rattle.gl_run.specs.Going.{and_address}
+use Rattle.gl_protocol.specs.Run.Touched.{going, without_these}
 
 abbrev pub plain_places : Changes → List Addr
 plain_places cs = map (λ (c : Addr × Option Content). c.0) cs

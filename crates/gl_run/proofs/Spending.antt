@@ -11,7 +11,7 @@ use Rattle.gl_language.specs.Texts.Text.{Bytes}
 use Rattle.gl_protocol.specs.Framing.Framing.{Item, Line, Import}
 use Rattle.gl_protocol.specs.Framing.Header.{payload_len}
 use Rattle.gl_protocol.specs.Scripts.Commands as C
-use Rattle.gl_protocol.specs.Scripts.Commands.{Is, Word, ReadsLine, imported, asks_calculation, error_line, ok_line}
+use Rattle.gl_protocol.specs.Scripts.Commands.{Is, ReadsLine, imported, asks_calculation, error_line, ok_line}
 use Rattle.gl_protocol.specs.Scripts.Output.{is_refusal}
 use Rattle.gl_calc.specs.View.{View, sheet_of}
 use Rattle.gl_calc.specs.Answers.{Answers, Takes, spent_tree}
@@ -49,17 +49,17 @@ module _ (places : List Addr) (K K' : Known) (tables : K'.tables ≡ K.tables) (
       let done : Touches ok_line places K K' = (tables, made_for, t) in
       subst (λ (r : Bytes). Touches r places K K') (sym e) done
 
-  touches_refused : (w : Word) → reply ≡ error_line w → K'.touched ≡ K.touched → Touches reply places K K'
+  touches_refused : (w : Bytes) → reply ≡ error_line w → K'.touched ≡ K.touched → Touches reply places K K'
   touches_refused w e t =
       let none : Touches (error_line w) places K K' = (tables, made_for, t ∙ sym (append-nil K.touched)) in
       subst (λ (r : Bytes). Touches r places K K') (sym e) none
 
-  pub touches_by_word : (o : Option Word) → IsRefusal o reply → K'.touched ≡ K.touched → Touches reply places K K'
+  pub touches_by_word : (o : Option Bytes) → IsRefusal o reply → K'.touched ≡ K.touched → Touches reply places K K'
   touches_by_word (Some w) e t = touches_refused w e t
   touches_by_word None e t = absurd e
 
 -- what is left as it was is touched nowhere
-pub touches_kept : (places : List Addr) (K K' : Known) → K' ≡ K → (o : Option Word) (reply : Bytes) → IsRefusal o reply → Touches reply places K K'
+pub touches_kept : (places : List Addr) (K K' : Known) → K' ≡ K → (o : Option Bytes) (reply : Bytes) → IsRefusal o reply → Touches reply places K K'
 touches_kept places K K' e o reply p = touches_by_word places K K' (ap (λ (z : Known). z.tables) e) (ap (λ (z : Known). z.version) e) reply o p (ap (λ (z : Known). z.touched) e)
 
 -- the marks of the calculator
@@ -68,18 +68,18 @@ touches_marks x z places reply p m = touches_done places (known_of x) (known_of 
 
 -- ---- refusals
 
-is_error : (w : Word) (reply : Bytes) → reply ≡ error_line w → is_refusal reply ≡ true
+is_error : (w : Bytes) (reply : Bytes) → reply ≡ error_line w → is_refusal reply ≡ true
 is_error w reply e = ap is_refusal e
 
 module _ (version : Version) (K : Known) (n : ℕ) (x : Item) where
-  pub refused_spends : (w : Word) (reply : Bytes) → reply ≡ error_line w → Spends version K x reply K n n
+  pub refused_spends : (w : Bytes) (reply : Bytes) → reply ≡ error_line w → Spends version K x reply K n n
   refused_spends w reply e = S.Spends.refused (is_error w reply e) (touches_nothing reply K)
 
-  pub word_spends : (o : Option Word) (reply : Bytes) → IsRefusal o reply → Spends version K x reply K n n
+  pub word_spends : (o : Option Bytes) (reply : Bytes) → IsRefusal o reply → Spends version K x reply K n n
   word_spends (Some w) reply e = refused_spends w reply e
   word_spends None reply e = absurd e
 
-  pub refused_reply : {E : Type 0} (result : Result (Vec ℕ Global) E) (w : Word) → IfOk result (λ reply. reply.items ≡ error_line w) → IfOk result (λ reply. Spends version K x reply.items K n n)
+  pub refused_reply : {E : Type 0} (result : Result (Vec ℕ Global) E) (w : Bytes) → IfOk result (λ reply. reply.items ≡ error_line w) → IfOk result (λ reply. Spends version K x reply.items K n n)
   refused_reply {E} result w h =
       let P : Vec ℕ Global → Type 0 = λ reply. reply.items ≡ error_line w in
       let Q : Vec ℕ Global → Type 0 = λ reply. Spends version K x reply.items K n n in
@@ -126,7 +126,7 @@ if_untouched {E} version K q z x result is reads other nil = by result
         S.Spends.line (reads l (subst (λ (y : Request). Asks l y) is a)) other t
     by (Err e) = tt
 
-pub if_refused : {E : Type 0} (version : Version) (K : Known) (q : Request) (result : Result (Vec ℕ Global) E) (w : Word) → IfOk result (λ reply. reply.items ≡ error_line w)
+pub if_refused : {E : Type 0} (version : Version) (K : Known) (q : Request) (result : Result (Vec ℕ Global) E) (w : Bytes) → IfOk result (λ reply. reply.items ≡ error_line w)
     → IfOk result (λ reply. (n : ℕ) → LineSpends version K K n n q reply.items)
 if_refused {E} version K q result w h =
     let P : Vec ℕ Global → Type 0 = λ reply. reply.items ≡ error_line w in

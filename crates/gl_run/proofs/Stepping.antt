@@ -1,4 +1,5 @@
 -- Steps that are undone and done again.
+use Rattle.std.specs.Prelude.{codes}
 use Rattle.std.proofs.Common.{◌≡◌, ◌∙◌, true, false, List, [], ◌∷◌, ◌++◌, map, Option, Some, None, option_map, is_some, refl, sym, ap, append_assoc, append-nil}
 use Rattle.gl_calculus.specs.Computation.Lists.{AreDistinct}
 use Rattle.gl_calculus.specs.Grid.Grid.{Addr, single}
@@ -6,7 +7,7 @@ use Rattle.gl_calculus.specs.Formulas.Formula.{Content, Cells, IsSheet}
 use Rattle.gl_calculus.specs.Edits.Replicas.{Changes, Replica}
 use Rattle.gl_calculus.specs.Edits.Steps.{Step, History, befores, afters, latest_step, MovesBack, MovesForward}
 use Rattle.gl_language.specs.Texts.Text.{Bytes}
-use Rattle.gl_protocol.specs.Scripts.Commands.{Is, Not, SiteWord, UndoWord, RedoWord, error_line, ok_line}
+use Rattle.gl_protocol.specs.Scripts.Commands.{Is, Not, error_line, ok_line}
 use Rattle.gl_calculus.specs.Edits.Sheets.{places_in, with_contents, without}
 use Rattle.gl_protocol.specs.Scripts.Script as P
 use Rattle.gl_protocol.specs.Scripts.Script.{undone, redone}
@@ -17,23 +18,24 @@ use Rattle.gl_run.specs.Changed.{IsChanged, Marks}
 use Rattle.gl_run.specs.Script.{script_of}
 use Rattle.gl_run.specs.declared.script.Script.{Script}
 use Rattle.gl_calculus.specs.Edits.Sheets.{and_content, coming}
-use Rattle.gl_protocol.specs.Run.Touched.{and_address, going, without_these, cleared, touched_by_all, latest_changes}
+use Rattle.gl_run.specs.Going.{and_address}
+use Rattle.gl_protocol.specs.Run.Touched.{going, without_these, cleared, touched_by_all, latest_changes}
 use Rattle.gl_run.proofs.Readying.{changed_to, changed_not}
 use Rattle.gl_run.proofs.Restoring.{plain_places, put_and_cleared}
 
 -- ---- refusals
 
-pub undo_in_replica : (s : P.Script) (r : Replica) (reply : Bytes) → s.replica ≡ Some r → reply ≡ error_line SiteWord → IsChanged (undone s) s s reply
-undo_in_replica s r reply is p = let no : undone s ≡ Not SiteWord = rw is refl in changed_not (undone s) s s reply SiteWord no refl p
+pub undo_in_replica : (s : P.Script) (r : Replica) (reply : Bytes) → s.replica ≡ Some r → reply ≡ error_line (codes "site") → IsChanged (undone s) s s reply
+undo_in_replica s r reply is p = let no : undone s ≡ Not (codes "site") = rw is refl in changed_not (undone s) s s reply (codes "site") no refl p
 
-pub redo_in_replica : (s : P.Script) (r : Replica) (reply : Bytes) → s.replica ≡ Some r → reply ≡ error_line SiteWord → IsChanged (redone s) s s reply
-redo_in_replica s r reply is p = let no : redone s ≡ Not SiteWord = rw is refl in changed_not (redone s) s s reply SiteWord no refl p
+pub redo_in_replica : (s : P.Script) (r : Replica) (reply : Bytes) → s.replica ≡ Some r → reply ≡ error_line (codes "site") → IsChanged (redone s) s s reply
+redo_in_replica s r reply is p = let no : redone s ≡ Not (codes "site") = rw is refl in changed_not (redone s) s s reply (codes "site") no refl p
 
-pub undo_nothing : (s : P.Script) (reply : Bytes) → s.replica ≡ None → s.history.done ≡ [] → reply ≡ error_line UndoWord → IsChanged (undone s) s s reply
-undo_nothing s reply is none p = let no : undone s ≡ Not UndoWord = rw (is, none) refl in changed_not (undone s) s s reply UndoWord no refl p
+pub undo_nothing : (s : P.Script) (reply : Bytes) → s.replica ≡ None → s.history.done ≡ [] → reply ≡ error_line (codes "undo") → IsChanged (undone s) s s reply
+undo_nothing s reply is none p = let no : undone s ≡ Not (codes "undo") = rw (is, none) refl in changed_not (undone s) s s reply (codes "undo") no refl p
 
-pub redo_nothing : (s : P.Script) (reply : Bytes) → s.replica ≡ None → s.history.undone ≡ [] → reply ≡ error_line RedoWord → IsChanged (redone s) s s reply
-redo_nothing s reply is none p = let no : redone s ≡ Not RedoWord = rw (is, none) refl in changed_not (redone s) s s reply RedoWord no refl p
+pub redo_nothing : (s : P.Script) (reply : Bytes) → s.replica ≡ None → s.history.undone ≡ [] → reply ≡ error_line (codes "redo") → IsChanged (redone s) s s reply
+redo_nothing s reply is none p = let no : redone s ≡ Not (codes "redo") = rw (is, none) refl in changed_not (redone s) s s reply (codes "redo") no refl p
 
 -- ---- a step
 

@@ -1,9 +1,10 @@
 -- What comes of changes of the sheet and of the state.
+use Rattle.std.specs.Prelude.{codes}
 use Rattle.std.specs.Prelude.{◌≡◌, List, [], ◌++◌, Result, Ok, Err}
 use Rattle.gl_calculus.specs.Grid.Grid.{Addr}
 use Rattle.gl_calculus.specs.Formulas.Formula.{Cells}
 use Rattle.gl_language.specs.Texts.Text.{Bytes}
-use Rattle.gl_protocol.specs.Scripts.Commands.{Read, Is, Not, FormulasWord, ContentsWord, allowed, error_line, ok_line}
+use Rattle.gl_protocol.specs.Scripts.Commands.{Read, Is, Not, allowed, error_line, ok_line}
 use Rattle.gl_calculus.specs.Edits.Sheets.{with_contents}
 use Rattle.gl_protocol.specs.Scripts.Script.{Script, edited}
 use Rattle.gl_calculus.specs.Edits.Sheets.{settings}
@@ -23,8 +24,8 @@ imported_state s cs = edited s (settings cs) (allowed (with_contents s.sheet cs)
 -- what comes of a change of the sheet to this one, or to one that is refused
 abbrev pub Puts : Result (Unit {0}) PutFault → Read Cells → Cells → Cells → Type 0
 Puts (Ok x) goal old new = goal ≡ Is new
-Puts (Err put.Formulas) goal old new = (new ≡ old) × (goal ≡ Not FormulasWord)
-Puts (Err put.Contents) goal old new = (new ≡ old) × (goal ≡ Not ContentsWord)
+Puts (Err put.Formulas) goal old new = (new ≡ old) × (goal ≡ Not (codes "formulas"))
+Puts (Err put.Contents) goal old new = (new ≡ old) × (goal ≡ Not (codes "contents"))
 Puts (Err put.NoMemory) goal old new = new ≡ old
 
 abbrev pub marked_by : Result (Unit {0}) PutFault → List Addr → List Addr

@@ -1,4 +1,5 @@
 -- What comes of an edit of another replica, and what is told of the edits of this one.
+use Rattle.std.specs.Prelude.{codes}
 use Rattle.std.specs.Prelude.{◌≡◌, ◌+◌, ◌<◌, ◌≤◌, ◌⊎◌, ⊤, [], ◌∷◌, length, Option, Some, None, IsSome, Result, Ok, Err}
 use Rattle.gl_calculus.specs.Grid.Grid.{Addr}
 use Rattle.gl_language.specs.Texts.Text.{Bytes}
@@ -6,7 +7,7 @@ use Rattle.gl_calculus.specs.Edits.Limits.{max_registers}
 use Rattle.gl_calculus.specs.Edits.Replicas as R
 use Rattle.gl_calculus.specs.Edits.Replicas.{IsJudged, IsTakeable, missing, register_at, taking}
 use Rattle.gl_protocol.specs.Scripts.Commands as C
-use Rattle.gl_protocol.specs.Scripts.Commands.{SiteWord, error_line}
+use Rattle.gl_protocol.specs.Scripts.Commands.{error_line}
 use Rattle.gl_protocol.specs.Scripts.Script as P
 use Rattle.gl_protocol.specs.Scripts.Script.{register_of, merge}
 use Rattle.gl_protocol.specs.Replies.Tables.{export_text}
@@ -81,4 +82,4 @@ IsExport s reply = by s.replica
   where
     by : Option R.Replica → Type 0
     by (Some r) = reply ≡ export_text r.registers
-    by None = reply ≡ error_line SiteWord
+    by None = reply ≡ error_line (codes "site")

@@ -1,10 +1,12 @@
 -- What an edit of the sheet becomes, with all room taken.
+use Rattle.std.specs.Prelude.{codes}
+use Rattle.gl_language.specs.Texts.Text.{Bytes}
 use Rattle.std.specs.Prelude.{◌≡◌, ◌≤◌, ⊤, true, false, List, map, Option, None, Some, Result, Ok, Err}
 use Rattle.gl_calculus.specs.Grid.Grid.{Addr, AreInOrder}
 use Rattle.gl_calculus.specs.Formulas.Formula.{Content, Cells}
 use Rattle.gl_calculus.specs.Edits.Replicas.{Stamp, Changes, AreOlder, missing, next_stamp, stamped, taking_all, has_room}
 use Rattle.gl_calculus.specs.Edits.Steps.{step_of, pushed}
-use Rattle.gl_protocol.specs.Scripts.Commands.{Read, Not, Word, StampWord, EditsWord}
+use Rattle.gl_protocol.specs.Scripts.Commands.{Read, Not}
 use Rattle.gl_protocol.specs.Scripts.Script as P
 use Rattle.gl_protocol.specs.Scripts.Script.{edited}
 use Rattle.gl_calc.specs.View.{sheet_of}
@@ -53,12 +55,12 @@ IsReady x cs (ready.Step d) = (x.replica ≡ None) × (step_tree d ≡ step_of (
 IsReady x cs (ready.Edits es) = (r : ReplicaValue) × (x.replica ≡ Some r) × AreOwn r cs es.items
 
 -- the word of a refusal; a want of memory has none
-abbrev pub local_word : LocalFault → Option Word
-local_word fault.Stamp = Some StampWord
-local_word fault.Edits = Some EditsWord
+abbrev pub local_word : LocalFault → Option Bytes
+local_word fault.Stamp = Some (codes "stamp")
+local_word fault.Edits = Some (codes "edits")
 local_word fault.NoMemory = None
 
-abbrev pub IsRefusedBy : Option Word → P.Script → Changes → Type 0
+abbrev pub IsRefusedBy : Option Bytes → P.Script → Changes → Type 0
 IsRefusedBy (Some w) s cs = (goal : Read Cells) → edited s cs goal ≡ Not w
 IsRefusedBy None s cs = ⊤
 

@@ -1,4 +1,5 @@
 -- What parts of the replies say.
+use Rattle.std.specs.Prelude.{codes}
 use Rattle.std.specs.Prelude.{◌≡◌, ℕ, ◌+◌, ◌<◌, List, [], ◌++◌, length, flat_map, get_or, Option, Some, None, MatchOption, IsTrue, ⊤}
 use Rattle.gl_calculus.specs.Grid.Grid.{Addr, Range, addr, extents}
 use Rattle.gl_calculus.specs.Values.Value.{Oracle}
@@ -12,7 +13,7 @@ use Rattle.gl_calculus.specs.Explanation.Walk.{Claim}
 use Rattle.gl_language.specs.Texts.Text.{Bytes}
 use Rattle.gl_language.specs.Reading.Content.{IsProperContent}
 use Rattle.gl_protocol.specs.Scripts.Commands as C
-use Rattle.gl_protocol.specs.Scripts.Commands.{Word, Is, ImportWords, IsAddress, NoAddress, ReadsLine, words_of, AreShown, SettledReply, error_line}
+use Rattle.gl_protocol.specs.Scripts.Commands.{Is, ImportWords, IsAddress, NoAddress, ReadsLine, words_of, AreShown, SettledReply, error_line}
 use Rattle.gl_calculus.specs.Forecast.{Forecast, IsForecast}
 use Rattle.gl_protocol.specs.Replies.Explanations.{note_line, loop_line, explanation_text, forecast_line}
 use Rattle.gl_protocol.specs.Replies.Tables.{line, set_text, edit_text}
@@ -37,19 +38,19 @@ use Rattle.gl_run.specs.declared.queries.Query.TheVariants as q
 -- ---- refusals
 
 -- the line of this word; a want of memory has none
-abbrev pub IsRefusal : Option Word → Bytes → Type 0
+abbrev pub IsRefusal : Option Bytes → Bytes → Type 0
 IsRefusal (Some w) reply = reply ≡ error_line w
 IsRefusal None reply = ⊥
 
-abbrev pub put_word : PutFault → Option Word
-put_word put.Formulas = Some C.FormulasWord
-put_word put.Contents = Some C.ContentsWord
+abbrev pub put_word : PutFault → Option Bytes
+put_word put.Formulas = Some (codes "formulas")
+put_word put.Contents = Some (codes "contents")
 put_word put.NoMemory = None
 
-abbrev pub csv_word : CsvFault → Option Word
-csv_word csv.Utf8 = Some C.Utf8Word
-csv_word csv.Field = Some C.FieldWord
-csv_word csv.Grid = Some C.GridWord
+abbrev pub csv_word : CsvFault → Option Bytes
+csv_word csv.Utf8 = Some (codes "utf8")
+csv_word csv.Field = Some (codes "field")
+csv_word csv.Grid = Some (codes "grid")
 csv_word csv.NoMemory = None
 
 -- ---- requests

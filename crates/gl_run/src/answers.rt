@@ -1,6 +1,6 @@
 //! The replies to the items of a script.
 ghost use Rattle.std.specs.Prelude.{◌≡◌, None, IfOk, codes};
-ghost use Rattle.gl_protocol.specs.Scripts.Commands.{LineWord, TruncatedWord, error_line};
+ghost use Rattle.gl_protocol.specs.Scripts.Commands.{error_line};
 ghost use Rattle.gl_protocol.specs.Framing.Framing.{Line};
 ghost use Rattle.gl_protocol.specs.Framing.Header.{payload_len};
 ghost use Rattle.gl_protocol.specs.Scripts.Output.{is_line};
@@ -154,14 +154,14 @@ fn answer_other(
 
 /// Answers a line that is too long.
 pub fn answer_long(alloc: Global) -> Result<Vec<u8>, NoMemory>
-    ensures { IfOk result (λ reply. reply.items ≡ error_line LineWord) }
+    ensures { IfOk result (λ reply. reply.items ≡ error_line (codes "line")) }
 {
     error_line(alloc, "line")
 }
 
 /// Answers an import whose payload the input ends in.
 pub fn answer_truncated(alloc: Global) -> Result<Vec<u8>, NoMemory>
-    ensures { IfOk result (λ reply. reply.items ≡ error_line TruncatedWord) }
+    ensures { IfOk result (λ reply. reply.items ≡ error_line (codes "truncated")) }
 {
     error_line(alloc, "truncated")
 }

@@ -1,6 +1,5 @@
 //! The words of refusals.
 ghost use Rattle.std.specs.Prelude.{◌≡◌, IfOk, option_map};
-ghost use Rattle.gl_protocol.specs.Scripts.Commands.{word_text};
 ghost use Rattle.gl_script.specs.Command.{parse_word, word_of};
 ghost use Rattle.gl_run.specs.Replies.{IsRefusal};
 
@@ -22,7 +21,7 @@ pub(crate) fn refusal(alloc: Global, fault: &CommandFault) -> Result<Vec<u8>, No
 }
 
 fn fault_word(fault: &CommandFault) -> Option<&'static str>
-    ensures { option_map (λ w. w.now) result ≡ option_map word_text (word_of fault.now) }
+    ensures { option_map (λ w. w.now) result ≡ word_of fault.now }
 {
     match fault {
         CommandFault::Utf8 => Some("utf8"),
@@ -39,7 +38,7 @@ fn fault_word(fault: &CommandFault) -> Option<&'static str>
 }
 
 fn parse_word(fault: &ParseFault) -> Option<&'static str>
-    ensures { option_map (λ w. w.now) result ≡ option_map word_text (parse_word fault.now) }
+    ensures { option_map (λ w. w.now) result ≡ parse_word fault.now }
 {
     match fault {
         ParseFault::Long => Some("long"),
@@ -55,7 +54,7 @@ fn parse_word(fault: &ParseFault) -> Option<&'static str>
 
 fn lex_word(fault: &LexFault) -> Option<&'static str>
     ensures { option_map (λ w. w.now) result
-        ≡ option_map word_text (parse_word (ParseFault.Lex fault.now)) }
+        ≡ parse_word (ParseFault.Lex fault.now) }
 {
     match fault {
         LexFault::Token { .. } => Some("token"),

@@ -2,8 +2,8 @@
 ghost use Rattle.std.specs.Prelude.{◌≡◌, ◌≤◌, ◌==◌, ◌&&◌, ◌||◌, nat_lt, nat_le, slice_index, Some};
 ghost use Rattle.std.specs.Prelude.{None, IfSome, option_map, if◌then◌else◌};
 ghost use Rattle.gl_calculus.specs.Grid.Limits.{max_generated};
-ghost use Rattle.gl_protocol.specs.Run.Words.{kind_of, size_of, order_pair, gen_pair, then_pair};
-ghost use Rattle.gl_protocol.specs.Run.Words.{or_else, plain_call};
+ghost use Rattle.std.specs.Option.{option_and_then, option_or};
+ghost use Rattle.gl_protocol.specs.Run.Words.{kind_of, size_of, order_pair, gen_pair, plain_call};
 ghost use Rattle.gl_run.specs.{CallView.call_tree, CallView.IsPossible};
 ghost use Rattle.gl_protocol.specs.Run.Call.{words_call};
 
@@ -116,7 +116,8 @@ fn gen_pair(word: &str, value: &str, call: Call) -> Option<Call>
 // `--order`, and then `--gen`.
 fn order_then_gen(first: &str, kind: &str, second: &str, size: &str) -> Option<Call>
     ensures call { option_map call_tree result
-        ≡ then_pair (order_pair first.now kind.now plain_call) (gen_pair second.now size.now) }
+        ≡ option_and_then (gen_pair second.now size.now)
+        (order_pair first.now kind.now plain_call) }
     ensures possible { IfSome result IsPossible }
 {
     match order_pair(first, kind, PLAIN) {
@@ -128,7 +129,8 @@ fn order_then_gen(first: &str, kind: &str, second: &str, size: &str) -> Option<C
 // `--gen`, and then `--order`.
 fn gen_then_order(first: &str, size: &str, second: &str, kind: &str) -> Option<Call>
     ensures call { option_map call_tree result
-        ≡ then_pair (gen_pair first.now size.now plain_call) (order_pair second.now kind.now) }
+        ≡ option_and_then (order_pair second.now kind.now)
+        (gen_pair first.now size.now plain_call) }
     ensures possible { IfSome result IsPossible }
 {
     match gen_pair(first, size, PLAIN) {
@@ -140,7 +142,7 @@ fn gen_then_order(first: &str, size: &str, second: &str, kind: &str) -> Option<C
 // One pair.
 fn one_pair(word: &str, value: &str) -> Option<Call>
     ensures call { option_map call_tree result
-        ≡ or_else (order_pair word.now value.now plain_call)
+        ≡ option_or (order_pair word.now value.now plain_call)
         (gen_pair word.now value.now plain_call) }
     ensures possible { IfSome result IsPossible }
 {
@@ -152,9 +154,9 @@ fn one_pair(word: &str, value: &str) -> Option<Call>
 
 // Both pairs, in either order.
 fn two_pairs(a: &str, b: &str, c: &str, d: &str) -> Option<Call>
-    ensures call { option_map call_tree result ≡ or_else
-        (then_pair (order_pair a.now b.now plain_call) (gen_pair c.now d.now))
-        (then_pair (gen_pair a.now b.now plain_call) (order_pair c.now d.now)) }
+    ensures call { option_map call_tree result ≡ option_or
+        (option_and_then (gen_pair c.now d.now) (order_pair a.now b.now plain_call))
+        (option_and_then (order_pair c.now d.now) (gen_pair a.now b.now plain_call)) }
     ensures possible { IfSome result IsPossible }
 {
     match order_then_gen(a, b, c, d) {

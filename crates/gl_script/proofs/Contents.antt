@@ -1,4 +1,5 @@
 -- The content of a text, by what was read of it.
+use Rattle.std.specs.Prelude.{codes}
 use Rattle.std.proofs.Common.{◌≡◌, ◌≢◌, ◌∙◌, ℕ, ◌<◌, ◌≤◌, true, false, List, [], ◌∷◌, ◌++◌, length, get_or, Option, Some, None, Ok, Err, refl, sym, ap, subst, arith, IsTrue}
 use Rattle.std.specs.Prelude.{ℤ, nat_lt, nat_le, ◌&&◌, option_copied}
 use Rattle.std.specs.Borrow.{Bor}
@@ -19,6 +20,7 @@ use Rattle.gl_protocol.specs.Scripts.Commands.{Is, Not, ReadsContent}
 use Rattle.gl_language.specs.Texts.Plain.{plain_scalar}
 use Rattle.gl_lex.specs.declared.fault.LexFault.TheVariants as lex
 use Rattle.gl_parse.specs.Outcome.{IsRefused}
+use Rattle.gl_cells.specs.Content.{content_tree}
 use Rattle.gl_parse.specs.declared.fault.ParseFault.{ParseFault}
 use Rattle.gl_parse.specs.declared.fault.ParseFault.TheVariants as parse
 use Rattle.gl_lex.specs.declared.fault.LexFault.{LexFault}
@@ -42,16 +44,16 @@ pub formula_content : (u : Bytes) (f g : Formula) → Parses u g → f ≡ g →
 formula_content u f g p e = subst (λ (h : Formula). ReadsContent (61 ∷ u) (Is (Form h)) × IsProperContent (Form h)) (sym e) (C.ReadsContent.formula p, well_formed u g p)
 
 pub fault_content : (u : Bytes) (e : ParseFault) → IsRefused u e → IsContent (61 ∷ u) (Err (formula_fault e))
-fault_content u parse.Long r = (u, refl, r, (C.LongWord, refl, C.ReadsContent.fault r))
-fault_content u (parse.Lex (lex.Token at_byte)) r = (u, refl, r, (C.TokenWord, refl, C.ReadsContent.fault r))
-fault_content u (parse.Lex (lex.Number at_byte)) r = (u, refl, r, (C.NumberWord, refl, C.ReadsContent.fault r))
-fault_content u (parse.Lex (lex.Text at_byte)) r = (u, refl, r, (C.TextWord, refl, C.ReadsContent.fault r))
+fault_content u parse.Long r = (u, refl, r, ((codes "long"), refl, C.ReadsContent.fault r))
+fault_content u (parse.Lex (lex.Token at_byte)) r = (u, refl, r, ((codes "token"), refl, C.ReadsContent.fault r))
+fault_content u (parse.Lex (lex.Number at_byte)) r = (u, refl, r, ((codes "number"), refl, C.ReadsContent.fault r))
+fault_content u (parse.Lex (lex.Text at_byte)) r = (u, refl, r, ((codes "text"), refl, C.ReadsContent.fault r))
 fault_content u (parse.Lex lex.NoMemory) r = absurd r
-fault_content u parse.Deep r = (u, refl, r, (C.DeepWord, refl, C.ReadsContent.fault r))
-fault_content u parse.Syntax r = (u, refl, r, (C.SyntaxWord, refl, C.ReadsContent.fault r))
-fault_content u parse.Range r = (u, refl, r, (C.RangeWord, refl, C.ReadsContent.fault r))
-fault_content u parse.Name r = (u, refl, r, (C.NameWord, refl, C.ReadsContent.fault r))
-fault_content u parse.Arity r = (u, refl, r, (C.ArityWord, refl, C.ReadsContent.fault r))
+fault_content u parse.Deep r = (u, refl, r, ((codes "deep"), refl, C.ReadsContent.fault r))
+fault_content u parse.Syntax r = (u, refl, r, ((codes "syntax"), refl, C.ReadsContent.fault r))
+fault_content u parse.Range r = (u, refl, r, ((codes "range"), refl, C.ReadsContent.fault r))
+fault_content u parse.Name r = (u, refl, r, ((codes "name"), refl, C.ReadsContent.fault r))
+fault_content u parse.Arity r = (u, refl, r, ((codes "arity"), refl, C.ReadsContent.fault r))
 fault_content u parse.NoMemory r = tt
 
 -- ---- literals
@@ -67,9 +69,9 @@ spelled (T.quoted {t = t} d u l) = (C.ReadsContent.literal d l, short_text t u l
 pub literal_content : (text t : Bytes) (x : V.Scalar) → Spells (T.Quoted t) text → x ≡ V.Scalar.Text t → ReadsContent text (Is (Const x)) × IsProperContent (Const x)
 literal_content text t x s e = subst (λ (y : V.Scalar). ReadsContent text (Is (Const y)) × IsProperContent (Const y)) (sym e) (spelled s)
 
-pub no_literal_content : (text : Bytes) → IsUtf8 text → get_or text 0 0 ≡ 34 → ((t : Bytes) → Spells (T.Quoted t) text → ⊥) → (u : Bytes) × (text ≡ 34 ∷ u) × ReadsContent text (Not C.TextWord)
+pub no_literal_content : (text : Bytes) → IsUtf8 text → get_or text 0 0 ≡ 34 → ((t : Bytes) → Spells (T.Quoted t) text → ⊥) → (u : Bytes) × (text ≡ 34 ∷ u) × ReadsContent text (Not (codes "text"))
 no_literal_content [] utf8 q other = absurd (omega (arith, q))
-no_literal_content (b ∷ u) utf8 q other = (u, ap (λ (x : ℕ). x ∷ u) q, subst (λ (x : ℕ). ReadsContent (x ∷ u) (Not C.TextWord)) (sym q) (C.ReadsContent.no_literal none))
+no_literal_content (b ∷ u) utf8 q other = (u, ap (λ (x : ℕ). x ∷ u) q, subst (λ (x : ℕ). ReadsContent (x ∷ u) (Not (codes "text"))) (sym q) (C.ReadsContent.no_literal none))
   where
     none : (s t : Bytes) → Decodes s t → length t ≤ max_text → u ≢ s ++ 34 ∷ []
     none s t d l e =
@@ -102,7 +104,7 @@ number_content (b ∷ t) x some p q e l h =
     let i = int_is x h in
     subst (λ (y : V.Scalar). ReadsContent (b ∷ t) (Is (Const y)) × IsProperContent (Const y)) (sym i.1) (C.ReadsContent.number p q l (sym e ∙ i.1), tt)
 
-pub field_content : (text : Bytes) (x : V.Scalar) → 0 < length text → get_or text 0 0 ≢ 61 → get_or text 0 0 ≢ 34 → x ≡ plain_scalar text → max_text < length text → is_int x ≡ false → ReadsContent text (Not C.FieldWord)
+pub field_content : (text : Bytes) (x : V.Scalar) → 0 < length text → get_or text 0 0 ≢ 61 → get_or text 0 0 ≢ 34 → x ≡ plain_scalar text → max_text < length text → is_int x ≡ false → ReadsContent text (Not (codes "field"))
 field_content [] x some p q e l h = absurd (omega arith)
 field_content (b ∷ t) x some p q e l h = C.ReadsContent.long p q l (λ n d. let k : is_int x ≡ true = ap is_int (e ∙ d) in cc)
 
@@ -121,7 +123,7 @@ module _ (o : Option (Bor Bytes)) where
   pub text_read : (t : Bor Bytes) (c : Content) → o ≡ Some t → IsTrue (C.is_text (option_copied o)) → (0 < length t.now → IsContent t.now (Ok c)) → IsText (option_copied o) (Ok (Some c))
   text_read t c e n g =
       let x = g (some_length t.now (subst (λ (z : Option (Bor Bytes)). IsTrue (C.is_text (option_copied z))) e n)) in
-      subst (λ (z : Option (Bor Bytes)). IsText (option_copied z) (Ok (Some c))) (sym e) (C.ReadsText.text x.0, x.1)
+      subst (λ (z : Option (Bor Bytes)). IsText (option_copied z) (Ok (Some c))) (sym e) (C.ReadsText.text {r = Is (content_tree c)} x.0, x.1)
 
   pub text_not : (t : Bor Bytes) (f : CommandFault) → o ≡ Some t → IsTrue (C.is_text (option_copied o)) → (0 < length t.now → IsContent t.now (Err f)) → IsText (option_copied o) (Err f)
   text_not t f e n g =

@@ -5,7 +5,8 @@ use Rattle.std.proofs.lemmas.Bool.Decides.{nat_tests}
 use Rattle.std.proofs.lemmas.Slice.Eq.{bytes_eq-Decides}
 use Rattle.gl_language.specs.Texts.Text.{Bytes}
 use Rattle.gl_protocol.specs.Framing.Pieces.{cut_at, pieces, is_number}
-use Rattle.gl_protocol.specs.Scripts.Commands.{SetWords, ImportWords, words_of, set_words, edit_words, words_of_pieces, one_word, two_words, some_words}
+use Rattle.gl_script.specs.Parts.{some_words}
+use Rattle.gl_protocol.specs.Scripts.Commands.{SetWords, ImportWords, words_of, set_words, edit_words, words_of_pieces, one_word, two_words}
 use Rattle.gl_script.specs.Parts.{edit_at, edit_behind}
 use Rattle.gl_script.proofs.Headers.{Lacks, pieces-none, pieces-at, shape, no_number}
 

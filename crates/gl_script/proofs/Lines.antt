@@ -1,6 +1,6 @@
 -- What a line asks, by its words.
 use Rattle.std.proofs.Common.{◌≡◌, ◌≢◌, ◌∙◌, ℕ, ◌*◌, ◌<◌, ◌≤◌, Bool, true, false, cond, ◌&&◌, leb, ◌∷◌, length, Option, Some, None, Ok, Err, refl, sym, ap, subst, arith, IsTrue}
-use Rattle.std.specs.Prelude.{MatchOption, IfSome, IfNone, IsFalse, bytes_eq, codes}
+use Rattle.std.specs.Prelude.{option_map, MatchOption, IfSome, IfNone, IsFalse, bytes_eq, codes}
 use Rattle.std.specs.Str.{is_utf8}
 use Rattle.std.proofs.lemmas.Bool.Decides.{nat_tests}
 use Rattle.gl_calculus.specs.Grid.Limits.{max_payload, max_cells}
@@ -11,7 +11,7 @@ use Rattle.gl_language.specs.Reading.Token.{digits_value}
 use Rattle.gl_protocol.specs.Framing.Pieces.{is_number}
 use Rattle.gl_protocol.specs.Framing.Header.{payload_len, count_of}
 use Rattle.gl_protocol.specs.Scripts.Commands as C
-use Rattle.gl_protocol.specs.Scripts.Commands.{Read, Is, Not, Word, ReadsLine, ReadsWords, ReadsRange, SetWords, EditWords, SiteWords, ImportWords, ClearWords, ViewWords, IsAddress, NoAddress, is_viewable, is_text, words_of, is_comment}
+use Rattle.gl_protocol.specs.Scripts.Commands.{Read, Is, Not, ReadsLine, ReadsWords, ReadsRange, SetWords, EditWords, SiteWords, ImportWords, ClearWords, ViewWords, IsAddress, NoAddress, is_viewable, is_text, words_of, is_comment}
 use Rattle.gl_cells.specs.declared.content.Content.{Content}
 use Rattle.gl_cells.specs.Content.{content_tree}
 use Rattle.gl_script.specs.Asked.{asked_words, asked_request}
@@ -37,10 +37,10 @@ other_words l ws h n m t (edits time site place e) = m time site place t (let d 
 -- ---- the text of a line
 
 -- a line that gives an address this text is refused as the text is
-text_by : (l t : Bytes) (e : CommandFault) → ((u : Bytes) → t ≡ u → GivesText l u) → ((w : Word) → C.ReadsContent t (Not w) → ReadsLine l (Not w)) → IsContent t (Err e) → Answers l (Err e)
-text_by l t (f.Parse e) gives not x = (subst (λ (o : Option Word). MatchOption o ⊥ (λ w. ReadsLine l (Not w))) (sym x.3.1) (not x.3.0 x.3.2), (x.0, gives (61 ∷ x.0) x.1, x.2))
-text_by l t f.Text gives not x = (not C.TextWord x.2, (x.0, gives (34 ∷ x.0) x.1))
-text_by l t f.Field gives not x = (not C.FieldWord x, tt)
+text_by : (l t : Bytes) (e : CommandFault) → ((u : Bytes) → t ≡ u → GivesText l u) → ((w : Bytes) → C.ReadsContent t (Not w) → ReadsLine l (Not w)) → IsContent t (Err e) → Answers l (Err e)
+text_by l t (f.Parse e) gives not x = (subst (λ (o : Option Bytes). MatchOption o ⊥ (λ w. ReadsLine l (Not w))) (sym x.3.1) (not x.3.0 x.3.2), (x.0, gives (61 ∷ x.0) x.1, x.2))
+text_by l t f.Text gives not x = (not (codes "text") x.2, (x.0, gives (34 ∷ x.0) x.1))
+text_by l t f.Field gives not x = (not (codes "field") x, tt)
 text_by l t f.NoMemory gives not x = tt
 text_by l t f.Utf8 gives not x = absurd x
 text_by l t f.Word gives not x = absurd x
@@ -57,17 +57,17 @@ text_some l place t h = subst (Says l) h.words (says l)
 pub set_asks : (l place t : Bytes) (a : Addr) (c : Content) → HasWords l (SetWords place t) → IsAddress place a → (0 < length t → IsContent t (Ok c)) → Answers l (Ok (r.Set a c))
 set_asks l place t a c h k g =
     let x = g (text_some l place t h) in
-    (line_reads l (SetWords place t) (Is (C.Request.Set a (content_tree c))) h (C.ReadsWords.set k x.0), x.1)
+    (line_reads l (SetWords place t) (Is (C.Request.Set a (content_tree c))) h (C.ReadsWords.set {r = Is (content_tree c)} a k x.0), x.1)
 
 set_gives : (l place t u : Bytes) → HasWords l (SetWords place t) → t ≡ u → GivesText l u
 set_gives l place t u h e = sets place (h.words ∙ ap (λ (x : Bytes). Some (SetWords place x)) e)
 
 pub set_refused : (l place t : Bytes) (a : Addr) (e : CommandFault) → HasWords l (SetWords place t) → IsAddress place a → (0 < length t → IsContent t (Err e)) → Answers l (Err e)
 set_refused l place t a e h k g =
-    text_by l t e (λ u q. set_gives l place t u h q) (λ w x. line_reads l (SetWords place t) (Not w) h (C.ReadsWords.set_fault a k x)) (g (text_some l place t h))
+    text_by l t e (λ u q. set_gives l place t u h q) (λ w x. line_reads l (SetWords place t) (Not w) h (C.ReadsWords.set {r = Not w} a k x)) (g (text_some l place t h))
 
-pub no_place : (l : Bytes) (ws : C.Words) → HasWords l ws → ReadsWords ws (Not C.AddressWord) → Answers l (Err f.Address)
-no_place l ws h x = (line_reads l ws (Not C.AddressWord) h x, tt)
+pub no_place : (l : Bytes) (ws : C.Words) → HasWords l ws → ReadsWords ws (Not (codes "address")) → Answers l (Err f.Address)
+no_place l ws h x = (line_reads l ws (Not (codes "address")) h x, tt)
 
 -- ---- what is asked of one address
 
@@ -77,7 +77,7 @@ asked_reads asked.Get place a h = C.ReadsWords.get h
 asked_reads asked.Why place a h = C.ReadsWords.why_of h
 asked_reads asked.Explain place a h = C.ReadsWords.explain h
 
-pub asked_nowhere : (k : Asked) (place : Bytes) → NoAddress place → ReadsWords (asked_words k place) (Not C.AddressWord)
+pub asked_nowhere : (k : Asked) (place : Bytes) → NoAddress place → ReadsWords (asked_words k place) (Not (codes "address"))
 asked_nowhere asked.Show place h = C.ReadsWords.show_place h
 asked_nowhere asked.Get place h = C.ReadsWords.get_place h
 asked_nowhere asked.Why place h = C.ReadsWords.why_place h
@@ -128,24 +128,24 @@ module _ (l t n place : Bytes) (o : Option Bytes) (h : HasWords l (EditWords t n
       let s = stamped p q e in
       let x = g edit_says.1 in
       let now : Asks l (r.Edit (digits_value t) (digits_value n) a c) =
-      (line_reads l (EditWords t n place o) (Is (C.Request.Merge (edit_of (digits_value t) (digits_value n) a c))) h (C.ReadsWords.edit k s.0 x.0), s.0, x.1) in
+      (line_reads l (EditWords t n place o) (Is (C.Request.Merge (edit_of (digits_value t) (digits_value n) a c))) h (C.ReadsWords.edit {r = Is (option_map content_tree c)} a k s.0 x.0), s.0, x.1) in
       subst (λ (y : ℕ). Asks l (r.Edit p y a c)) s.2 (subst (λ (y : ℕ). Asks l (r.Edit y (digits_value n) a c)) s.1 now)
 
   pub edit_no_stamp : (a : Addr) → IsAddress place a → IsStampOf None t n → Answers l (Err f.Stamp)
-  edit_no_stamp a k e = (line_reads l (EditWords t n place o) (Not C.StampWord) h (C.ReadsWords.edit_stamp a k (unstamped e)), tt)
+  edit_no_stamp a k e = (line_reads l (EditWords t n place o) (Not (codes "stamp")) h (C.ReadsWords.edit_stamp a k (unstamped e)), tt)
 
   pub edit_refused : (a : Addr) (p q : ℕ) (e : CommandFault) → IsAddress place a → IsStampOf (Some (p, q)) t n → (IsTrue (is_text o) → IsText o (Err e)) → Answers l (Err e)
   edit_refused a p q e k m g =
       let x = g edit_says.1 in
       let s = stamped p q m in
       text_by l x.0 e (λ u d. edits t n place (h.words ∙ ap (λ (z : Option Bytes). Some (EditWords t n place z)) (x.1 ∙ ap (λ (z : Bytes). Some z) d)))
-      (λ w y. line_reads l (EditWords t n place o) (Not w) h (C.ReadsWords.edit_fault a k s.0 (subst (λ (z : Option Bytes). C.ReadsText z (Not w)) (sym x.1) (C.ReadsText.text_fault y)))) x.2
+      (λ w y. line_reads l (EditWords t n place o) (Not w) h (C.ReadsWords.edit {r = Not w} a k s.0 (subst (λ (z : Option Bytes). C.ReadsText z (Not w)) (sym x.1) (C.ReadsText.text {r = Not w} y)))) x.2
 
 -- ---- ranges
 
 pub clear_refused : (l place : Bytes) (e : CommandFault) → HasWords l (ClearWords place) → IsRange place (Err e) → Answers l (Err e)
-clear_refused l place f.Address h x = (line_reads l (ClearWords place) (Not C.AddressWord) h (C.ReadsWords.clear_place x), tt)
-clear_refused l place f.Range h x = (line_reads l (ClearWords place) (Not C.RangeWord) h (C.ReadsWords.clear_place x), other_words l (ClearWords place) h (λ p t e. cc) (λ p q s t e. cc))
+clear_refused l place f.Address h x = (line_reads l (ClearWords place) (Not (codes "address")) h (C.ReadsWords.clear {r = Not (codes "address")} x), tt)
+clear_refused l place f.Range h x = (line_reads l (ClearWords place) (Not (codes "range")) h (C.ReadsWords.clear {r = Not (codes "range")} x), other_words l (ClearWords place) h (λ p t e. cc) (λ p q s t e. cc))
 clear_refused l place f.Utf8 h x = absurd x
 clear_refused l place f.Word h x = absurd x
 clear_refused l place f.Payload h x = absurd x
@@ -156,8 +156,8 @@ clear_refused l place f.Field h x = absurd x
 clear_refused l place f.NoMemory h x = absurd x
 
 pub view_refused : (l place : Bytes) (e : CommandFault) → HasWords l (ViewWords place) → IsRange place (Err e) → Answers l (Err e)
-view_refused l place f.Address h x = (line_reads l (ViewWords place) (Not C.AddressWord) h (C.ReadsWords.view_place x), tt)
-view_refused l place f.Range h x = (line_reads l (ViewWords place) (Not C.RangeWord) h (C.ReadsWords.view_place x), other_words l (ViewWords place) h (λ p t e. cc) (λ p q s t e. cc))
+view_refused l place f.Address h x = (line_reads l (ViewWords place) (Not (codes "address")) h (C.ReadsWords.view_place x), tt)
+view_refused l place f.Range h x = (line_reads l (ViewWords place) (Not (codes "range")) h (C.ReadsWords.view_place x), other_words l (ViewWords place) h (λ p t e. cc) (λ p q s t e. cc))
 view_refused l place f.Utf8 h x = absurd x
 view_refused l place f.Word h x = absurd x
 view_refused l place f.Payload h x = absurd x
@@ -168,10 +168,10 @@ view_refused l place f.Field h x = absurd x
 view_refused l place f.NoMemory h x = absurd x
 
 pub view_asks : (l place : Bytes) (x : Range) → HasWords l (ViewWords place) → ReadsRange place (Is x) → is_viewable x ≡ true → ReadsLine l (Is (C.Request.View x))
-view_asks l place x h k v = line_reads l (ViewWords place) (Is (C.Request.View x)) h (C.ReadsWords.view k v)
+view_asks l place x h k v = subst (λ (u : Bool). ReadsLine l (cond u (Is (C.Request.View x)) (Not (codes "range")))) v (line_reads l (ViewWords place) (cond (is_viewable x) (Is (C.Request.View x)) (Not (codes "range"))) h (C.ReadsWords.view k))
 
 pub view_large : (l place : Bytes) (x : Range) → HasWords l (ViewWords place) → ReadsRange place (Is x) → is_viewable x ≡ false → Answers l (Err f.Range)
-view_large l place x h k v = (line_reads l (ViewWords place) (Not C.RangeWord) h (C.ReadsWords.view_size k v), other_words l (ViewWords place) h (λ p t e. cc) (λ p q s t e. cc))
+view_large l place x h k v = (subst (λ (u : Bool). ReadsLine l (cond u (Is (C.Request.View x)) (Not (codes "range")))) v (line_reads l (ViewWords place) (cond (is_viewable x) (Is (C.Request.View x)) (Not (codes "range"))) h (C.ReadsWords.view k)), other_words l (ViewWords place) h (λ p t e. cc) (λ p q s t e. cc))
 
 -- ---- imports
 
@@ -191,7 +191,7 @@ too_many count h e = by (leb (digits_value count) max_payload) refl (rw h at e)
 pub import_refused : (l place count : Bytes) → HasWords l (ImportWords place count) → None ≡ count_of count → Answers l (Err f.Payload)
 import_refused l place count h e =
     let s : Says l (Some (ImportWords place count)) = subst (Says l) h.words (says l) in
-    (line_reads l (ImportWords place count) (Not C.PayloadWord) h (C.ReadsWords.payload (too_many count s.0 e)), tt)
+    (line_reads l (ImportWords place count) (Not (codes "payload")) h (C.ReadsWords.payload (too_many count s.0 e)), tt)
 
 -- ---- whole lines
 

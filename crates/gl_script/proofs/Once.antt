@@ -1,5 +1,6 @@
 -- A text is read as one content, and a line as one request.
-use Rattle.std.proofs.Common.{◌≡◌, ◌≢◌, ◌∙◌, ℕ, ◌+◌, ◌<◌, ◌≤◌, Bool, true, false, [], ◌∷◌, ◌++◌, length, Option, Some, None, ◌⊎◌, inl, inr, refl, sym, ap, subst, arith, IsTrue}
+use Rattle.std.specs.Prelude.{codes}
+use Rattle.std.proofs.Common.{cond, ◌≡◌, ◌≢◌, ◌∙◌, ℕ, ◌+◌, ◌<◌, ◌≤◌, Bool, true, false, [], ◌∷◌, ◌++◌, length, Option, Some, None, ◌⊎◌, inl, inr, refl, sym, ap, subst, arith, IsTrue}
 use Rattle.std.specs.Prelude.{ℤ, IsFalse, ◌==◌}
 use Rattle.std.specs.Str.{is_utf8}
 use Rattle.std.proofs.lemmas.Bool.Decides.{nat_tests}
@@ -18,7 +19,7 @@ use Rattle.gl_lex.proofs.Once.{one_address}
 use Rattle.laws_language.proofs.Grammar.Readings.{one_formula, one_fault, formula_or_fault}
 use Rattle.gl_calculus.specs.Edits.Replicas.{stamp, is_stamp}
 use Rattle.gl_protocol.specs.Scripts.Commands as C
-use Rattle.gl_protocol.specs.Scripts.Commands.{Read, Is, Not, ReadsContent, ReadsRange, ReadsWords, ReadsLine, IsAddress, IsPlace, in_order, fault_word, is_comment, words_of, TextWord, FieldWord}
+use Rattle.gl_protocol.specs.Scripts.Commands.{Read, Is, Not, ReadsContent, ReadsRange, ReadsWords, ReadsLine, IsAddress, IsPlace, in_order, fault_word, is_comment, words_of}
 use Rattle.gl_language.specs.Texts.Plain.{plain_scalar}
 use Rattle.gl_script.proofs.Places.{Corners, corners, address_lacks, same_cut, holds_colon}
 use Rattle.gl_script.proofs.Headers.{Lacks}
@@ -29,10 +30,10 @@ abbrev OfFormula : Bytes → Read F.Content → Type 0
 OfFormula t x = ((f : Formula) × Parses t f × (x ≡ Is (Form f))) ⊎ ((e : ParseFault) × IsParseFault t e × (x ≡ Not (fault_word e)))
 
 abbrev OfLiteral : Bytes → Read F.Content → Type 0
-OfLiteral t x = ((s : Bytes) × (u : Bytes) × (t ≡ s ++ 34 ∷ []) × Decodes s u × (length u ≤ max_text) × (x ≡ Is (Const (V.Scalar.Text u)))) ⊎ (((s u : Bytes) → Decodes s u → length u ≤ max_text → t ≢ s ++ 34 ∷ []) × (x ≡ Not TextWord))
+OfLiteral t x = ((s : Bytes) × (u : Bytes) × (t ≡ s ++ 34 ∷ []) × Decodes s u × (length u ≤ max_text) × (x ≡ Is (Const (V.Scalar.Text u)))) ⊎ (((s u : Bytes) → Decodes s u → length u ≤ max_text → t ≢ s ++ 34 ∷ []) × (x ≡ Not (codes "text")))
 
 abbrev OfPlain : Bytes → Read F.Content → Type 0
-OfPlain l x = ((length l ≤ max_text) × (x ≡ Is (Const (plain_scalar l)))) ⊎ (((n : ℤ) × (max_text < length l) × (plain_scalar l ≡ V.Scalar.Int n) × (x ≡ Is (Const (V.Scalar.Int n)))) ⊎ ((max_text < length l) × ((n : ℤ) → plain_scalar l ≢ V.Scalar.Int n) × (x ≡ Not FieldWord)))
+OfPlain l x = ((length l ≤ max_text) × (x ≡ Is (Const (plain_scalar l)))) ⊎ (((n : ℤ) × (max_text < length l) × (plain_scalar l ≡ V.Scalar.Int n) × (x ≡ Is (Const (V.Scalar.Int n)))) ⊎ ((max_text < length l) × ((n : ℤ) → plain_scalar l ≢ V.Scalar.Int n) × (x ≡ Not (codes "field"))))
 
 -- what was read, by the first byte
 abbrev SeenBy : Bool → Bool → ℕ → Bytes → Read F.Content → Type 0
@@ -58,7 +59,7 @@ seen (C.ReadsContent.literal {s = s} {t = u} d l) = inl (s, u, refl, d, l, refl)
 seen (C.ReadsContent.no_literal h) = inr (h, refl)
 seen (C.ReadsContent.plain {b = b} {t = t} p q l) = plain_seen b t (Is (Const (plain_scalar (b ∷ t)))) p q (inl (l, refl))
 seen (C.ReadsContent.number {b = b} {t = t} {n = n} p q l e) = plain_seen b t (Is (Const (V.Scalar.Int n))) p q (inr (inl (n, l, e, refl)))
-seen (C.ReadsContent.long {b = b} {t = t} p q l e) = plain_seen b t (Not FieldWord) p q (inr (inr (l, e, refl)))
+seen (C.ReadsContent.long {b = b} {t = t} p q l e) = plain_seen b t (Not (codes "field")) p q (inr (inr (l, e, refl)))
 
 of_formula : (t : Bytes) (x y : Read F.Content) → OfFormula t x → OfFormula t y → x ≡ y
 of_formula t x y (inl a) (inl b) = a.2 ∙ ap (λ (f : Formula). Is (Form f)) (one_formula t a.0 b.0 a.1 b.1) ∙ sym b.2
@@ -122,20 +123,10 @@ corners_same bs a b c d (inr h) (inr k) =
 one_place : (bs : Bytes) (a b c d : Addr) → IsPlace bs a b → IsPlace bs c d → range a b ≡ range c d
 one_place bs a b c d p q = corners_same bs a b c d (corners p) (corners q)
 
-other_order : (bs : Bytes) (a b c d : Addr) → IsPlace bs a b → IsPlace bs c d → IsTrue (in_order a b) → IsFalse (in_order c d) → ⊥
-other_order bs a b c d p q t f =
-    let e : in_order a b ≡ in_order c d = ap (λ (r : Range). in_order r.first r.last) (one_place bs a b c d p q) in
-    cc
-
 pub one_range : {bs : Bytes} {x y : Read Range} → ReadsRange bs x → ReadsRange bs y → x ≡ y
-one_range (C.ReadsRange.range_of {bs = bs} {a = a} {b = b} p o) (C.ReadsRange.range_of {a = c} {b = d} q t) = ap Is (one_place bs a b c d p q)
-one_range (C.ReadsRange.range_of {bs = bs} {a = a} {b = b} p o) (C.ReadsRange.unordered {a = c} {b = d} q t) = absurd (other_order bs a b c d p q o t)
-one_range (C.ReadsRange.range_of {a = a} {b = b} p o) (C.ReadsRange.no_address n) = absurd (n a b p)
-one_range (C.ReadsRange.unordered {bs = bs} {a = a} {b = b} p o) (C.ReadsRange.range_of {a = c} {b = d} q t) = absurd (other_order bs c d a b q p t o)
-one_range (C.ReadsRange.unordered p o) (C.ReadsRange.unordered q t) = refl
-one_range (C.ReadsRange.unordered {a = a} {b = b} p o) (C.ReadsRange.no_address n) = absurd (n a b p)
-one_range (C.ReadsRange.no_address n) (C.ReadsRange.range_of {a = a} {b = b} p o) = absurd (n a b p)
-one_range (C.ReadsRange.no_address n) (C.ReadsRange.unordered {a = a} {b = b} p o) = absurd (n a b p)
+one_range (C.ReadsRange.range_of {bs = bs} {a = a} {b = b} p) (C.ReadsRange.range_of {a = c} {b = d} q) = ap (λ (r : Range). cond (in_order r.first r.last) (Is r) (Not (codes "range"))) (one_place bs a b c d p q)
+one_range (C.ReadsRange.range_of {a = a} {b = b} p) (C.ReadsRange.no_address n) = absurd (n a b p)
+one_range (C.ReadsRange.no_address n) (C.ReadsRange.range_of {a = a} {b = b} p) = absurd (n a b p)
 one_range (C.ReadsRange.no_address n) (C.ReadsRange.no_address m) = refl
 
 -- ---- words
@@ -143,73 +134,36 @@ one_range (C.ReadsRange.no_address n) (C.ReadsRange.no_address m) = refl
 same_range : {bs : Bytes} {r s : Range} → ReadsRange bs (Is r) → ReadsRange bs (Is s) → r ≡ s
 same_range {r = r} {s = s} p q = let e : Is r ≡ Is s = one_range p q in cc
 
-same_word : {bs : Bytes} {w v : C.Word} → ReadsRange bs (Not w) → ReadsRange bs (Not v) → w ≡ v
+same_word : {bs : Bytes} {w v : Bytes} → ReadsRange bs (Not w) → ReadsRange bs (Not v) → w ≡ v
 same_word {w = w} {v = v} p q = let e : Not w ≡ Not v = one_range p q in cc
 
-range_or_word : {bs : Bytes} {r : Range} {w : C.Word} → ReadsRange bs (Is r) → ReadsRange bs (Not w) → ⊥
+range_or_word : {bs : Bytes} {r : Range} {w : Bytes} → ReadsRange bs (Is r) → ReadsRange bs (Not w) → ⊥
 range_or_word {r = r} {w = w} p q = let e : Is r ≡ Not w = one_range p q in cc
-
-viewable_not : (r s : Range) → r ≡ s → IsTrue (C.is_viewable r) → IsFalse (C.is_viewable s) → ⊥
-viewable_not r s e t f = let k : C.is_viewable r ≡ C.is_viewable s = ap C.is_viewable e in cc
-
-same_content : {t : Bytes} {c d : F.Content} → ReadsContent t (Is c) → ReadsContent t (Is d) → c ≡ d
-same_content {t = t} {c = c} {d = d} p q = let e : Is c ≡ Is d = one_content t (Is c) (Is d) p q in cc
-
-same_fault : {t : Bytes} {w v : C.Word} → ReadsContent t (Not w) → ReadsContent t (Not v) → w ≡ v
-same_fault {t = t} {w = w} {v = v} p q = let e : Not w ≡ Not v = one_content t (Not w) (Not v) p q in cc
-
-content_or_fault : {t : Bytes} {c : F.Content} {w : C.Word} → ReadsContent t (Is c) → ReadsContent t (Not w) → ⊥
-content_or_fault {t = t} {c = c} {w = w} p q = let e : Is c ≡ Not w = one_content t (Is c) (Not w) p q in cc
 
 same_text : {o : Option Bytes} {x y : Read (Option F.Content)} → C.ReadsText o x → C.ReadsText o y → x ≡ y
 same_text C.ReadsText.no_text C.ReadsText.no_text = refl
-same_text (C.ReadsText.text {c = c} r) (C.ReadsText.text {c = d} s) = ap (λ (z : F.Content). Is (Some z)) (same_content r s)
-same_text (C.ReadsText.text r) (C.ReadsText.text_fault s) = absurd (content_or_fault r s)
-same_text (C.ReadsText.text_fault r) (C.ReadsText.text s) = absurd (content_or_fault s r)
-same_text (C.ReadsText.text_fault r) (C.ReadsText.text_fault s) = ap Not (same_fault r s)
-
-text_or_fault : {o : Option Bytes} {c : Option F.Content} {w : C.Word} → C.ReadsText o (Is c) → C.ReadsText o (Not w) → ⊥
-text_or_fault {c = c} {w = w} p q = let e : Is c ≡ Not w = same_text p q in cc
-
-same_text_fault : {o : Option Bytes} {w v : C.Word} → C.ReadsText o (Not w) → C.ReadsText o (Not v) → w ≡ v
-same_text_fault {w = w} {v = v} p q = let e : Not w ≡ Not v = same_text p q in cc
-
-same_edit : {o : Option Bytes} {c d : Option F.Content} → C.ReadsText o (Is c) → C.ReadsText o (Is d) → c ≡ d
-same_edit {c = c} {d = d} p q = let e : Is c ≡ Is d = same_text p q in cc
+same_text (C.ReadsText.text {t = t} {r = x} r) (C.ReadsText.text {r = y} s) = ap (λ (z : Read F.Content). C.onto (λ (c : F.Content). Some c) z) (one_content t x y r s)
 
 stamp_or_not : (b : Bool) → IsTrue b → IsFalse b → ⊥
 stamp_or_not b t f = cc
 
 -- what an edit with this stamp asks
-abbrev edit_by : Bytes → Bytes → Addr → Option F.Content → Read C.Request
-edit_by t n a c = Is (C.Request.Merge (record { stamp = stamp (digits_value t) (digits_value n); place = a; content = c }))
+abbrev edit_by : Bytes → Bytes → Addr → Read (Option F.Content) → Read C.Request
+edit_by t n a r = C.onto (λ c. C.Request.Merge (record { stamp = stamp (digits_value t) (digits_value n); place = a; content = c })) r
 
 pub one_words : {ws : C.Words} {x y : Read C.Request} → ReadsWords ws x → ReadsWords ws y → x ≡ y
 one_words C.ReadsWords.list C.ReadsWords.list = refl
 one_words C.ReadsWords.calc C.ReadsWords.calc = refl
 one_words C.ReadsWords.oracle C.ReadsWords.oracle = refl
 one_words C.ReadsWords.quit C.ReadsWords.quit = refl
-one_words (C.ReadsWords.set {place = p} {a = a} {c = c} h r) (C.ReadsWords.set {a = b} {c = d} k s) = ap (λ (z : Addr). Is (C.Request.Set z c)) (same_place p a b h k) ∙ ap (λ (z : F.Content). Is (C.Request.Set b z)) (same_content r s)
-one_words (C.ReadsWords.set h r) (C.ReadsWords.set_fault b k s) = absurd (content_or_fault r s)
-one_words (C.ReadsWords.set {a = a} h r) (C.ReadsWords.set_place n) = absurd (n a h)
-one_words (C.ReadsWords.set_fault a h r) (C.ReadsWords.set k s) = absurd (content_or_fault s r)
-one_words (C.ReadsWords.set_fault a h r) (C.ReadsWords.set_fault b k s) = ap Not (same_fault r s)
-one_words (C.ReadsWords.set_fault a h r) (C.ReadsWords.set_place n) = absurd (n a h)
-one_words (C.ReadsWords.set_place n) (C.ReadsWords.set {a = b} k s) = absurd (n b k)
-one_words (C.ReadsWords.set_place n) (C.ReadsWords.set_fault b k s) = absurd (n b k)
+one_words (C.ReadsWords.set {place = p} {t = t} {r = x} a h r) (C.ReadsWords.set {r = y} b k s) = ap (λ (z : Addr). C.onto (C.Request.Set z) x) (same_place p a b h k) ∙ ap (λ (z : Read F.Content). C.onto (C.Request.Set b) z) (one_content t x y r s)
+one_words (C.ReadsWords.set a h r) (C.ReadsWords.set_place n) = absurd (n a h)
+one_words (C.ReadsWords.set_place n) (C.ReadsWords.set b k s) = absurd (n b k)
 one_words (C.ReadsWords.set_place n) (C.ReadsWords.set_place m) = refl
-one_words (C.ReadsWords.clear r) (C.ReadsWords.clear s) = ap (λ (z : Range). Is (C.Request.Clear z)) (same_range r s)
-one_words (C.ReadsWords.clear r) (C.ReadsWords.clear_place s) = absurd (range_or_word r s)
-one_words (C.ReadsWords.clear_place r) (C.ReadsWords.clear s) = absurd (range_or_word s r)
-one_words (C.ReadsWords.clear_place r) (C.ReadsWords.clear_place s) = ap Not (same_word r s)
-one_words (C.ReadsWords.view r v) (C.ReadsWords.view s w) = ap (λ (z : Range). Is (C.Request.View z)) (same_range r s)
-one_words (C.ReadsWords.view {r = x} r v) (C.ReadsWords.view_size {r = y} s w) = absurd (viewable_not x y (same_range r s) v w)
-one_words (C.ReadsWords.view r v) (C.ReadsWords.view_place s) = absurd (range_or_word r s)
-one_words (C.ReadsWords.view_size {r = x} r v) (C.ReadsWords.view {r = y} s w) = absurd (viewable_not y x (same_range s r) w v)
-one_words (C.ReadsWords.view_size r v) (C.ReadsWords.view_size s w) = refl
-one_words (C.ReadsWords.view_size r v) (C.ReadsWords.view_place s) = absurd (range_or_word r s)
-one_words (C.ReadsWords.view_place r) (C.ReadsWords.view s w) = absurd (range_or_word s r)
-one_words (C.ReadsWords.view_place r) (C.ReadsWords.view_size s w) = absurd (range_or_word s r)
+one_words (C.ReadsWords.clear r) (C.ReadsWords.clear s) = ap (λ (z : Read Range). C.onto C.Request.Clear z) (one_range r s)
+one_words (C.ReadsWords.view r) (C.ReadsWords.view s) = ap (λ (z : Range). cond (C.is_viewable z) (Is (C.Request.View z)) (Not (codes "range"))) (same_range r s)
+one_words (C.ReadsWords.view r) (C.ReadsWords.view_place s) = absurd (range_or_word r s)
+one_words (C.ReadsWords.view_place r) (C.ReadsWords.view s) = absurd (range_or_word s r)
 one_words (C.ReadsWords.view_place r) (C.ReadsWords.view_place s) = ap Not (same_word r s)
 one_words (C.ReadsWords.show {place = p} {a = a} h) (C.ReadsWords.show {a = b} k) = ap (λ (z : Addr). Is (C.Request.Show z)) (same_place p a b h k)
 one_words (C.ReadsWords.show {a = a} h) (C.ReadsWords.show_place n) = absurd (n a h)
@@ -233,20 +187,13 @@ one_words C.ReadsWords.undo C.ReadsWords.undo = refl
 one_words C.ReadsWords.redo C.ReadsWords.redo = refl
 one_words C.ReadsWords.flow C.ReadsWords.flow = refl
 one_words C.ReadsWords.site C.ReadsWords.site = refl
-one_words (C.ReadsWords.edit {t = t} {n = n} {place = p} {a = a} {c = c} h i r) (C.ReadsWords.edit {a = b} {c = d} k j s) = ap (λ (z : Addr). edit_by t n z c) (same_place p a b h k) ∙ ap (λ (z : Option F.Content). edit_by t n b z) (same_edit r s)
-one_words (C.ReadsWords.edit h i r) (C.ReadsWords.edit_fault b k j s) = absurd (text_or_fault r s)
-one_words (C.ReadsWords.edit {t = t} {n = n} h i r) (C.ReadsWords.edit_stamp b k j) = absurd (stamp_or_not (is_stamp (digits_value t) (digits_value n)) i j)
-one_words (C.ReadsWords.edit {a = a} h i r) (C.ReadsWords.edit_place m) = absurd (m a h)
-one_words (C.ReadsWords.edit_fault a h i r) (C.ReadsWords.edit k j s) = absurd (text_or_fault s r)
-one_words (C.ReadsWords.edit_fault a h i r) (C.ReadsWords.edit_fault b k j s) = ap Not (same_text_fault r s)
-one_words (C.ReadsWords.edit_fault {t = t} {n = n} a h i r) (C.ReadsWords.edit_stamp b k j) = absurd (stamp_or_not (is_stamp (digits_value t) (digits_value n)) i j)
-one_words (C.ReadsWords.edit_fault a h i r) (C.ReadsWords.edit_place m) = absurd (m a h)
-one_words (C.ReadsWords.edit_stamp {t = t} {n = n} a h i) (C.ReadsWords.edit k j s) = absurd (stamp_or_not (is_stamp (digits_value t) (digits_value n)) j i)
-one_words (C.ReadsWords.edit_stamp {t = t} {n = n} a h i) (C.ReadsWords.edit_fault b k j s) = absurd (stamp_or_not (is_stamp (digits_value t) (digits_value n)) j i)
+one_words (C.ReadsWords.edit {t = t} {n = n} {place = p} {r = x} a h i r) (C.ReadsWords.edit {r = y} b k j s) = ap (λ (z : Addr). edit_by t n z x) (same_place p a b h k) ∙ ap (λ (z : Read (Option F.Content)). edit_by t n b z) (same_text r s)
+one_words (C.ReadsWords.edit {t = t} {n = n} a h i r) (C.ReadsWords.edit_stamp b k j) = absurd (stamp_or_not (is_stamp (digits_value t) (digits_value n)) i j)
+one_words (C.ReadsWords.edit a h i r) (C.ReadsWords.edit_place m) = absurd (m a h)
+one_words (C.ReadsWords.edit_stamp {t = t} {n = n} a h i) (C.ReadsWords.edit b k j s) = absurd (stamp_or_not (is_stamp (digits_value t) (digits_value n)) j i)
 one_words (C.ReadsWords.edit_stamp a h i) (C.ReadsWords.edit_stamp b k j) = refl
 one_words (C.ReadsWords.edit_stamp a h i) (C.ReadsWords.edit_place m) = absurd (m a h)
-one_words (C.ReadsWords.edit_place m) (C.ReadsWords.edit {a = b} k j s) = absurd (m b k)
-one_words (C.ReadsWords.edit_place m) (C.ReadsWords.edit_fault b k j s) = absurd (m b k)
+one_words (C.ReadsWords.edit_place m) (C.ReadsWords.edit b k j s) = absurd (m b k)
 one_words (C.ReadsWords.edit_place m) (C.ReadsWords.edit_stamp b k j) = absurd (m b k)
 one_words (C.ReadsWords.edit_place m) (C.ReadsWords.edit_place k) = refl
 

@@ -1,5 +1,6 @@
 -- Addresses and ranges by their texts.
-use Rattle.std.proofs.Common.{◌≡◌, ◌∙◌, ℕ, zero, suc, Bool, true, false, ◌&&◌, nat_le, [], ◌∷◌, ◌++◌, Option, Some, ◌⊎◌, inl, inr, refl, sym, ap, subst, arith}
+use Rattle.std.specs.Prelude.{codes}
+use Rattle.std.proofs.Common.{cond, ◌≡◌, ◌∙◌, ℕ, zero, suc, Bool, true, false, ◌&&◌, nat_le, [], ◌∷◌, ◌++◌, Option, Some, ◌⊎◌, inl, inr, refl, sym, ap, subst, arith}
 use Rattle.std.specs.Fmt.{decimal}
 use Rattle.gl_calculus.specs.Grid.Grid.{Addr, Range, range}
 use Rattle.gl_calculus.specs.Grid.Notation.{column_text}
@@ -10,7 +11,7 @@ use Rattle.gl_lex.proofs.Rows.{AllPass}
 use Rattle.gl_lex.proofs.Letters.{decimal_row, column_row}
 use Rattle.gl_lex.proofs.Starts.{on_grid}
 use Rattle.gl_protocol.specs.Framing.Pieces.{cut_at}
-use Rattle.gl_protocol.specs.Scripts.Commands.{IsAddress, NoAddress, IsPlace, in_order, ReadsRange, Is, Not, RangeWord, AddressWord}
+use Rattle.gl_protocol.specs.Scripts.Commands.{IsAddress, NoAddress, IsPlace, in_order, ReadsRange, Is, Not}
 use Rattle.gl_protocol.specs.Scripts.Commands as C
 use Rattle.gl_script.proofs.Headers.{Lacks}
 use Rattle.gl_script.proofs.Cuts.{cut-at}
@@ -91,10 +92,10 @@ pub same_order : (a b : Addr) → is_ordered a b ≡ in_order a b
 same_order a b = both (nat_le a.row b.row) (nat_le a.col b.col)
 
 pub range_in_order : (bs : Bytes) (a b : Addr) (x : Range) (t : Bool) → IsPlace bs a b → t ≡ is_ordered a b → t ≡ true → x ≡ range a b → ReadsRange bs (Is x)
-range_in_order bs a b x t p o e d = subst (λ (y : Range). ReadsRange bs (Is y)) (sym d) (C.ReadsRange.range_of p (sym (same_order a b) ∙ sym o ∙ e))
+range_in_order bs a b x t p o e d = subst (λ (y : Range). ReadsRange bs (Is y)) (sym d) (subst (λ (u : Bool). ReadsRange bs (cond u (Is (range a b)) (Not (codes "range")))) (sym (same_order a b) ∙ sym o ∙ e) (C.ReadsRange.range_of p))
 
-pub range_unordered : (bs : Bytes) (a b : Addr) (t : Bool) → IsPlace bs a b → t ≡ is_ordered a b → t ≡ false → ReadsRange bs (Not RangeWord)
-range_unordered bs a b t p o e = C.ReadsRange.unordered p (sym (same_order a b) ∙ sym o ∙ e)
+pub range_unordered : (bs : Bytes) (a b : Addr) (t : Bool) → IsPlace bs a b → t ≡ is_ordered a b → t ≡ false → ReadsRange bs (Not (codes "range"))
+range_unordered bs a b t p o e = subst (λ (u : Bool). ReadsRange bs (cond u (Is (range a b)) (Not (codes "range")))) (sym (same_order a b) ∙ sym o ∙ e) (C.ReadsRange.range_of p)
 
-pub range_nowhere : (bs : Bytes) → ((a b : Addr) → IsPlace bs a b → ⊥) → ReadsRange bs (Not AddressWord)
+pub range_nowhere : (bs : Bytes) → ((a b : Addr) → IsPlace bs a b → ⊥) → ReadsRange bs (Not (codes "address"))
 range_nowhere bs h = C.ReadsRange.no_address h

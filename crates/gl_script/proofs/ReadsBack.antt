@@ -1,4 +1,5 @@
 -- The text of a content that was set or imported is read as this content again.
+use Rattle.std.specs.Prelude.{codes}
 use Rattle.std.proofs.Common.{◌≡◌, ◌≢◌, ◌∙◌, ℕ, ◌+◌, ◌*◌, ◌/◌, ◌%◌, ◌^◌, ◌<◌, ◌≤◌, suc, ℤ, pos, negsuc, IsTrue, Bool, true, false, ◌&&◌, ◌==◌, List, [], ◌∷◌, ◌++◌, length, get_or, Option, Some, None, inl, inr, refl, sym, ap, subst, arith}
 use Rattle.std.specs.Prelude.{flat_map, nat_lt, nat_le, neg_ℤ, int_le, int_lt, ⊤, bytes_eq}
 use Rattle.std.specs.List.{list_all, AllByRecursion}
@@ -18,7 +19,7 @@ use Rattle.gl_language.specs.Reading.Token.{is_digit, digits_value, IsRow, Decod
 use Rattle.gl_lex.proofs.Letters.{decimal_row}
 use Rattle.laws_language.proofs.Grammar.Printed.{prints_back}
 use Rattle.gl_protocol.specs.Scripts.Commands as C
-use Rattle.gl_protocol.specs.Scripts.Commands.{Read, Is, Not, Word, ReadsContent, field_fault, fields, contents, imported}
+use Rattle.gl_protocol.specs.Scripts.Commands.{Read, Is, Not, ReadsContent, field_fault, fields, contents, imported}
 use Rattle.gl_language.specs.Texts.Plain.{signed_value, plain_scalar}
 use Rattle.gl_script.specs.Reading.{SetReadsBack, ImportReadsBack}
 use Rattle.gl_script.proofs.Contents.{plain_content, number_content}
@@ -187,14 +188,14 @@ field_short : (x : Addr × Bytes) → field_fault x ≡ None → length x.1 ≤ 
 field_short x h = by (nat_lt max_text (length x.1)) refl
   where
     by : (b : Bool) → nat_lt max_text (length x.1) ≡ b → length x.1 ≤ max_text
-    by true k = let e : field_fault x ≡ Some C.FieldWord = rw k refl in let i : None ≡ Some C.FieldWord = sym h ∙ e in cc i
+    by true k = let e : field_fault x ≡ Some (codes "field") = rw k refl in let i : None ≡ Some (codes "field") = sym h ∙ e in cc i
     by false k = grind (arith, nat_tests, k)
 
 contents_back : (xs : List (Addr × Bytes)) → AllBack (contents xs)
 contents_back [] = tt
 contents_back (x ∷ xs) = by (field_fault x) (contents xs) refl refl (contents_back xs)
   where
-    by : (o : Option Word) (r : Read Cells) → field_fault x ≡ o → contents xs ≡ r → AllBack r → AllBack (contents (x ∷ xs))
+    by : (o : Option Bytes) (r : Read Cells) → field_fault x ≡ o → contents xs ≡ r → AllBack r → AllBack (contents (x ∷ xs))
     by (Some w) r h k all = rw h tt
     by None (Is cs) h k all = rw (h, k) (plain_back x.1 (field_short x h), all)
     by None (Not w) h k all = rw (h, k) tt

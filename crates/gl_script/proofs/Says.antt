@@ -5,7 +5,8 @@ use Rattle.std.proofs.lemmas.Bool.Decides.{nat_tests}
 use Rattle.gl_language.specs.Texts.Text.{Bytes}
 use Rattle.gl_protocol.specs.Framing.Pieces.{cut_at, pieces, is_number}
 use Rattle.gl_protocol.specs.Framing.Header.{count_by, count_of}
-use Rattle.gl_protocol.specs.Scripts.Commands.{Words, ListWords, CalcWords, OracleWords, QuitWords, ExportWords, UndoWords, RedoWords, FlowWords, SetWords, ClearWords, ViewWords, ShowWords, GetWords, WhyWords, ExplainWords, ImportWords, SiteWords, EditWords, words_of, set_words, edit_words, words_of_pieces, some_words, behind, is_text}
+use Rattle.gl_script.specs.Parts.{some_words}
+use Rattle.gl_protocol.specs.Scripts.Commands.{Words, ListWords, CalcWords, OracleWords, QuitWords, ExportWords, UndoWords, RedoWords, FlowWords, SetWords, ClearWords, ViewWords, ShowWords, GetWords, WhyWords, ExplainWords, ImportWords, SiteWords, EditWords, words_of, set_words, edit_words, words_of_pieces, behind, is_text}
 use Rattle.gl_script.specs.Numbers.{is_site}
 use Rattle.gl_script.specs.Parts.{edit_at, edit_behind}
 

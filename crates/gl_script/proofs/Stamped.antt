@@ -9,6 +9,7 @@ use Rattle.gl_language.specs.Reading.Token.{digits_value}
 use Rattle.gl_calculus.specs.Edits.Limits.{max_time, max_site}
 use Rattle.gl_protocol.specs.Framing.Pieces.{is_number}
 use Rattle.gl_protocol.specs.Scripts.Commands as C
+use Rattle.gl_script.specs.Parts.{some_words}
 use Rattle.gl_script.specs.Numbers.{is_site, is_time, pair_if, stamp_in}
 use Rattle.gl_script.proofs.Headers.{counted, some_digit}
 
@@ -95,16 +96,16 @@ module _ (t n : Bytes) (numbers : (is_number t && is_number n) ≡ true) where
 
 -- ---- the words of `site`
 
-pub site_words_none : (digits : Bytes) → None ≡ cond (is_site digits) (Some (digits_value digits)) None → None ≡ C.some_words (is_site digits) (C.SiteWords digits)
+pub site_words_none : (digits : Bytes) → None ≡ cond (is_site digits) (Some (digits_value digits)) None → None ≡ some_words (is_site digits) (C.SiteWords digits)
 site_words_none digits h = by (is_site digits) h
   where
-    by : (b : Bool) → None ≡ cond b (Some (digits_value digits)) None → None ≡ C.some_words b (C.SiteWords digits)
+    by : (b : Bool) → None ≡ cond b (Some (digits_value digits)) None → None ≡ some_words b (C.SiteWords digits)
     by true k = absurd (cc k)
     by false k = refl
 
-pub site_words_some : (digits : Bytes) (n : ℕ) → Some n ≡ cond (is_site digits) (Some (digits_value digits)) None → Some (C.SiteWords digits) ≡ C.some_words (is_site digits) (C.SiteWords digits)
+pub site_words_some : (digits : Bytes) (n : ℕ) → Some n ≡ cond (is_site digits) (Some (digits_value digits)) None → Some (C.SiteWords digits) ≡ some_words (is_site digits) (C.SiteWords digits)
 site_words_some digits n h = by (is_site digits) h
   where
-    by : (b : Bool) → Some n ≡ cond b (Some (digits_value digits)) None → Some (C.SiteWords digits) ≡ C.some_words b (C.SiteWords digits)
+    by : (b : Bool) → Some n ≡ cond b (Some (digits_value digits)) None → Some (C.SiteWords digits) ≡ some_words b (C.SiteWords digits)
     by true k = refl
     by false k = absurd (cc k)

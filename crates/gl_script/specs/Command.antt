@@ -7,7 +7,7 @@ use Rattle.gl_protocol.specs.Framing.Framing.{Line}
 use Rattle.gl_protocol.specs.Framing.Header.{payload_len}
 use Rattle.gl_protocol.specs.Scripts.Output.{is_line}
 use Rattle.gl_protocol.specs.Scripts.Commands as C
-use Rattle.gl_protocol.specs.Scripts.Commands.{Word, Is, Not, ReadsLine, words_of, SetWords, EditWords, ImportWords, IsAddress, NoAddress}
+use Rattle.gl_protocol.specs.Scripts.Commands.{Is, Not, ReadsLine, words_of, SetWords, EditWords, ImportWords, IsAddress, NoAddress}
 use Rattle.gl_lex.specs.declared.fault.LexFault.TheVariants as lex
 use Rattle.gl_parse.specs.Outcome.{IsRefused}
 use Rattle.gl_parse.specs.declared.fault.ParseFault.{ParseFault}
@@ -21,30 +21,30 @@ use Rattle.gl_script.specs.declared.requests.CommandFault.{CommandFault}
 use Rattle.gl_script.specs.declared.requests.CommandFault.TheVariants as f
 
 -- the word of a formula's fault; a want of memory is none
-abbrev pub parse_word : ParseFault → Option Word
-parse_word parse.Long = Some C.LongWord
-parse_word (parse.Lex (lex.Token at_byte)) = Some C.TokenWord
-parse_word (parse.Lex (lex.Number at_byte)) = Some C.NumberWord
-parse_word (parse.Lex (lex.Text at_byte)) = Some C.TextWord
+abbrev pub parse_word : ParseFault → Option Bytes
+parse_word parse.Long = Some (codes "long")
+parse_word (parse.Lex (lex.Token at_byte)) = Some (codes "token")
+parse_word (parse.Lex (lex.Number at_byte)) = Some (codes "number")
+parse_word (parse.Lex (lex.Text at_byte)) = Some (codes "text")
 parse_word (parse.Lex lex.NoMemory) = None
-parse_word parse.Deep = Some C.DeepWord
-parse_word parse.Syntax = Some C.SyntaxWord
-parse_word parse.Range = Some C.RangeWord
-parse_word parse.Name = Some C.NameWord
-parse_word parse.Arity = Some C.ArityWord
+parse_word parse.Deep = Some (codes "deep")
+parse_word parse.Syntax = Some (codes "syntax")
+parse_word parse.Range = Some (codes "range")
+parse_word parse.Name = Some (codes "name")
+parse_word parse.Arity = Some (codes "arity")
 parse_word parse.NoMemory = None
 
 -- the word of a refusal
-abbrev pub word_of : CommandFault → Option Word
-word_of f.Utf8 = Some C.Utf8Word
-word_of f.Word = Some C.CommandWord
-word_of f.Payload = Some C.PayloadWord
-word_of f.Address = Some C.AddressWord
-word_of f.Range = Some C.RangeWord
-word_of f.Stamp = Some C.StampWord
+abbrev pub word_of : CommandFault → Option Bytes
+word_of f.Utf8 = Some (codes "utf8")
+word_of f.Word = Some (codes "command")
+word_of f.Payload = Some (codes "payload")
+word_of f.Address = Some (codes "address")
+word_of f.Range = Some (codes "range")
+word_of f.Stamp = Some (codes "stamp")
 word_of (f.Parse e) = parse_word e
-word_of f.Text = Some C.TextWord
-word_of f.Field = Some C.FieldWord
+word_of f.Text = Some (codes "text")
+word_of f.Field = Some (codes "field")
 word_of f.NoMemory = None
 
 -- the line that gives a script version Two, where it is the first
@@ -77,7 +77,7 @@ Asks l r.Oracle = ReadsLine l (Is C.Request.ShowOracle)
 Asks l (r.Why a) = ReadsLine l (Is (C.Request.Why a))
 Asks l (r.Explain a) = ReadsLine l (Is (C.Request.Explain a))
 Asks l (r.Import a n) = IsHeader l a n
-Asks l r.Version = IsTrue (is_version_line l) × ReadsLine l (Not C.CommandWord)
+Asks l r.Version = IsTrue (is_version_line l) × ReadsLine l (Not (codes "command"))
 Asks l r.Quit = ReadsLine l (Is C.Request.Quit)
 Asks l (r.Site n) = ReadsLine l (Is (C.Request.Site n))
 Asks l (r.Edit t n a c) = ReadsLine l (Is (C.Request.Merge (edit_of t n a c))) × IsTrue (is_stamp t n) × IfSome c (λ d. IsProperContent (content_tree d))

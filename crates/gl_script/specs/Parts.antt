@@ -1,11 +1,12 @@
 -- The parts of a line: words, places and texts.
+use Rattle.std.specs.Prelude.{if◌then◌else◌, codes}
 use Rattle.std.specs.Prelude.{◌≡◌, ◌∷◌, ◌&&◌, nat_lt, length, Option, Some, None, option_map, option_copied, IfSome, Result, Ok, Err, IsTrue, IsFalse, Bool, true, false, ⊤}
 use Rattle.std.specs.Str.{is_utf8}
 use Rattle.gl_calculus.specs.Values.Value as V
 use Rattle.gl_language.specs.Texts.Text.{Bytes}
 use Rattle.gl_language.specs.Reading.Content.{IsProperContent}
 use Rattle.gl_plane.specs.declared.range.Range.{Range as GridRange}
-use Rattle.gl_protocol.specs.Framing.Pieces.{Cut, cut_at, is_number}
+use Rattle.gl_protocol.specs.Framing.Pieces.{cut_at, is_number}
 use Rattle.gl_protocol.specs.Scripts.Commands as C
 use Rattle.gl_protocol.specs.Scripts.Commands.{Is, Not, ReadsContent, ReadsText, ReadsRange, words_of, is_comment}
 use Rattle.gl_lex.specs.declared.fault.LexFault.{LexFault}
@@ -45,9 +46,17 @@ abbrev pub some_tree : Option Words → Option C.Words
 some_tree None = None
 some_tree (Some ws) = Some (words_tree ws)
 
+-- these words, if a test passes
+abbrev pub some_words : Bool → C.Words → Option C.Words
+some_words b x = if b then Some x else None
+
+-- what stands before a separator, and what follows it if there is one
+abbrev pub Cut : Type 0
+Cut = Bytes × Option Bytes
+
 -- the words of an edit, of its time, its site, and the cut behind them
 abbrev pub edit_at : Bytes → Bytes → Cut → Option C.Words
-edit_at t n p = C.some_words ((is_number t && is_number n) && (nat_lt 0 (length p.0) && C.is_text p.1)) (C.EditWords t n p.0 p.1)
+edit_at t n p = some_words ((is_number t && is_number n) && (nat_lt 0 (length p.0) && C.is_text p.1)) (C.EditWords t n p.0 p.1)
 
 -- the same, of its time and the cut behind it
 abbrev pub edit_behind : Bytes → Cut → Option C.Words
@@ -71,9 +80,9 @@ literal_fault e = f.Text
 -- what is read of a text that isn't empty
 abbrev pub IsContent : Bytes → Result Content CommandFault → Type 0
 IsContent t (Ok c) = ReadsContent t (Is (content_tree c)) × IsProperContent (content_tree c)
-IsContent t (Err (f.Parse e)) = (u : Bytes) × (t ≡ 61 ∷ u) × IsRefused u e × ((w : C.Word) × (parse_word e ≡ Some w) × ReadsContent t (Not w))
-IsContent t (Err f.Text) = (u : Bytes) × (t ≡ 34 ∷ u) × ReadsContent t (Not C.TextWord)
-IsContent t (Err f.Field) = ReadsContent t (Not C.FieldWord)
+IsContent t (Err (f.Parse e)) = (u : Bytes) × (t ≡ 61 ∷ u) × IsRefused u e × ((w : Bytes) × (parse_word e ≡ Some w) × ReadsContent t (Not w))
+IsContent t (Err f.Text) = (u : Bytes) × (t ≡ 34 ∷ u) × ReadsContent t (Not (codes "text"))
+IsContent t (Err f.Field) = ReadsContent t (Not (codes "field"))
 IsContent t (Err f.NoMemory) = ⊤
 IsContent t (Err e) = ⊥
 
@@ -85,8 +94,8 @@ IsText o (Err e) = (t : Bytes) × (o ≡ Some t) × IsContent t (Err e)
 -- what is read of the place of a range
 abbrev pub IsRange : Bytes → Result GridRange CommandFault → Type 0
 IsRange place (Ok x) = ReadsRange place (Is x)
-IsRange place (Err f.Address) = ReadsRange place (Not C.AddressWord)
-IsRange place (Err f.Range) = ReadsRange place (Not C.RangeWord)
+IsRange place (Err f.Address) = ReadsRange place (Not (codes "address"))
+IsRange place (Err f.Range) = ReadsRange place (Not (codes "range"))
 IsRange place (Err e) = ⊥
 
 abbrev pub is_int : V.Scalar → Bool

@@ -2,7 +2,7 @@
 ghost use Rattle.std.specs.Prelude.{◌≡◌, ◌∷◌, ◌&&◌, Some, None, option_copied};
 ghost use Rattle.gl_protocol.specs.Framing.Pieces.{cut_at, pieces, is_number};
 ghost use Rattle.gl_protocol.specs.Scripts.Commands as C;
-ghost use Rattle.gl_script.specs.Parts.{edit_at, edit_behind, some_tree};
+ghost use Rattle.gl_script.specs.Parts.{edit_at, edit_behind, some_tree, some_words};
 ghost use Rattle.gl_script.specs.Numbers.{is_site};
 
 use crate::header::is_number;
@@ -175,7 +175,7 @@ fn two_words<'a>(word: &str, place: &'a str) -> Option<Words<'a>>
 }
 
 fn site_words(site: &str) -> Option<Words<'_>>
-    ensures { some_tree result ≡ C.some_words (is_site site.now) (C.SiteWords site.now) }
+    ensures { some_tree result ≡ some_words (is_site site.now) (C.SiteWords site.now) }
 {
     match site_of(site) {
         None => None,

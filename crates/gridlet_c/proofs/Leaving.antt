@@ -46,18 +46,18 @@ module _ (script : Bytes) (taken : List ℕ) (n : ℕ) (short : n < length taken
   -- the replies to these first items were written, and now a proper front of them
   cut : (l : List Item) → IsPrefix l (items_of script) → WroteAll (Some []) (Some taken) l → Leaves WriteFault script (Some []) (Some (take n taken)) (λ m. m ≤ n)
   cut l part h =
-      let size : n < length (concat h.0) = omega (arith, ap length (written h.2)) in (
-        (l, part, (h.0, h.1, n, size, front_of n h.2)),
-        λ m le. exceeding m l (items_of script) h.0 part h.1 (λ fits. absurd (omega (arith, size, le, fits))),
+      let size : n < length (concat h.replies) = omega (arith, ap length (written h.written)) in (
+        (record { items = l; are_first = part; replies = h.replies; are_replies = h.are_replies }, n, size, front_of n h.written),
+        λ m le. exceeding m l (items_of script) h.replies part h.are_replies (λ fits. absurd (omega (arith, size, le, fits))),
       )
 
   whole : IsPrefix (items_of script) (items_of script)
   whole = ([], sym (append-nil (items_of script)))
 
   pub cut_leaves : (status : Status) → (status ≡ WriteFault → ⊥) → Leaves status script (Some []) (Some taken) (λ m. ⊥) → Leaves WriteFault script (Some []) (Some (take n taken)) (λ m. m ≤ n)
-  cut_leaves (Done refused) other h = cut (items_of script) whole (h.1.0, h.1.1, h.1.2)
+  cut_leaves (Done refused) other h = cut (items_of script) whole h.1.0
   cut_leaves Usage other h = absurd h
-  cut_leaves NoMemory other h = cut h.0 h.1 h.2
+  cut_leaves NoMemory other h = cut h.0.items h.0.are_first (record { replies = h.0.replies; are_replies = h.0.are_replies; written = h.1 })
   cut_leaves ReadFault other h = absurd h
   cut_leaves WriteFault other h = absurd (other refl)
   cut_leaves InputLimit other h = cut (items_of script) whole h.1

@@ -4,7 +4,7 @@ use Rattle.gl_calculus.specs.Grid.Limits.{max_formulas, max_contents}
 use Rattle.gl_calculus.specs.Formulas.Formula.{Version, Cells, IsSheet, formula_addresses}
 use Rattle.gl_language.specs.Texts.Text.{Bytes}
 use Rattle.gl_protocol.specs.Framing.Framing.{Item}
-use Rattle.gl_protocol.specs.Scripts.Commands.{Word, error_line}
+use Rattle.gl_protocol.specs.Scripts.Commands.{error_line}
 use Rattle.gl_protocol.specs.Scripts.Script.{Script, new_script}
 use Rattle.gl_protocol.specs.Scripts.Acts.{Acts}
 use Rattle.gl_protocol.specs.Scripts.Output.{is_refusal, AreReplies, IsOutput, Runs}
@@ -22,12 +22,12 @@ FirstRepliesFirst =
 
 -- An `error` line begins as one, and no other reply does.
 abbrev pub ErrorsAreRefusals : Type 0
-ErrorsAreRefusals = (w : Word) → IsTrue (is_refusal (error_line w))
+ErrorsAreRefusals = (w : Bytes) → IsTrue (is_refusal (error_line w))
 
 abbrev pub RefusalsAreErrors : Type 0
 RefusalsAreErrors =
     (records : Bytes → List (List Bytes)) (version : Version) (s s' : Script) (x : Item) (r : Bytes) →
-    Acts records version s x s' r → IsTrue (is_refusal r) → (w : Word) × (r ≡ error_line w)
+    Acts records version s x s' r → IsTrue (is_refusal r) → (w : Bytes) × (r ≡ error_line w)
 
 -- at most so many formulas, and so many contents
 abbrev pub IsWithinLimits : Cells → Type 0

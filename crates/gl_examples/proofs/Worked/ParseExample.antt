@@ -9,7 +9,7 @@ use Rattle.gl_language.specs.Reading.Grammar.{Raw, IsExpr, IsChain, alone, chain
 use Rattle.gl_examples.proofs.Worked.Sheets.{int, plus, times}
 
 abbrev tokens : List Token
-tokens = Integer 1 ∷ Signed T.Sign.Plus ∷ Signed T.Sign.LeftParen ∷ Integer 2 ∷ Signed T.Sign.Times ∷ Integer 3 ∷ Signed T.Sign.RightParen ∷ []
+tokens = Integer 1 ∷ Signed (T.Sign.Operator F.Op.Add) ∷ Signed T.Sign.LeftParen ∷ Integer 2 ∷ Signed (T.Sign.Operator F.Op.Mul) ∷ Integer 3 ∷ Signed T.Sign.RightParen ∷ []
 
 -- a row of one digit
 abbrev digit : (b : ℕ) → T.is_digit b ≡ true → T.digits_value (b ∷ []) < 2 ^ 63 → Spells (Integer (T.digits_value (b ∷ []))) (b ∷ [])
@@ -37,7 +37,7 @@ one_factor ts rest f u = chain (unary u) no_link
 one_term : (ts rest : G.Tokens) (f : Raw) → IsChain F.Level.Sum ts f rest → IsExpr ts f rest
 one_term ts rest f c = alone (chain (G.sum c) no_link)
 
-product_form : (rest : G.Tokens) → IsExpr (Integer 2 ∷ Signed T.Sign.Times ∷ Integer 3 ∷ rest) product rest
+product_form : (rest : G.Tokens) → IsExpr (Integer 2 ∷ Signed (T.Sign.Operator F.Op.Mul) ∷ Integer 3 ∷ rest) product rest
 product_form rest = one_term _ rest product (chain (prod (chain (unary (atom number)) (link refl (unary (atom number)) no_link))) no_link)
 
 sum_form : IsExpr tokens sum []

@@ -9,7 +9,7 @@ use Rattle.gl_calculus.specs.Formulas.Formula as F
 use Rattle.gl_language.specs.Texts.Text.{Bytes}
 use Rattle.gl_calculus.specs.Edits.Replicas.{Edit, Replica, Judged, Wins, Loses, Conflict, IsJudged, stamp}
 use Rattle.gl_protocol.specs.Replies.Tables.{export_text}
-use Rattle.gl_protocol.specs.Scripts.Commands.{Read, Is, Not, UndoWord, RedoWord, SiteWord, StampWord, ConflictWord, Request, Set, Clear, Site, Undo, Redo, words_of, EditWords, SiteWords, get_text, list_text}
+use Rattle.gl_protocol.specs.Scripts.Commands.{Read, Is, Not, Request, Set, Clear, Site, Undo, Redo, words_of, EditWords, SiteWords, get_text, list_text}
 use Rattle.gl_protocol.specs.Scripts.Script.{Script, new_script, change, merge}
 
 then_do : Read Script → (Script → Read Script) → Read Script
@@ -84,19 +84,19 @@ steps_on : told (all_of new_script (Set a1 (number 1) ∷ Set a1 (reference b1) 
 unfolding digits then_do all_of told number a1 b1 reference
 steps_on = refl
 
-nothing_left : all_of new_script (Set a1 (number 1) ∷ Undo ∷ Undo ∷ []) ≡ Not UndoWord
+nothing_left : all_of new_script (Set a1 (number 1) ∷ Undo ∷ Undo ∷ []) ≡ Not (codes "undo")
 unfolding then_do all_of number a1
 nothing_left = refl
 
-no_redo : all_of new_script (Set a1 (number 1) ∷ Undo ∷ Set a1 (number 9) ∷ Redo ∷ []) ≡ Not RedoWord
+no_redo : all_of new_script (Set a1 (number 1) ∷ Undo ∷ Set a1 (number 9) ∷ Redo ∷ []) ≡ Not (codes "redo")
 unfolding then_do all_of number a1
 no_redo = refl
 
-in_a_replica : all_of new_script (Site 1 ∷ Undo ∷ []) ≡ Not SiteWord
+in_a_replica : all_of new_script (Site 1 ∷ Undo ∷ []) ≡ Not (codes "site")
 unfolding then_do all_of
 in_a_replica = refl
 
-not_empty : all_of new_script (Set a1 (number 1) ∷ Site 1 ∷ []) ≡ Not SiteWord
+not_empty : all_of new_script (Set a1 (number 1) ∷ Site 1 ∷ []) ≡ Not (codes "site")
 unfolding then_do all_of number a1
 not_empty = refl
 
@@ -117,7 +117,7 @@ first_stays : told (all_of new_script (sets 257 (undos 256 []))) (λ s. get_text
 unfolding digits then_do all_of told number a1 sets undos
 first_stays = refl
 
-past_the_first : all_of new_script (sets 257 (undos 257 [])) ≡ Not UndoWord
+past_the_first : all_of new_script (sets 257 (undos 257 [])) ≡ Not (codes "undo")
 unfolding then_do all_of number a1 sets undos
 past_the_first = refl
 
@@ -132,12 +132,12 @@ late_edits : told (then_do late (λ s. change s (Clear (range a1 a1)))) exported
 unfolding digits then_do told number a1 b1 reference edit exported then_merge late
 late_edits = refl
 
-in_conflict : then_merge Conflict (edit 2 1 a1 (Some (number 8))) late ≡ Not ConflictWord
+in_conflict : then_merge Conflict (edit 2 1 a1 (Some (number 8))) late ≡ Not (codes "conflict")
 unfolding then_do number a1 b1 reference edit then_merge late
 in_conflict = refl
 
 -- where there is no next stamp nothing can be changed, also where nothing would be
-last_stamp : then_do (then_merge Wins (edit 1000000000000 2 a1 (Some (number 5))) (change new_script (Site 1))) (λ s. change s (Clear (range b1 b1))) ≡ Not StampWord
+last_stamp : then_do (then_merge Wins (edit 1000000000000 2 a1 (Some (number 5))) (change new_script (Site 1))) (λ s. change s (Clear (range b1 b1))) ≡ Not (codes "stamp")
 unfolding then_do number a1 b1 edit then_merge
 last_stamp = refl
 

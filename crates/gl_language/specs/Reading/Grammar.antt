@@ -1,13 +1,19 @@
--- The grammar of formulas: which tokens are a form, which tree a form is, and what is wrong with a text that has none.
-use Rattle.std.specs.Prelude.{◌≡◌, ℕ, ◌+◌, ◌-◌, ◌*◌, ◌<◌, ◌≤◌, nat_lt, nat_le, pos, Bool, true, false, ◌&&◌, ◌||◌, not, IsTrue, IsFalse, List, [], ◌∷◌, length, find, Option, Some, None, is_some, bytes_eq, codes, if◌then◌else◌}
+-- The grammar of formulas: which tokens are a form, which tree a form is, and what is wrong with a
+-- text that has none.
+use Rattle.std.specs.Prelude.{◌≡◌, ℕ, ◌+◌, ◌-◌, ◌*◌, ◌<◌, ◌≤◌, nat_lt, nat_le, pos, Bool, true}
+use Rattle.std.specs.Prelude.{false, ◌&&◌, ◌||◌, not, IsTrue, IsFalse, List, [], ◌∷◌, length, find}
+use Rattle.std.specs.Prelude.{Option, Some, None, is_some, bytes_eq, codes, if◌then◌else◌}
 use Rattle.std.specs.List.{list_any, AllByRecursion}
-use Rattle.gl_calculus.specs.Grid.Limits.{max_minus, max_open, max_arguments, max_formula, max_cells}
+use Rattle.std.specs.Option.{option_map_or}
+use Rattle.gl_calculus.specs.Grid.Limits.{max_minus, max_open, max_arguments, max_formula}
+use Rattle.gl_calculus.specs.Grid.Limits.{max_cells}
 use Rattle.gl_calculus.specs.Grid.Grid.{Addr, range, extents}
 use Rattle.gl_calculus.specs.Formulas.Formula.{Op, Level, Fun, Formula, Formulas, Operands}
 use Rattle.gl_calculus.specs.Formulas.Formula as F
 use Rattle.gl_language.specs.Texts.Text.{Bytes, fun_text}
-use Rattle.gl_language.specs.Reading.Token.{Sign, Token, Integer, Quoted, Address, Truth, Word, Variable, Signed, Lexes, LexFault, IsLexFault, IsToken}
-use Rattle.gl_language.specs.Reading.Token as T
+use Rattle.gl_language.specs.Reading.Token.{Operator, Hash, LeftParen, RightParen, Comma, Colon}
+use Rattle.gl_language.specs.Reading.Token.{Sign, Token, Integer, Quoted, Address, Truth, Word}
+use Rattle.gl_language.specs.Reading.Token.{Variable, Signed, Lexes, LexFault, IsLexFault, IsToken}
 
 -- a form as it is written, before its names and ranges are looked at
 mutual
@@ -33,20 +39,20 @@ mutual
 
 -- the comparison of a sign, and its operator in a chain of a level
 abbrev pub comparison : Sign → Option Op
-comparison T.Sign.Eq = Some F.Op.Eq
-comparison T.Sign.Ne = Some F.Op.Ne
-comparison T.Sign.Lt = Some F.Op.Lt
-comparison T.Sign.Le = Some F.Op.Le
-comparison T.Sign.Gt = Some F.Op.Gt
-comparison T.Sign.Ge = Some F.Op.Ge
+comparison (Operator F.Op.Eq) = Some F.Op.Eq
+comparison (Operator F.Op.Ne) = Some F.Op.Ne
+comparison (Operator F.Op.Lt) = Some F.Op.Lt
+comparison (Operator F.Op.Le) = Some F.Op.Le
+comparison (Operator F.Op.Gt) = Some F.Op.Gt
+comparison (Operator F.Op.Ge) = Some F.Op.Ge
 comparison s = None
 
 abbrev pub operator : Level → Sign → Option Op
-operator F.Level.Cat T.Sign.Join = Some F.Op.Join
-operator F.Level.Sum T.Sign.Plus = Some F.Op.Add
-operator F.Level.Sum T.Sign.Minus = Some F.Op.Sub
-operator F.Level.Prod T.Sign.Times = Some F.Op.Mul
-operator F.Level.Prod T.Sign.Over = Some F.Op.Div
+operator F.Level.Cat (Operator F.Op.Join) = Some F.Op.Join
+operator F.Level.Sum (Operator F.Op.Add) = Some F.Op.Add
+operator F.Level.Sum (Operator F.Op.Sub) = Some F.Op.Sub
+operator F.Level.Prod (Operator F.Op.Mul) = Some F.Op.Mul
+operator F.Level.Prod (Operator F.Op.Div) = Some F.Op.Div
 operator level s = None
 
 -- operands with an operator are a chain, and one alone is itself
@@ -62,15 +68,21 @@ mutual
   -- expr = cat [ comparison cat ]
   pub data IsExpr : Tokens → Raw → Tokens → Type 0 where
     alone : {ts us : Tokens} {f : Raw} → IsChain F.Level.Cat ts f us → IsExpr ts f us
-    compare : {ts us vs : Tokens} {f g : Raw} {s : Sign} {op : Op} → IsChain F.Level.Cat ts f (Signed s ∷ us) → comparison s ≡ Some op → IsChain F.Level.Cat us g vs → IsExpr ts (Compare op f g) vs
+    compare : {ts us vs : Tokens} {f g : Raw} {s : Sign} {op : Op}
+        → IsChain F.Level.Cat ts f (Signed s ∷ us) → comparison s ≡ Some op
+        → IsChain F.Level.Cat us g vs → IsExpr ts (Compare op f g) vs
 
   -- cat = sum { "&" sum }, sum = prod { ("+" | "-") prod }, prod = unary { ("*" | "/") unary }
   pub data IsChain : Level → Tokens → Raw → Tokens → Type 0 where
-    chain : {level : Level} {ts us vs : Tokens} {f : Raw} {rest : RawOperands} → IsOperand level ts f us → IsLinks level us rest vs → IsChain level ts (chained level f rest) vs
+    chain : {level : Level} {ts us vs : Tokens} {f : Raw} {rest : RawOperands}
+        → IsOperand level ts f us → IsLinks level us rest vs
+        → IsChain level ts (chained level f rest) vs
 
   pub data IsLinks : Level → Tokens → RawOperands → Tokens → Type 0 where
     no_link : {level : Level} {ts : Tokens} → IsLinks level ts no_operand ts
-    link : {level : Level} {ts us vs : Tokens} {s : Sign} {op : Op} {f : Raw} {rest : RawOperands} → operator level s ≡ Some op → IsOperand level ts f us → IsLinks level us rest vs → IsLinks level (Signed s ∷ ts) (operand_and op f rest) vs
+    link : {level : Level} {ts us vs : Tokens} {s : Sign} {op : Op} {f : Raw} {rest : RawOperands}
+        → operator level s ≡ Some op → IsOperand level ts f us → IsLinks level us rest vs
+        → IsLinks level (Signed s ∷ ts) (operand_and op f rest) vs
 
   pub data IsOperand : Level → Tokens → Raw → Tokens → Type 0 where
     sum : {ts us : Tokens} {f : Raw} → IsChain F.Level.Sum ts f us → IsOperand F.Level.Cat ts f us
@@ -79,7 +91,8 @@ mutual
 
   -- unary = "-" unary | atom
   pub data IsUnary : Tokens → Raw → Tokens → Type 0 where
-    neg : {ts us : Tokens} {f : Raw} → IsUnary ts f us → IsUnary (Signed T.Sign.Minus ∷ ts) (Neg f) us
+    neg : {ts us : Tokens} {f : Raw} → IsUnary ts f us
+        → IsUnary (Signed (Operator F.Op.Sub) ∷ ts) (Neg f) us
     atom : {ts us : Tokens} {f : Raw} → IsAtom ts f us → IsUnary ts f us
 
   pub data IsAtom : Tokens → Raw → Tokens → Type 0 where
@@ -87,29 +100,35 @@ mutual
     text : {t : Bytes} {ts : Tokens} → IsAtom (Quoted t ∷ ts) (Text t) ts
     truth : {b : Bool} {ts : Tokens} → IsAtom (Truth b ∷ ts) (Boolean b) ts
     address : {a : Addr} {ts : Tokens} → IsAtom (Address a ∷ ts) (At a) ts
-    spill : {a : Addr} {ts : Tokens} → IsAtom (Address a ∷ Signed T.Sign.Hash ∷ ts) (Spill a) ts
-    corners : {a b : Addr} {ts : Tokens} → IsAtom (Address a ∷ Signed T.Sign.Colon ∷ Address b ∷ ts) (Corners a b) ts
+    spill : {a : Addr} {ts : Tokens} → IsAtom (Address a ∷ Signed Hash ∷ ts) (Spill a) ts
+    corners : {a b : Addr} {ts : Tokens}
+        → IsAtom (Address a ∷ Signed Colon ∷ Address b ∷ ts) (Corners a b) ts
     variable : {v : Bytes} {ts : Tokens} → IsAtom (Variable v ∷ ts) (Var v) ts
-    apply : {word : Bytes} {ts us : Tokens} {xs : Raws} → IsArguments ts xs us → IsAtom (Word word ∷ Signed T.Sign.LeftParen ∷ ts) (Apply word xs) us
-    parens : {ts us : Tokens} {f : Raw} → IsExpr ts f (Signed T.Sign.RightParen ∷ us) → IsAtom (Signed T.Sign.LeftParen ∷ ts) f us
+    apply : {word : Bytes} {ts us : Tokens} {xs : Raws} → IsArguments ts xs us
+        → IsAtom (Word word ∷ Signed LeftParen ∷ ts) (Apply word xs) us
+    parens : {ts us : Tokens} {f : Raw} → IsExpr ts f (Signed RightParen ∷ us)
+        → IsAtom (Signed LeftParen ∷ ts) f us
 
   -- what stands behind the left parenthesis of a call, up to the right one
   pub data IsArguments : Tokens → Raws → Tokens → Type 0 where
-    no_argument : {ts : Tokens} → IsArguments (Signed T.Sign.RightParen ∷ ts) no_raw ts
-    argument : {ts us vs : Tokens} {f : Raw} {xs : Raws} → IsExpr ts f us → IsMore us xs vs → IsArguments ts (raw_and f xs) vs
+    no_argument : {ts : Tokens} → IsArguments (Signed RightParen ∷ ts) no_raw ts
+    argument : {ts us vs : Tokens} {f : Raw} {xs : Raws} → IsExpr ts f us → IsMore us xs vs
+        → IsArguments ts (raw_and f xs) vs
 
   pub data IsMore : Tokens → Raws → Tokens → Type 0 where
-    close : {ts : Tokens} → IsMore (Signed T.Sign.RightParen ∷ ts) no_raw ts
-    comma : {ts us vs : Tokens} {f : Raw} {xs : Raws} → IsExpr ts f us → IsMore us xs vs → IsMore (Signed T.Sign.Comma ∷ ts) (raw_and f xs) vs
+    close : {ts : Tokens} → IsMore (Signed RightParen ∷ ts) no_raw ts
+    comma : {ts us vs : Tokens} {f : Raw} {xs : Raws} → IsExpr ts f us → IsMore us xs vs
+        → IsMore (Signed Comma ∷ ts) (raw_and f xs) vs
 
 -- ---- from a form to a tree
 
 abbrev pub all_functions : List Fun
 all_functions =
-    F.Fun.Sum ∷ F.Fun.Count ∷ F.Fun.Min ∷ F.Fun.Max ∷ F.Fun.And ∷ F.Fun.Or ∷ F.Fun.Not ∷ F.Fun.If ∷ F.Fun.IfError ∷ F.Fun.IsError ∷ F.Fun.IsBlank
-    ∷ F.Fun.Abs ∷ F.Fun.Mod ∷ F.Fun.Len ∷ F.Fun.Left ∷ F.Fun.Right ∷ F.Fun.Rows ∷ F.Fun.Columns ∷ F.Fun.Index ∷ F.Fun.Sequence ∷ F.Fun.Transpose
-    ∷ F.Fun.Take ∷ F.Fun.Drop ∷ F.Fun.HStack ∷ F.Fun.VStack ∷ F.Fun.Filter ∷ F.Fun.Unique ∷ F.Fun.Lookup ∷ F.Fun.Na ∷ F.Fun.Sheet ∷ F.Fun.Update
-    ∷ F.Fun.View ∷ F.Fun.G ∷ F.Fun.This ∷ []
+    F.Fun.Sum ∷ F.Fun.Count ∷ F.Fun.Min ∷ F.Fun.Max ∷ F.Fun.And ∷ F.Fun.Or ∷ F.Fun.Not ∷ F.Fun.If
+    ∷ F.Fun.IfError ∷ F.Fun.IsError ∷ F.Fun.IsBlank ∷ F.Fun.Abs ∷ F.Fun.Mod ∷ F.Fun.Len ∷ F.Fun.Left
+    ∷ F.Fun.Right ∷ F.Fun.Rows ∷ F.Fun.Columns ∷ F.Fun.Index ∷ F.Fun.Sequence ∷ F.Fun.Transpose
+    ∷ F.Fun.Take ∷ F.Fun.Drop ∷ F.Fun.HStack ∷ F.Fun.VStack ∷ F.Fun.Filter ∷ F.Fun.Unique
+    ∷ F.Fun.Lookup ∷ F.Fun.Na ∷ F.Fun.Sheet ∷ F.Fun.Update ∷ F.Fun.View ∷ F.Fun.G ∷ F.Fun.This ∷ []
 
 -- the function of a word
 abbrev pub function_of : Bytes → Option Fun
@@ -125,8 +144,11 @@ call_of (Some f) xs = F.Formula.Call f xs
 call_of None xs = F.Formula.Call F.Fun.Na xs
 
 abbrev pub let_or_call : Bytes → Formulas → Formula
-let_or_call word (F.Formulas.formula_and (F.Formula.Var v) (F.Formulas.formula_and f (F.Formulas.formula_and body F.Formulas.no_formula))) =
-    if is_let word then F.Formula.Let v f body else call_of (function_of word) (F.Formulas.formula_and (F.Formula.Var v) (F.Formulas.formula_and f (F.Formulas.formula_and body F.Formulas.no_formula)))
+let_or_call word (F.Formulas.formula_and (F.Formula.Var v) (F.Formulas.formula_and f
+    (F.Formulas.formula_and body F.Formulas.no_formula))) =
+    if is_let word then F.Formula.Let v f body
+    else call_of (function_of word) (F.Formulas.formula_and (F.Formula.Var v)
+    (F.Formulas.formula_and f (F.Formulas.formula_and body F.Formulas.no_formula)))
 let_or_call word xs = call_of (function_of word) xs
 
 abbrev mutual
@@ -157,7 +179,8 @@ abbrev mutual
 abbrev mutual
   pub some_form : (Raw → Bool) → Raw → Bool
   some_form test (Neg f) = test (Neg f) || some_form test f
-  some_form test (Chain level f rest) = test (Chain level f rest) || some_form test f || some_operand test rest
+  some_form test (Chain level f rest) =
+      test (Chain level f rest) || some_form test f || some_operand test rest
   some_form test (Compare op f g) = test (Compare op f g) || some_form test f || some_form test g
   some_form test (Apply word xs) = test (Apply word xs) || some_argument test xs
   some_form test f = test f
@@ -173,9 +196,9 @@ abbrev mutual
 -- more than 64 `(` are unclosed after some tokens, or more than 8 `-` stand in a row
 abbrev pub is_deep_from : (open_parens minus : ℕ) → Tokens → Bool
 is_deep_from n m [] = false
-is_deep_from n m (Signed T.Sign.LeftParen ∷ ts) = nat_le max_open n || is_deep_from (n + 1) 0 ts
-is_deep_from n m (Signed T.Sign.RightParen ∷ ts) = is_deep_from (n - 1) 0 ts
-is_deep_from n m (Signed T.Sign.Minus ∷ ts) = nat_le max_minus m || is_deep_from n (m + 1) ts
+is_deep_from n m (Signed LeftParen ∷ ts) = nat_le max_open n || is_deep_from (n + 1) 0 ts
+is_deep_from n m (Signed RightParen ∷ ts) = is_deep_from (n - 1) 0 ts
+is_deep_from n m (Signed (Operator F.Op.Sub) ∷ ts) = nat_le max_minus m || is_deep_from n (m + 1) ts
 is_deep_from n m (t ∷ ts) = is_deep_from n 0 ts
 
 abbrev pub is_deep : Tokens → Bool
@@ -184,10 +207,12 @@ is_deep = is_deep_from 0 0
 -- corners that are not in order, or too many cells
 abbrev pub is_bad_range : Raw → Bool
 is_bad_range (Corners a b) =
-    not (nat_le a.col b.col && nat_le a.row b.row) || nat_lt max_cells ((extents (range a b)).rows * (extents (range a b)).cols)
+    not (nat_le a.col b.col && nat_le a.row b.row)
+    || nat_lt max_cells ((extents (range a b)).rows * (extents (range a b)).cols)
 is_bad_range f = false
 
--- a called word that is no function, or a variable that isn't bound; LET binds its variable in its third argument
+-- a called word that is no function, or a variable that isn't bound; LET binds its variable in its
+-- third argument
 abbrev mutual
   pub has_bad_name : List Bytes → Raw → Bool
   has_bad_name vs (Var v) = not (list_any (bytes_eq v) vs)
@@ -197,14 +222,17 @@ abbrev mutual
   has_bad_name vs (Apply word (raw_and (Var v) (raw_and f (raw_and body no_raw)))) =
       elim (is_let word) [
         | true ↦ has_bad_name vs f || has_bad_name (v ∷ vs) body
-        | false ↦ not (is_some (function_of word)) || not (list_any (bytes_eq v) vs) || has_bad_name vs f || has_bad_name vs body
+        | false ↦ not (is_some (function_of word)) || not (list_any (bytes_eq v) vs)
+            || has_bad_name vs f || has_bad_name vs body
       ]
-  has_bad_name vs (Apply word xs) = not (is_let word || is_some (function_of word)) || bad_name_in vs xs
+  has_bad_name vs (Apply word xs) =
+      not (is_let word || is_some (function_of word)) || bad_name_in vs xs
   has_bad_name vs f = false
 
   pub bad_name_in_operands : List Bytes → RawOperands → Bool
   bad_name_in_operands vs no_operand = false
-  bad_name_in_operands vs (operand_and op f rest) = has_bad_name vs f || bad_name_in_operands vs rest
+  bad_name_in_operands vs (operand_and op f rest) =
+      has_bad_name vs f || bad_name_in_operands vs rest
 
   pub bad_name_in : List Bytes → Raws → Bool
   bad_name_in vs no_raw = false
@@ -275,8 +303,7 @@ allows_let (v ∷ f ∷ body ∷ []) = is_variable v
 allows_let xs = false
 
 abbrev pub allows_word : Option Fun → List Raw → Bool
-allows_word (Some f) xs = allows f xs
-allows_word None xs = allows_let xs
+allows_word o xs = option_map_or (λ f. allows f xs) o (allows_let xs)
 
 abbrev pub is_bad_call : Raw → Bool
 is_bad_call (Apply word xs) = not (allows_word (function_of word) (raws xs))
@@ -308,11 +335,17 @@ pub record Parses (text : Bytes) (f : Formula) : Type 0 where
 -- The text is no formula, and this is the first of its faults.
 pub data IsParseFault (text : Bytes) : ParseFault → Type 0 where
   long : max_formula < length text → IsParseFault text Long
-  lex : {fault : LexFault} {at_byte : ℕ} → length text ≤ max_formula → IsLexFault text fault at_byte → IsParseFault text (Lex fault at_byte)
-  deep : (ts : Tokens) → length text ≤ max_formula → Lexes text ts → IsTrue (is_deep ts) → IsParseFault text Deep
-  syntax : (ts : Tokens) → length text ≤ max_formula → Lexes text ts → IsFalse (is_deep ts) → ((f : Raw) → IsExpr ts f [] → ⊥) → IsParseFault text Syntax
-  form : (ts : Tokens) (f : Raw) {fault : ParseFault} → length text ≤ max_formula → Lexes text ts → IsFalse (is_deep ts) → IsExpr ts f [] → form_fault f ≡ Some fault → IsParseFault text fault
+  lex : {fault : LexFault} {at_byte : ℕ} → length text ≤ max_formula → IsLexFault text fault at_byte
+      → IsParseFault text (Lex fault at_byte)
+  deep : (ts : Tokens) → length text ≤ max_formula → Lexes text ts → IsTrue (is_deep ts)
+      → IsParseFault text Deep
+  syntax : (ts : Tokens) → length text ≤ max_formula → Lexes text ts → IsFalse (is_deep ts)
+      → ((f : Raw) → IsExpr ts f [] → ⊥) → IsParseFault text Syntax
+  form : (ts : Tokens) (f : Raw) {fault : ParseFault} → length text ≤ max_formula → Lexes text ts
+      → IsFalse (is_deep ts) → IsExpr ts f [] → form_fault f ≡ Some fault → IsParseFault text fault
 
 -- a tree of some tokens without faults
 abbrev pub IsWellFormed : Formula → Type 0
-IsWellFormed f = (ts : Tokens) × (raw : Raw) × AllByRecursion IsToken ts × IsFalse (is_deep ts) × IsExpr ts raw [] × (form_fault raw ≡ None) × (f ≡ tree raw)
+IsWellFormed f =
+    (ts : Tokens) × (raw : Raw) × AllByRecursion IsToken ts × IsFalse (is_deep ts)
+    × IsExpr ts raw [] × (form_fault raw ≡ None) × (f ≡ tree raw)

@@ -1,29 +1,28 @@
 -- The canonical tokens of a formula: those that its canonical text has.
-use Rattle.std.specs.Prelude.{ℕ, ◌+◌, ◌^◌, ◌<◌, ◌≤◌, pos, negsuc, Bool, true, false, IsTrue, List, [], ◌∷◌, ◌++◌, length, codes}
+use Rattle.std.specs.Prelude.{ℕ, ◌+◌, ◌^◌, ◌<◌, ◌≤◌, pos, negsuc, Bool, true, false, IsTrue, List}
+use Rattle.std.specs.Prelude.{[], ◌∷◌, ◌++◌, length, codes}
+use Rattle.std.specs.Prelude.{if◌then◌else◌}
 use Rattle.std.specs.Str.{is_utf8}
 use Rattle.gl_calculus.specs.Grid.Limits.{max_text}
 use Rattle.gl_calculus.specs.Grid.Grid.{grid, covers}
 use Rattle.gl_calculus.specs.Formulas.Formula.{Op, Formula, Formulas, Operands}
 use Rattle.gl_calculus.specs.Formulas.Formula as F
-use Rattle.gl_language.specs.Texts.Text.{fun_text, level_place, one_more, minus_of, needs_parens}
-use Rattle.gl_language.specs.Reading.Token.{Token, Sign, Integer, Quoted, Address, Truth, Word, Variable, Signed, IsRow, is_lower}
+use Rattle.gl_language.specs.Texts.Text.{Bytes, in_parens, fun_text, level_place, one_more}
+use Rattle.gl_language.specs.Texts.Text.{minus_of, needs_parens}
+use Rattle.gl_language.specs.Reading.Token.{Token, Sign, Integer, Quoted, Address, Truth, Word}
+use Rattle.gl_language.specs.Reading.Token.{Variable, Signed, IsRow, is_lower}
 use Rattle.gl_language.specs.Reading.Token as T
 
 abbrev pub Tokens : Type 0
 Tokens = List Token
 
 abbrev pub op_sign : Op → Sign
-op_sign F.Op.Eq = T.Sign.Eq
-op_sign F.Op.Ne = T.Sign.Ne
-op_sign F.Op.Lt = T.Sign.Lt
-op_sign F.Op.Le = T.Sign.Le
-op_sign F.Op.Gt = T.Sign.Gt
-op_sign F.Op.Ge = T.Sign.Ge
-op_sign F.Op.Join = T.Sign.Join
-op_sign F.Op.Add = T.Sign.Plus
-op_sign F.Op.Sub = T.Sign.Minus
-op_sign F.Op.Mul = T.Sign.Times
-op_sign F.Op.Div = T.Sign.Over
+op_sign op = T.Sign.Operator op
+
+-- a form's texts, or its tokens, in its place: in parentheses, where no `-` stands before it, or
+-- behind so many `-`
+abbrev pub in_place : Bool → (ℕ → Bytes) → ℕ → Bytes
+in_place b text minus = if b then in_parens (text 0) else text minus
 
 abbrev pub tokens_in_place : Bool → (ℕ → Tokens) → ℕ → Tokens
 tokens_in_place true ts minus = Signed T.Sign.LeftParen ∷ (ts 0 ++ Signed T.Sign.RightParen ∷ [])
@@ -38,21 +37,32 @@ abbrev mutual
   tokens_behind minus (F.Formula.Bool b) = Truth b ∷ []
   tokens_behind minus (F.Formula.At a) = Address a ∷ []
   tokens_behind minus (F.Formula.Spill a) = Address a ∷ Signed T.Sign.Hash ∷ []
-  tokens_behind minus (F.Formula.Area r) = Address r.first ∷ Signed T.Sign.Colon ∷ Address r.last ∷ []
+  tokens_behind minus (F.Formula.Area r) =
+      Address r.first ∷ Signed T.Sign.Colon ∷ Address r.last ∷ []
   tokens_behind minus (F.Formula.Var name) = Variable name ∷ []
-  tokens_behind minus (F.Formula.Neg f) = Signed T.Sign.Minus ∷ tokens_in_place (needs_parens (one_more minus) 4 f) (λ m. tokens_behind m f) (one_more minus)
+  tokens_behind minus (F.Formula.Neg f) =
+      Signed (T.Sign.Operator F.Op.Sub) ∷
+      tokens_in_place (needs_parens (one_more minus) 4 f) (λ m. tokens_behind m f) (one_more minus)
   tokens_behind minus (F.Formula.Chain level f rest) =
-      tokens_in_place (needs_parens minus (level_place level + 1) f) (λ m. tokens_behind m f) minus ++ operands_tokens (level_place level + 1) rest
+      tokens_in_place (needs_parens minus (level_place level + 1) f) (λ m. tokens_behind m f) minus
+      ++ operands_tokens (level_place level + 1) rest
   tokens_behind minus (F.Formula.Compare op f g) =
-      tokens_in_place (needs_parens minus 1 f) (λ m. tokens_behind m f) minus ++ (Signed (op_sign op) ∷ tokens_in_place (needs_parens 0 1 g) (λ m. tokens_behind m g) 0)
-  tokens_behind minus (F.Formula.Call f xs) = Word (fun_text f) ∷ Signed T.Sign.LeftParen ∷ (arguments_tokens xs ++ Signed T.Sign.RightParen ∷ [])
+      tokens_in_place (needs_parens minus 1 f) (λ m. tokens_behind m f) minus
+      ++ (Signed (op_sign op) ∷ tokens_in_place (needs_parens 0 1 g) (λ m. tokens_behind m g) 0)
+  tokens_behind minus (F.Formula.Call f xs) =
+      Word (fun_text f) ∷ Signed T.Sign.LeftParen
+      ∷ (arguments_tokens xs ++ Signed T.Sign.RightParen ∷ [])
   tokens_behind minus (F.Formula.Let name f body) =
-      Word (codes "LET") ∷ Signed T.Sign.LeftParen ∷ Variable name ∷ Signed T.Sign.Comma ∷ (tokens_behind 0 f ++ (Signed T.Sign.Comma ∷ (tokens_behind 0 body ++ Signed T.Sign.RightParen ∷ [])))
+      Word (codes "LET") ∷ Signed T.Sign.LeftParen ∷ Variable name ∷ Signed T.Sign.Comma
+      ∷ (tokens_behind 0 f
+      ++ (Signed T.Sign.Comma ∷ (tokens_behind 0 body ++ Signed T.Sign.RightParen ∷ [])))
 
   pub operands_tokens : ℕ → Operands → Tokens
   operands_tokens place F.Operands.no_operand = []
   operands_tokens place (F.Operands.operand_and op f rest) =
-      Signed (op_sign op) ∷ (tokens_in_place (needs_parens (minus_of op) place f) (λ m. tokens_behind m f) (minus_of op) ++ operands_tokens place rest)
+      Signed (op_sign op)
+      ∷ (tokens_in_place (needs_parens (minus_of op) place f) (λ m. tokens_behind m f) (minus_of op)
+      ++ operands_tokens place rest)
 
   pub arguments_tokens : Formulas → Tokens
   arguments_tokens F.Formulas.no_formula = []
@@ -61,7 +71,8 @@ abbrev mutual
   -- arguments behind others
   pub more_tokens : Formulas → Tokens
   more_tokens F.Formulas.no_formula = []
-  more_tokens (F.Formulas.formula_and f fs) = Signed T.Sign.Comma ∷ (tokens_behind 0 f ++ more_tokens fs)
+  more_tokens (F.Formulas.formula_and f fs) =
+      Signed T.Sign.Comma ∷ (tokens_behind 0 f ++ more_tokens fs)
 
 abbrev pub formula_tokens : Formula → Tokens
 formula_tokens f = tokens_behind 0 f

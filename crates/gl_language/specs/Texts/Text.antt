@@ -1,5 +1,6 @@
 -- The printed texts, as bytes: addresses, literals, formulas, values and contents.
-use Rattle.std.specs.Prelude.{ℕ, ◌+◌, ◌/◌, ◌%◌, ◌==◌, min, nat_lt, nat_le, Bool, true, false, ◌||◌, List, [], ◌∷◌, ◌++◌, flat_map, codes, if◌then◌else◌}
+use Rattle.std.specs.Prelude.{ℕ, ◌+◌, ◌/◌, ◌%◌, ◌==◌, min, nat_lt, nat_le, Bool, true, false, ◌||◌}
+use Rattle.std.specs.Prelude.{◌&&◌, List, [], ◌∷◌, ◌++◌, flat_map, codes, if◌then◌else◌}
 use Rattle.std.specs.List.{join_with_byte}
 use Rattle.std.specs.Fmt.{decimal, signed_decimal}
 use Rattle.gl_calculus.specs.Grid.Limits.{max_minus}
@@ -8,7 +9,8 @@ use Rattle.gl_calculus.specs.Grid.Notation.{address_text}
 use Rattle.gl_calculus.specs.Values.ErrKind.{ErrKind}
 use Rattle.gl_calculus.specs.Values.Value.{Scalar, region}
 use Rattle.gl_calculus.specs.Values.Value as V
-use Rattle.gl_calculus.specs.Formulas.Formula.{Op, Level, Cat, Sum, Prod, Fun, Formula, Formulas, Operands, Content, Const, Form}
+use Rattle.gl_calculus.specs.Formulas.Formula.{Op, Level, Cat, Sum, Prod, Fun, Formula, Formulas}
+use Rattle.gl_calculus.specs.Formulas.Formula.{Operands, Content, Const, Form}
 use Rattle.gl_calculus.specs.Formulas.Formula as F
 use Rattle.gl_calculus.specs.Calculation.Calculation.{Shown, Cycle}
 
@@ -35,15 +37,16 @@ is_control b = nat_lt b 32 || (b == 127)
 abbrev pub escaped : ℕ → Bytes
 escaped b =
     if b == 92 then 92 ∷ 92 ∷ [] else if b == 34 then 92 ∷ 34 ∷ []
-    else if b == 10 then 92 ∷ codes "n" else if b == 13 then 92 ∷ codes "r" else if b == 9 then 92 ∷ codes "t"
-    else if is_control b then (92 ∷ codes "x") ++ hex_digit (b / 16) ∷ hex_digit (b % 16) ∷ [] else b ∷ []
+    else if b == 10 then 92 ∷ codes "n" else if b == 13 then 92 ∷ codes "r"
+    else if b == 9 then 92 ∷ codes "t"
+    else if is_control b then (92 ∷ codes "x") ++ hex_digit (b / 16) ∷ hex_digit (b % 16) ∷ []
+    else b ∷ []
 
 abbrev pub literal_text : Bytes → Bytes
 literal_text t = 34 ∷ flat_map escaped t ++ 34 ∷ []
 
 abbrev pub truth_text : Bool → Bytes
-truth_text true = codes "TRUE"
-truth_text false = codes "FALSE"
+truth_text b = if b then codes "TRUE" else codes "FALSE"
 
 -- ---- formulas
 
@@ -96,7 +99,8 @@ fun_text F.Fun.View = codes "VIEW"
 fun_text F.Fun.G = codes "G"
 fun_text F.Fun.This = codes "THIS"
 
--- the places of the grammar from the widest to the narrowest: expr 0, cat 1, sum 2, prod 3, unary 4, atom 5
+-- the places of the grammar from the widest to the narrowest: expr 0, cat 1, sum 2, prod 3,
+-- unary 4, atom 5
 abbrev pub level_place : Level → ℕ
 level_place Cat = 1
 level_place Sum = 2
@@ -115,7 +119,7 @@ is_neg f = false
 
 -- whether a form needs parentheses in a place, behind so many `-` in a row
 abbrev pub needs_parens : ℕ → ℕ → Formula → Bool
-needs_parens minus place f = nat_lt (place_of f) place || (if is_neg f then nat_le max_minus minus else false)
+needs_parens minus place f = nat_lt (place_of f) place || (is_neg f && nat_le max_minus minus)
 
 abbrev pub minus_of : Op → ℕ
 minus_of F.Op.Sub = 1
@@ -128,12 +132,13 @@ one_more minus = min (minus + 1) max_minus
 abbrev pub in_parens : Bytes → Bytes
 in_parens t = codes "(" ++ t ++ codes ")"
 
--- a form in its place: in parentheses, where no `-` stands before it, or behind so many `-`
-abbrev pub in_place : Bool → (ℕ → Bytes) → ℕ → Bytes
-in_place true text minus = in_parens (text 0)
-in_place false text minus = text minus
+-- a form in a place, by its texts behind so many `-`: in parentheses, where no `-` stands
+-- before it, or without
+abbrev pub placed : ℕ → ℕ → Formula → (ℕ → Bytes) → Bytes
+placed place minus f text = if needs_parens minus place f then in_parens (text 0) else text minus
 
--- The canonical text of a formula behind so many `-` in a row: no spaces, and parentheses only where they are needed.
+-- The canonical text of a formula behind so many `-` in a row: no spaces, and parentheses only
+-- where they are needed.
 abbrev mutual
   pub text_behind : ℕ → Formula → Bytes
   text_behind minus (F.Formula.Int n) = signed_decimal n
@@ -143,18 +148,22 @@ abbrev mutual
   text_behind minus (F.Formula.Spill a) = address_text a ++ codes "#"
   text_behind minus (F.Formula.Area r) = range_text r
   text_behind minus (F.Formula.Var name) = name
-  text_behind minus (F.Formula.Neg f) = codes "-" ++ in_place (needs_parens (one_more minus) 4 f) (λ m. text_behind m f) (one_more minus)
+  text_behind minus (F.Formula.Neg f) =
+      codes "-" ++ placed 4 (one_more minus) f (λ m. text_behind m f)
   text_behind minus (F.Formula.Chain level f rest) =
-      in_place (needs_parens minus (level_place level + 1) f) (λ m. text_behind m f) minus ++ operands_text (level_place level + 1) rest
+      placed (level_place level + 1) minus f (λ m. text_behind m f)
+      ++ operands_text (level_place level + 1) rest
   text_behind minus (F.Formula.Compare op f g) =
-      in_place (needs_parens minus 1 f) (λ m. text_behind m f) minus ++ op_text op ++ in_place (needs_parens 0 1 g) (λ m. text_behind m g) 0
+      placed 1 minus f (λ m. text_behind m f) ++ op_text op ++ placed 1 0 g (λ m. text_behind m g)
   text_behind minus (F.Formula.Call f xs) = fun_text f ++ in_parens (join_with_byte 44 (texts xs))
-  text_behind minus (F.Formula.Let name f body) = codes "LET" ++ in_parens (join_with_byte 44 (name ∷ text_behind 0 f ∷ text_behind 0 body ∷ []))
+  text_behind minus (F.Formula.Let name f body) =
+      codes "LET"
+      ++ in_parens (join_with_byte 44 (name ∷ text_behind 0 f ∷ text_behind 0 body ∷ []))
 
   pub operands_text : ℕ → Operands → Bytes
   operands_text place F.Operands.no_operand = []
   operands_text place (F.Operands.operand_and op f rest) =
-      op_text op ++ in_place (needs_parens (minus_of op) place f) (λ m. text_behind m f) (minus_of op) ++ operands_text place rest
+      op_text op ++ placed place (minus_of op) f (λ m. text_behind m f) ++ operands_text place rest
 
   pub texts : Formulas → List Bytes
   texts F.Formulas.no_formula = []
@@ -162,7 +171,7 @@ abbrev mutual
 
 -- the text of a formula in a place, behind so many `-`
 abbrev pub placed_text : ℕ → ℕ → Formula → Bytes
-placed_text place minus f = in_place (needs_parens minus place f) (λ m. text_behind m f) minus
+placed_text place minus f = placed place minus f (λ m. text_behind m f)
 
 abbrev pub formula_text : Formula → Bytes
 formula_text f = text_behind 0 f

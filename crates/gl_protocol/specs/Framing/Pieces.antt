@@ -1,25 +1,19 @@
 -- A text cut at a separator.
-use Rattle.std.specs.Prelude.{ℕ, ◌==◌, Bool, false, ◌&&◌, not, List, [], ◌∷◌, Option, Some, None, if◌then◌else◌}
-use Rattle.std.specs.List.{list_all}
+use Rattle.std.specs.Prelude.{ℕ, ◌==◌, Bool, false, ◌&&◌, not, List, [], ◌∷◌, Option, Some, None}
+use Rattle.std.specs.Prelude.{if◌then◌else◌}
+use Rattle.std.specs.List.{list_all, slice_split}
 use Rattle.gl_language.specs.Texts.Text.{Bytes}
 use Rattle.gl_language.specs.Reading.Token.{is_digit}
 
 -- what stands before the first separator, and what follows it if there is one
-abbrev pub Cut : Type 0
-Cut = Bytes × Option Bytes
-
-abbrev pub cut_at : ℕ → Bytes → Cut
+abbrev pub cut_at : ℕ → Bytes → Bytes × Option Bytes
 cut_at separator [] = ([], None)
-cut_at separator (b ∷ bs) = let rest = cut_at separator bs in if b == separator then ([], Some bs) else (b ∷ rest.0, rest.1)
+cut_at separator (b ∷ bs) =
+    let rest = cut_at separator bs in if b == separator then ([], Some bs) else (b ∷ rest.0, rest.1)
 
 -- the pieces between the separators
 abbrev pub pieces : ℕ → Bytes → List Bytes
-pieces separator [] = [] ∷ []
-pieces separator (b ∷ bs) = if b == separator then [] ∷ pieces separator bs else with_front b (pieces separator bs)
-  where
-    with_front : ℕ → List Bytes → List Bytes
-    with_front b [] = (b ∷ []) ∷ []
-    with_front b (p ∷ ps) = (b ∷ p) ∷ ps
+pieces separator = slice_split (λ b. b == separator)
 
 -- digits without a leading zero, or `0`
 abbrev pub is_number : Bytes → Bool

@@ -1,11 +1,14 @@
 -- Framing by one byte at a time: what is begun, and the item that a byte ends.
-use Rattle.std.specs.Prelude.{ℕ, ◌==◌, nat_le, ◌-◌, List, [], ◌∷◌, ◌++◌, length, if◌then◌else◌, Option, None, Some}
+use Rattle.std.specs.Prelude.{ℕ, ◌==◌, nat_le, ◌-◌, List, [], ◌∷◌, ◌++◌, length, if◌then◌else◌}
+use Rattle.std.specs.Prelude.{Option, None, Some}
 use Rattle.std.specs.Option.{option_to_list}
 use Rattle.gl_calculus.specs.Grid.Limits.{max_line}
 use Rattle.gl_language.specs.Texts.Text.{Bytes}
-use Rattle.gl_protocol.specs.Framing.Framing.{Item, Line, Import, Long, Truncated, Kind, past_limit, plain, header, kind_of, drop_cr, last_item}
+use Rattle.gl_protocol.specs.Framing.Framing.{Item, Line, Import, Long, Truncated, Kind, past_limit}
+use Rattle.gl_protocol.specs.Framing.Framing.{plain, header, kind_of, drop_cr, last_item}
 
--- nothing, a line's bytes, a line that is skipped, or a header with the payload's bytes and the number still due
+-- nothing, a line's bytes, a line that is skipped, or a header with the payload's bytes and the
+-- number still due
 pub data Stream : Type 0 where
   nothing : Stream
   in_line : Bytes → Stream
@@ -15,7 +18,8 @@ pub data Stream : Type 0 where
 abbrev pub close_by : Kind → Bytes → Stream × Option Item
 close_by past_limit line = (nothing, Some Long)
 close_by plain line = (nothing, Some (Line line))
-close_by (header n) line = if n == 0 then (nothing, Some (Import line [])) else (in_payload line [] n, None)
+close_by (header n) line =
+    if n == 0 then (nothing, Some (Import line [])) else (in_payload line [] n, None)
 
 -- a line is begun while it is no longer than the limit and one CR
 abbrev pub step_line : Bytes → ℕ → Stream × Option Item
@@ -29,7 +33,8 @@ step nothing b = step_line [] b
 step (in_line bs) b = step_line bs b
 step skipped b = if b == 10 then (nothing, Some Long) else (skipped, None)
 step (in_payload heading part due) b =
-    if nat_le due 1 then (nothing, Some (Import heading (part ++ b ∷ []))) else (in_payload heading (part ++ b ∷ []) (due - 1), None)
+    if nat_le due 1 then (nothing, Some (Import heading (part ++ b ∷ [])))
+    else (in_payload heading (part ++ b ∷ []) (due - 1), None)
 
 -- the items that these bytes end
 abbrev pub gained : Stream → Bytes → List Item

@@ -8,7 +8,8 @@ use Rattle.gl_calculus.specs.Evaluation.Key.{Key, Cell, Settle, Outcome}
 use Rattle.gl_calculus.specs.Calculation.Calculation.{Cycle}
 use Rattle.gl_calculus.specs.Grid.Notation.{address_text}
 use Rattle.gl_language.specs.Texts.Text.{Bytes, range_text, size_text, scalar_text, shown_text}
-use Rattle.gl_calculus.specs.Explanation.Certificate.{Certificate, Verdict, Accepted, Note, Loop, Wrong}
+use Rattle.gl_calculus.specs.Explanation.Certificate.{Certificate, Verdict, Accepted, Note, Loop}
+use Rattle.gl_calculus.specs.Explanation.Certificate.{Wrong}
 use Rattle.gl_calculus.specs.Forecast.{Forecast, Yes, Circle, Unknown}
 use Rattle.gl_protocol.specs.Replies.Tables.{line}
 

@@ -1,5 +1,7 @@
 -- The addresses that a command touches.
-use Rattle.std.specs.Prelude.{List, [], ◌∷◌, ◌++◌, map, Option, Some, None, Bool, true, if◌then◌else◌}
+use Rattle.std.specs.Prelude.{List, [], ◌∷◌, ◌++◌, map, fold, Option, Some, None, Bool, true}
+use Rattle.std.specs.Prelude.{if◌then◌else◌}
+use Rattle.std.specs.Option.{option_map_or}
 use Rattle.gl_calculus.specs.Grid.Grid.{Addr, single}
 use Rattle.gl_calculus.specs.Formulas.Formula.{Content, Cells}
 use Rattle.gl_calculus.specs.Edits.Replicas.{Changes, Edit, is_earlier}
@@ -11,19 +13,15 @@ use Rattle.gl_calculus.specs.Edits.Sheets.{coming}
 
 -- ---- changes that are put, and then cleared
 
-abbrev pub and_address : Addr → Option Content → List Addr → List Addr
-and_address a (Some c) ps = ps
-and_address a None ps = a ∷ ps
-
 -- the addresses that lose their contents by changes
 abbrev pub going : Changes → List Addr
 going [] = []
-going (c ∷ cs) = and_address c.0 c.1 (going cs)
+going (c ∷ cs) = elim c.1 [ Some x ↦ going cs | None ↦ c.0 ∷ going cs ]
 
--- a sheet without the contents of these addresses, one after the other, and the addresses that had one
+-- a sheet without the contents of these addresses, one after the other, and the addresses that had
+-- one
 abbrev pub without_these : Cells → List Addr → Cells
-without_these S [] = S
-without_these S (a ∷ ps) = without_these (without S (single a)) ps
+without_these = fold (λ S a. without S (single a))
 
 abbrev pub cleared : Cells → List Addr → List Addr
 cleared S [] = []
@@ -47,8 +45,7 @@ latest_changes f (d ∷ ds) = f d
 
 -- the edit is later than the register of its address, if there is one
 abbrev pub is_later : Option Edit → Edit → Bool
-is_later None e = true
-is_later (Some r) e = is_earlier r.stamp e.stamp
+is_later o e = option_map_or (λ r. is_earlier r.stamp e.stamp) o true
 
 -- the addresses whose content a request sets or removes, where it isn't refused
 abbrev pub touched_by : Script → Request → List Addr
@@ -56,5 +53,6 @@ touched_by s (Set a c) = a ∷ []
 touched_by s (Clear r) = places_in s.sheet r
 touched_by s Undo = touched_by_all s.sheet (latest_changes befores s.history.done)
 touched_by s Redo = touched_by_all s.sheet (latest_changes afters s.history.undone)
-touched_by s (Merge e) = if is_later (register_of s e.place) e then touched_by_one s.sheet e.place e.content else []
+touched_by s (Merge e) =
+    if is_later (register_of s e.place) e then touched_by_one s.sheet e.place e.content else []
 touched_by s x = []

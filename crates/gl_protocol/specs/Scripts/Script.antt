@@ -1,10 +1,17 @@
 -- The state of a script, and what its commands make of it.
-use Rattle.std.specs.Prelude.{ℕ, Bool, true, false, List, [], ◌∷◌, Option, Some, None, if◌then◌else◌}
+use Rattle.std.specs.Prelude.{ℕ, Bool, true, false, List, [], ◌∷◌, Option, Some, None}
+use Rattle.std.specs.Prelude.{codes, if◌then◌else◌}
+use Rattle.std.specs.Option.{option_and_then, option_map_or}
 use Rattle.gl_calculus.specs.Grid.Grid.{Addr, single}
 use Rattle.gl_calculus.specs.Formulas.Formula.{Content, Cells}
-use Rattle.gl_calculus.specs.Edits.Replicas.{Stamp, Edit, Changes, Replica, Judged, Wins, Loses, Same, Conflict, register_at, new_replica, next_stamp, taking, taking_all, stamped, has_room}
-use Rattle.gl_calculus.specs.Edits.Steps.{Step, step_of, befores, afters, History, no_history, pushed}
-use Rattle.gl_protocol.specs.Scripts.Commands.{Read, Is, Not, StampWord, SiteWord, ConflictWord, EditsWord, UndoWord, RedoWord, Request, Set, Clear, Site, Undo, Redo, allowed}
+use Rattle.gl_calculus.specs.Edits.Replicas.{Edit, Changes, Replica, Judged, Wins}
+use Rattle.gl_calculus.specs.Edits.Replicas.{Conflict, register_at, new_replica, next_stamp}
+use Rattle.gl_calculus.specs.Edits.Replicas.{taking, taking_all, stamped, has_room}
+use Rattle.gl_calculus.specs.Edits.Steps.{Step, step_of, befores, afters, History, no_history}
+use Rattle.gl_calculus.specs.Edits.Steps.{pushed}
+use Rattle.gl_protocol.specs.Scripts.Commands.{Read, Is, Not, onto}
+use Rattle.gl_protocol.specs.Scripts.Commands.{Request, Set, Clear}
+use Rattle.gl_protocol.specs.Scripts.Commands.{Site, Undo, Redo, allowed}
 use Rattle.gl_calculus.specs.Edits.Sheets.{with_content, without, with_changes, removals}
 
 -- the sheet, the replica if the script is one, and what can be undone
@@ -16,29 +23,23 @@ pub record Script : Type 0 where
 abbrev pub new_script : Script
 new_script = record { sheet = []; replica = None; history = no_history }
 
--- ---- changes of a sheet
-
-abbrev pub onto : (Cells → Script) → Read Cells → Read Script
-onto f (Is S) = Is (f S)
-onto f (Not w) = Not w
-
 -- ---- commands
 
--- What an edit leaves that makes these changes of the sheet, so that it is the goal, if that isn't refused: a replica takes an edit
--- for each change, all with its next stamp; else they are one step.
+-- what a script leaves whose replica becomes this one, if that has room, and its sheet the goal
+abbrev pub taken : Script → Replica → Read Cells → Read Script
+taken s q goal =
+    if has_room q then onto (λ S. record s { sheet = S; replica = Some q }) goal
+    else Not (codes "edits")
+
+-- What an edit leaves that makes these changes of the sheet, so that it is the goal, if that isn't
+-- refused: a replica takes an edit for each change, all with its next stamp; else they are one
+-- step.
 abbrev pub edited : Script → Changes → Read Cells → Read Script
-edited s cs goal = by s.replica
-  where
-    taken : Replica → Read Script
-    taken q = if has_room q then onto (λ S. record s { sheet = S; replica = Some q }) goal else Not EditsWord
-
-    stamped_by : Replica → Option Stamp → Read Script
-    stamped_by r (Some t) = taken (taking_all r (stamped t cs))
-    stamped_by r None = Not StampWord
-
-    by : Option Replica → Read Script
-    by (Some r) = stamped_by r (next_stamp r)
-    by None = onto (λ S. record s { sheet = S; history = pushed s.history (step_of s.sheet cs) }) goal
+edited s cs goal = elim s.replica [
+  | None ↦ onto (λ S. record s { sheet = S; history = pushed s.history (step_of s.sheet cs) }) goal
+  | Some r ↦ option_map_or (λ t. taken s (taking_all r (stamped t cs)) goal) (next_stamp r)
+      (Not (codes "stamp"))
+]
 
 -- a replica begins while the sheet is empty, and then nothing is undone
 abbrev pub sited : Script → ℕ → Read Script
@@ -46,24 +47,31 @@ sited s n = by s.replica s.sheet
   where
     by : Option Replica → Cells → Read Script
     by None [] = Is (record { sheet = []; replica = Some (new_replica n); history = no_history })
-    by None (c ∷ cs) = Not SiteWord
-    by (Some r) S = Not SiteWord
+    by r S = Not (codes "site")
 
 abbrev pub undone : Script → Read Script
 undone s = by s.replica s.history.done
   where
     by : Option Replica → List Step → Read Script
-    by (Some r) ds = Not SiteWord
-    by None [] = Not UndoWord
-    by None (d ∷ ds) = Is (record s { sheet = with_changes s.sheet (befores d); history = record { done = ds; undone = d ∷ s.history.undone } })
+    by (Some r) ds = Not (codes "site")
+    by None [] = Not (codes "undo")
+    by None (d ∷ ds) =
+        Is (record s {
+          sheet = with_changes s.sheet (befores d);
+          history = record { done = ds; undone = d ∷ s.history.undone };
+        })
 
 abbrev pub redone : Script → Read Script
 redone s = by s.replica s.history.undone
   where
     by : Option Replica → List Step → Read Script
-    by (Some r) us = Not SiteWord
-    by None [] = Not RedoWord
-    by None (u ∷ us) = Is (record s { sheet = with_changes s.sheet (afters u); history = record { done = u ∷ s.history.done; undone = us } })
+    by (Some r) us = Not (codes "site")
+    by None [] = Not (codes "redo")
+    by None (u ∷ us) =
+        Is (record s {
+          sheet = with_changes s.sheet (afters u);
+          history = record { done = u ∷ s.history.done; undone = us };
+        })
 
 -- the commands that may change the state, and do so by this
 abbrev pub is_change : Request → Bool
@@ -85,11 +93,7 @@ change s x = Is s
 -- ---- edits of other replicas
 
 abbrev pub register_of : Script → Addr → Option Edit
-register_of s a = by s.replica
-  where
-    by : Option Replica → Option Edit
-    by (Some r) = register_at r.registers a
-    by None = None
+register_of s a = option_and_then (λ r. register_at r.registers a) s.replica
 
 -- a sheet with one change, within the limits
 abbrev pub allowed_change : Cells → Addr → Option Content → Read Cells
@@ -100,12 +104,8 @@ allowed_change S a None = Is (without S (single a))
 abbrev pub merge : Script → Edit → Judged → Read Script
 merge s e j = by s.replica j
   where
-    won : Replica → Read Script
-    won q = if has_room q then onto (λ S. record s { sheet = S; replica = Some q }) (allowed_change s.sheet e.place e.content) else Not EditsWord
-
     by : Option Replica → Judged → Read Script
-    by None j = Not SiteWord
-    by (Some r) Wins = won (taking r e)
-    by (Some r) Loses = Is (record s { replica = Some (taking r e) })
-    by (Some r) Same = Is (record s { replica = Some (taking r e) })
-    by (Some r) Conflict = Not ConflictWord
+    by None j = Not (codes "site")
+    by (Some r) Wins = taken s (taking r e) (allowed_change s.sheet e.place e.content)
+    by (Some r) Conflict = Not (codes "conflict")
+    by (Some r) j = Is (record s { replica = Some (taking r e) })

@@ -1,5 +1,5 @@
 -- The canonical tokens of a form are read as this form, in each place and whatever follows.
-use Rattle.std.proofs.Common.{◌≡◌, ℕ, ◌+◌, ◌≤◌, Bool, true, false, [], ◌∷◌, ◌++◌, append_assoc, refl, sym, subst, arith, if◌then◌else◌}
+use Rattle.std.proofs.Common.{◌&&◌, ◌≡◌, ℕ, ◌+◌, ◌≤◌, Bool, true, false, [], ◌∷◌, ◌++◌, append_assoc, refl, sym, subst, arith}
 use Rattle.std.specs.Prelude.{nat_lt, nat_le}
 use Rattle.std.proofs.lemmas.Bool.{or_parts, ltb-false}
 use Rattle.gl_calculus.specs.Grid.Limits.{max_minus}
@@ -139,7 +139,7 @@ placed_by f n r q minus rest true h =
     let close = Signed T.Sign.RightParen ∷ rest in
     widen AtomPlace q (Signed T.Sign.LeftParen ∷ ((ts ++ Signed T.Sign.RightParen ∷ []) ++ rest)) rest f (at_most q) (parenthesized ts rest f (expr_at f r close))
 placed_by f n r q minus rest false h =
-    let p = or_parts (nat_lt (place_of (tree f)) (width q)) (if is_neg (tree f) then nat_le max_minus minus else false) h in
+    let p = or_parts (nat_lt (place_of (tree f)) (width q)) (is_neg (tree f) && nat_le max_minus minus) h in
     let l : width q ≤ place_of (tree f) = ltb-false (place_of (tree f)) (width q) p.0 in
     widen (place_in f) q (tokens_behind minus (tree f) ++ rest) rest f (omega (arith, l, place_width f n)) (r minus rest)
 

@@ -11,11 +11,11 @@ use Rattle.gl_language.specs.Reading.Grammar.{Raws, RawOperands, Tokens, compari
 abbrev pub binds : Sign → ℕ
 binds T.Sign.Hash = 5
 binds T.Sign.Colon = 5
-binds T.Sign.Times = 4
-binds T.Sign.Over = 4
-binds T.Sign.Plus = 3
-binds T.Sign.Minus = 3
-binds T.Sign.Join = 2
+binds (T.Sign.Operator F.Op.Mul) = 4
+binds (T.Sign.Operator F.Op.Div) = 4
+binds (T.Sign.Operator F.Op.Add) = 3
+binds (T.Sign.Operator F.Op.Sub) = 3
+binds (T.Sign.Operator F.Op.Join) = 2
 binds T.Sign.LeftParen = 0
 binds T.Sign.RightParen = 0
 binds T.Sign.Comma = 0
@@ -39,20 +39,20 @@ later j k (Signed s ∷ ts) h e = omega arith
 later j k ts h e = tt
 
 pub compares : (s : Sign) (op : Op) → comparison s ≡ Some op → binds s ≡ 1
-compares T.Sign.Eq op h = refl
-compares T.Sign.Ne op h = refl
-compares T.Sign.Lt op h = refl
-compares T.Sign.Le op h = refl
-compares T.Sign.Gt op h = refl
-compares T.Sign.Ge op h = refl
+compares (T.Sign.Operator F.Op.Eq) op h = refl
+compares (T.Sign.Operator F.Op.Ne) op h = refl
+compares (T.Sign.Operator F.Op.Lt) op h = refl
+compares (T.Sign.Operator F.Op.Le) op h = refl
+compares (T.Sign.Operator F.Op.Gt) op h = refl
+compares (T.Sign.Operator F.Op.Ge) op h = refl
 compares s op h = cc
 
 pub operates : (level : Level) (s : Sign) (op : Op) → operator level s ≡ Some op → binds s ≡ chain_end level
-operates F.Level.Cat T.Sign.Join op h = refl
-operates F.Level.Sum T.Sign.Plus op h = refl
-operates F.Level.Sum T.Sign.Minus op h = refl
-operates F.Level.Prod T.Sign.Times op h = refl
-operates F.Level.Prod T.Sign.Over op h = refl
+operates F.Level.Cat (T.Sign.Operator F.Op.Join) op h = refl
+operates F.Level.Sum (T.Sign.Operator F.Op.Add) op h = refl
+operates F.Level.Sum (T.Sign.Operator F.Op.Sub) op h = refl
+operates F.Level.Prod (T.Sign.Operator F.Op.Mul) op h = refl
+operates F.Level.Prod (T.Sign.Operator F.Op.Div) op h = refl
 operates level s op h = cc
 
 -- an operand ends where the operators behind it begin

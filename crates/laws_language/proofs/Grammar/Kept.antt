@@ -2,7 +2,7 @@
 --
 -- Both lists are gone through side by side. The tokens read have `n` parentheses open and `m` times `-` in a row before them, the canonical ones `o` and `k`.
 -- Parentheses that the canonical tokens leave out are spared: each lets them put a pair later, where `-` stands a ninth time in a row, and `d` pairs are left.
-use Rattle.std.proofs.Common.{◌≡◌, ℕ, ◌+◌, ◌-◌, ◌*◌, ◌<◌, ◌≤◌, Bool, true, false, ◌||◌, [], ◌∷◌, ◌++◌, append_assoc, ap, refl, sym, subst, ◌∙◌, arith, if◌then◌else◌}
+use Rattle.std.proofs.Common.{◌&&◌, ◌≡◌, ℕ, ◌+◌, ◌-◌, ◌*◌, ◌<◌, ◌≤◌, Bool, true, false, ◌||◌, [], ◌∷◌, ◌++◌, append_assoc, ap, refl, sym, subst, ◌∙◌, arith}
 use Rattle.std.specs.Prelude.{Some, nat_lt, nat_le}
 use Rattle.std.proofs.lemmas.Bool.{or_parts, or_from, le-ltb, leb-true, leb-false, lt-leb}
 use Rattle.gl_calculus.specs.Grid.Limits.{max_minus, max_open}
@@ -61,12 +61,12 @@ minus_small F.Op.Sub = omega arith
 minus_small op = omega arith
 
 comparison_minus : (s : Sign) (op : Op) → comparison s ≡ Some op → minus_of op ≡ 0
-comparison_minus T.Sign.Eq op h = ap minus_of (sym (same_some h))
-comparison_minus T.Sign.Ne op h = ap minus_of (sym (same_some h))
-comparison_minus T.Sign.Lt op h = ap minus_of (sym (same_some h))
-comparison_minus T.Sign.Le op h = ap minus_of (sym (same_some h))
-comparison_minus T.Sign.Gt op h = ap minus_of (sym (same_some h))
-comparison_minus T.Sign.Ge op h = ap minus_of (sym (same_some h))
+comparison_minus (T.Sign.Operator F.Op.Eq) op h = ap minus_of (sym (same_some h))
+comparison_minus (T.Sign.Operator F.Op.Ne) op h = ap minus_of (sym (same_some h))
+comparison_minus (T.Sign.Operator F.Op.Lt) op h = ap minus_of (sym (same_some h))
+comparison_minus (T.Sign.Operator F.Op.Le) op h = ap minus_of (sym (same_some h))
+comparison_minus (T.Sign.Operator F.Op.Gt) op h = ap minus_of (sym (same_some h))
+comparison_minus (T.Sign.Operator F.Op.Ge) op h = ap minus_of (sym (same_some h))
 comparison_minus s op h = absurd (cc h)
 
 -- a left parenthesis, and a right one
@@ -91,19 +91,19 @@ with_parens : (k q : ℕ) (f : Formula) → needs_parens k q f ≡ true → plac
 with_parens k q f h = ap (λ b. tokens_in_place b (λ m. tokens_behind m f) k) h
 
 wide : (k q : ℕ) (f : Formula) → q ≤ place_of f → is_neg f ≡ false → placed q k f ≡ tokens_behind k f
-wide k q f l n = no_parens k q f (or_from (nat_lt (place_of f) q) (if is_neg f then nat_le max_minus k else false) (le-ltb (place_of f) q l) (ap (λ b. if b then nat_le max_minus k else false) n))
+wide k q f l n = no_parens k q f (or_from (nat_lt (place_of f) q) (is_neg f && nat_le max_minus k) (le-ltb (place_of f) q l) (ap (λ b. b && nat_le max_minus k) n))
 
 widest : (k q : ℕ) (f : Formula) → needs_parens k q f ≡ false → placed 0 k f ≡ tokens_behind k f
 widest k q f h =
-    let p = or_parts (nat_lt (place_of f) q) (if is_neg f then nat_le max_minus k else false) h in
-    no_parens k 0 f (or_from (nat_lt (place_of f) 0) (if is_neg f then nat_le max_minus k else false) (le-ltb (place_of f) 0 (omega arith)) p.1)
+    let p = or_parts (nat_lt (place_of f) q) (is_neg f && nat_le max_minus k) h in
+    no_parens k 0 f (or_from (nat_lt (place_of f) 0) (is_neg f && nat_le max_minus k) (le-ltb (place_of f) 0 (omega arith)) p.1)
 
-few : (b : Bool) → (if b then nat_le max_minus 0 else false) ≡ false
+few : (b : Bool) → (b && nat_le max_minus 0) ≡ false
 few true = refl
 few false = refl
 
 pub at_start : (f : Formula) → placed 0 0 f ≡ tokens_behind 0 f
-at_start f = no_parens 0 0 f (or_from (nat_lt (place_of f) 0) (if is_neg f then nat_le max_minus 0 else false) (le-ltb (place_of f) 0 (omega arith)) (few (is_neg f)))
+at_start f = no_parens 0 0 f (or_from (nat_lt (place_of f) 0) (is_neg f && nat_le max_minus 0) (le-ltb (place_of f) 0 (omega arith)) (few (is_neg f)))
 
 moved : {n o k d : ℕ} {xs ys ts us : Tokens} → xs ≡ ys → Kept n o k d ys ts us → Kept n o k d xs ts us
 moved {n} {o} {k} {d} {ts = ts} {us = us} e r = subst (λ z. Kept n o k d z ts us) (sym e) r
@@ -142,7 +142,7 @@ fewer k h = omega (arith, h)
 
 minus_by : (f : Formula) (n m o k d q : ℕ) (ts us : Tokens) → q ≤ 4 → SideBySide n m o k d → m < max_minus →
     ((p j e : ℕ) → SideBySide n (m + 1) p j e → Kept n p j e (placed 4 j f) ts us) →
-    (b : Bool) → nat_le max_minus k ≡ b → Kept n o k d (placed q k (F.Formula.Neg f)) (Signed T.Sign.Minus ∷ ts) us
+    (b : Bool) → nat_le max_minus k ≡ b → Kept n o k d (placed q k (F.Formula.Neg f)) (Signed (T.Sign.Operator F.Op.Sub) ∷ ts) us
 minus_by f n m o k d q ts us l s few inside true h =
     let e : max_minus ≤ k = leb-true max_minus k h in
     let r = inside (o + 1) (one_more 0) (d - 1) (record { opened = omega (arith, s.opened, s.row, e, few); most = s.most; row = omega arith; short = omega arith }) in
@@ -152,7 +152,7 @@ minus_by f n m o k d q ts us l s few inside true h =
     moved (with_parens k q (F.Formula.Neg f) p) (record {
       behind = r.behind;
       shallow = λ rest i.
-          opening o k (Signed T.Sign.Minus ∷ ((xs ++ close) ++ rest)) (omega (arith, s.opened, s.most, s.row, e, few)) (subst (λ z. IsShallow (o + 1) 1 z) (sym (append_assoc xs close rest)) (r.shallow (Signed T.Sign.RightParen ∷ rest) (closing o 0 rest i)));
+          opening o k (Signed (T.Sign.Operator F.Op.Sub) ∷ ((xs ++ close) ++ rest)) (omega (arith, s.opened, s.most, s.row, e, few)) (subst (λ z. IsShallow (o + 1) 1 z) (sym (append_assoc xs close rest)) (r.shallow (Signed T.Sign.RightParen ∷ rest) (closing o 0 rest i)));
       no_longer = omega (arith, size-append xs close, r.no_longer, s.row, e, few);
     })
 minus_by f n m o k d q ts us l s few inside false h =

@@ -47,20 +47,20 @@ pub same_some : {o p : Op} → Some o ≡ Some p → o ≡ p
 same_some h = cc
 
 pub comparison_sign : (s : Sign) (op : Op) → comparison s ≡ Some op → s ≡ op_sign op
-comparison_sign T.Sign.Eq op h = ap op_sign (same_some h)
-comparison_sign T.Sign.Ne op h = ap op_sign (same_some h)
-comparison_sign T.Sign.Lt op h = ap op_sign (same_some h)
-comparison_sign T.Sign.Le op h = ap op_sign (same_some h)
-comparison_sign T.Sign.Gt op h = ap op_sign (same_some h)
-comparison_sign T.Sign.Ge op h = ap op_sign (same_some h)
+comparison_sign (T.Sign.Operator F.Op.Eq) op h = ap op_sign (same_some h)
+comparison_sign (T.Sign.Operator F.Op.Ne) op h = ap op_sign (same_some h)
+comparison_sign (T.Sign.Operator F.Op.Lt) op h = ap op_sign (same_some h)
+comparison_sign (T.Sign.Operator F.Op.Le) op h = ap op_sign (same_some h)
+comparison_sign (T.Sign.Operator F.Op.Gt) op h = ap op_sign (same_some h)
+comparison_sign (T.Sign.Operator F.Op.Ge) op h = ap op_sign (same_some h)
 comparison_sign s op h = absurd (cc h)
 
 pub operator_sign : (level : Level) (s : Sign) (op : Op) → operator level s ≡ Some op → s ≡ op_sign op
-operator_sign F.Level.Cat T.Sign.Join op h = ap op_sign (same_some h)
-operator_sign F.Level.Sum T.Sign.Plus op h = ap op_sign (same_some h)
-operator_sign F.Level.Sum T.Sign.Minus op h = ap op_sign (same_some h)
-operator_sign F.Level.Prod T.Sign.Times op h = ap op_sign (same_some h)
-operator_sign F.Level.Prod T.Sign.Over op h = ap op_sign (same_some h)
+operator_sign F.Level.Cat (T.Sign.Operator F.Op.Join) op h = ap op_sign (same_some h)
+operator_sign F.Level.Sum (T.Sign.Operator F.Op.Add) op h = ap op_sign (same_some h)
+operator_sign F.Level.Sum (T.Sign.Operator F.Op.Sub) op h = ap op_sign (same_some h)
+operator_sign F.Level.Prod (T.Sign.Operator F.Op.Mul) op h = ap op_sign (same_some h)
+operator_sign F.Level.Prod (T.Sign.Operator F.Op.Div) op h = ap op_sign (same_some h)
 operator_sign level s op h = absurd (cc h)
 
 -- ---- tokens

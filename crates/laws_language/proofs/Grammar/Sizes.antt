@@ -10,10 +10,10 @@ use Rattle.std.proofs.lemmas.List.{length-append, length_push}
 use Rattle.gl_calculus.specs.Grid.Notation.{address_text}
 use Rattle.gl_calculus.specs.Formulas.Formula.{Op, Formula, Formulas, Operands}
 use Rattle.gl_calculus.specs.Formulas.Formula as F
-use Rattle.gl_language.specs.Texts.Text.{Bytes, escaped, is_control, literal_text, truth_text, op_text, fun_text, level_place, one_more, minus_of, in_parens, in_place, needs_parens, text_behind, operands_text, texts}
+use Rattle.gl_language.specs.Texts.Text.{Bytes, escaped, is_control, literal_text, truth_text, op_text, fun_text, level_place, one_more, minus_of, in_parens, needs_parens, text_behind, operands_text, texts}
 use Rattle.gl_language.specs.Reading.Token as T
 use Rattle.gl_language.specs.Reading.Token.{Token, Sign, is_digit, IsRow, Decodes, Spells, Reads, no_more, space, token, integer, quoted, address, truth, word, variable, signed, Lexes, sign_text}
-use Rattle.gl_language.specs.Texts.Canonical.{Tokens, op_sign, tokens_in_place, tokens_behind, operands_tokens, arguments_tokens, more_tokens, HasTokens, HaveTokens, AllHaveTokens}
+use Rattle.gl_language.specs.Texts.Canonical.{in_place, Tokens, op_sign, tokens_in_place, tokens_behind, operands_tokens, arguments_tokens, more_tokens, HasTokens, HaveTokens, AllHaveTokens}
 use Rattle.gl_lex.specs.Front.{value_from}
 use Rattle.gl_lex.proofs.Values.{value_grows}
 

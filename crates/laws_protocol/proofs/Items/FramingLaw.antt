@@ -3,7 +3,7 @@ use Rattle.std.proofs.Common.{◌≡◌, ℕ, zero, suc, ◌+◌, ◌<◌, ◌�
 use Rattle.std.proofs.lemmas.Bool.Decides.{nat_tests}
 use Rattle.std.proofs.lemmas.List.{take-append-le, drop-append-le}
 use Rattle.std.specs.Option.{option_to_list}
-use Rattle.gl_protocol.specs.Framing.Framing.{Item, Long, Line, Import, Truncated, Kind, past_limit, plain, header, kind_of, drop_cr, has_lf, first_line, after_line, item_at, first_item, last_item, last_items, is_quit, go_on, items_within, ended_within, items, ended}
+use Rattle.gl_protocol.specs.Framing.Framing.{Item, Long, Line, Import, Truncated, Kind, past_limit, plain, header, kind_of, drop_cr, has_lf, first_line, after_line, item_at, first_item, last_item, last_items, is_quit, go_on, items_within, items, ended}
 use Rattle.gl_protocol.specs.Framing.Stream.{nothing, in_line, skipped, step, gained, after, closing}
 use Rattle.laws_protocol.proofs.Items.Begun.{line_stream, payload_stream, stream_of}
 use Rattle.gl_calculus.specs.Grid.Limits.{max_line}
@@ -65,35 +65,35 @@ go_on-same : (o : Option (Item × List ℕ)) (f g : List ℕ → List Item) (las
 go_on-same None f g last h = refl
 go_on-same (Some p) f g last h = ap (λ (is : List Item). p.0 ∷ cond (is_quit p.0) [] is) (h p refl)
 
-ended_within-enough : (n m : ℕ) (t : List ℕ) → length t ≤ n → length t ≤ m → ended_within n t ≡ ended_within m t
+ended_within-enough : (n m : ℕ) (t : List ℕ) → length t ≤ n → length t ≤ m → items_within (λ u. []) n t ≡ items_within (λ u. []) m t
 ended_within-enough zero zero t a b = refl
 ended_within-enough zero (suc m) [] a b = refl
 ended_within-enough zero (suc m) (x ∷ t) a b = absurd (omega arith)
 ended_within-enough (suc n) zero [] a b = refl
 ended_within-enough (suc n) zero (x ∷ t) a b = absurd (omega arith)
 ended_within-enough (suc n) (suc m) t a b =
-    go_on-same (first_item t) (ended_within n) (ended_within m) [] (λ p e. let s = first_item-shorter t p e in ended_within-enough n m p.1 (omega arith) (omega arith))
+    go_on-same (first_item t) (items_within (λ u. []) n) (items_within (λ u. []) m) [] (λ p e. let s = first_item-shorter t p e in ended_within-enough n m p.1 (omega arith) (omega arith))
 
-items_within-enough : (n m : ℕ) (t : List ℕ) → length t ≤ n → length t ≤ m → items_within n t ≡ items_within m t
+items_within-enough : (n m : ℕ) (t : List ℕ) → length t ≤ n → length t ≤ m → items_within last_items n t ≡ items_within last_items m t
 items_within-enough zero zero t a b = refl
 items_within-enough zero (suc m) [] a b = refl
 items_within-enough zero (suc m) (x ∷ t) a b = absurd (omega arith)
 items_within-enough (suc n) zero [] a b = refl
 items_within-enough (suc n) zero (x ∷ t) a b = absurd (omega arith)
 items_within-enough (suc n) (suc m) t a b =
-    go_on-same (first_item t) (items_within n) (items_within m) (last_items t) (λ p e. let s = first_item-shorter t p e in items_within-enough n m p.1 (omega arith) (omega arith))
+    go_on-same (first_item t) (items_within last_items n) (items_within last_items m) (last_items t) (λ p e. let s = first_item-shorter t p e in items_within-enough n m p.1 (omega arith) (omega arith))
 
 ended-by_first : (t : List ℕ) → ended t ≡ go_on (first_item t) ended []
 unfolding ended
 ended-by_first [] = refl
 ended-by_first (b ∷ bs) =
-    go_on-same (first_item (b ∷ bs)) (ended_within (length bs)) (λ u. ended_within (length u) u) [] (λ p e. let s = first_item-shorter (b ∷ bs) p e in ended_within-enough (length bs) (length p.1) p.1 (omega arith) (omega arith))
+    go_on-same (first_item (b ∷ bs)) (items_within (λ u. []) (length bs)) (λ u. items_within (λ u. []) (length u) u) [] (λ p e. let s = first_item-shorter (b ∷ bs) p e in ended_within-enough (length bs) (length p.1) p.1 (omega arith) (omega arith))
 
 items-by_first : (t : List ℕ) → items t ≡ go_on (first_item t) items (last_items t)
 unfolding items
 items-by_first [] = refl
 items-by_first (b ∷ bs) =
-    go_on-same (first_item (b ∷ bs)) (items_within (length bs)) (λ u. items_within (length u) u) (last_items (b ∷ bs)) (λ p e. let s = first_item-shorter (b ∷ bs) p e in items_within-enough (length bs) (length p.1) p.1 (omega arith) (omega arith))
+    go_on-same (first_item (b ∷ bs)) (items_within last_items (length bs)) (λ u. items_within last_items (length u) u) (last_items (b ∷ bs)) (λ p e. let s = first_item-shorter (b ∷ bs) p e in items_within-enough (length bs) (length p.1) p.1 (omega arith) (omega arith))
 
 -- The end of input.
 

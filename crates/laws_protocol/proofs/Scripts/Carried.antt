@@ -1,4 +1,5 @@
 -- What holds of each content that a line sets, an edit brings or an import gives holds of each content of the sheet, and of each that comes back.
+use Rattle.std.specs.Prelude.{codes}
 use Rattle.std.proofs.Common.{◌≡◌, ◌∙◌, ℕ, zero, suc, Bool, true, false, cond, not, List, [], ◌∷◌, map, take, filter, Option, Some, None, refl, sym, ap, subst}
 use Rattle.std.specs.Prelude.{⊤}
 use Rattle.std.specs.List.{AllByRecursion}
@@ -11,9 +12,9 @@ use Rattle.gl_calculus.specs.Edits.Replicas.{Stamp, Edit, Changes, Replica, Judg
 use Rattle.gl_calculus.specs.Edits.Steps.{Change, Step, step_of, befores, afters, History, no_history, pushed}
 use Rattle.gl_protocol.specs.Framing.Framing.{Item}
 use Rattle.gl_protocol.specs.Scripts.Commands as C
-use Rattle.gl_protocol.specs.Scripts.Commands.{Read, Is, Not, StampWord, SiteWord, ConflictWord, EditsWord, UndoWord, RedoWord, Request, ReadsLine, allowed, imported, without_mark}
+use Rattle.gl_protocol.specs.Scripts.Commands.{onto, Read, Is, Not, Request, ReadsLine, allowed, imported, without_mark}
 use Rattle.gl_calculus.specs.Edits.Sheets.{with_content, with_contents, without}
-use Rattle.gl_protocol.specs.Scripts.Script.{Script, new_script, onto, edited, sited, undone, redone, is_change, change, merge, allowed_change}
+use Rattle.gl_protocol.specs.Scripts.Script.{Script, new_script, edited, sited, undone, redone, is_change, change, merge, allowed_change}
 use Rattle.gl_calculus.specs.Edits.Sheets.{with_change, with_changes, settings, removals}
 use Rattle.gl_protocol.specs.Scripts.Acts as T
 use Rattle.gl_protocol.specs.Scripts.Acts.{Does, Acts}
@@ -121,13 +122,13 @@ module _ (P : Addr × Content → Type 0) where
   edited_history : (s : Script) (cs : Changes) (goal : Read Cells) (t : Script) → edited s cs goal ≡ Is t → IsHistory s cs t.history
   edited_history s cs goal t h = by s.replica refl h
     where
-      room : (q : Replica) (b : Bool) → cond b (onto (λ S. record s { sheet = S; replica = Some q }) goal) (Not EditsWord) ≡ Is t → IsHistory s cs t.history
+      room : (q : Replica) (b : Bool) → cond b (onto (λ S. record s { sheet = S; replica = Some q }) goal) (Not (codes "edits")) ≡ Is t → IsHistory s cs t.history
       room q true k = same (onto_history (λ S. record s { sheet = S; replica = Some q }) goal t s.history (λ S. refl) k)
-      room q false k = absurd (not_script EditsWord t k)
+      room q false k = absurd (not_script (codes "edits") t k)
 
       stamped_by : (r : Replica) (o : Option Stamp) → next_stamp r ≡ o → s.replica ≡ Some r → edited s cs goal ≡ Is t → IsHistory s cs t.history
       stamped_by r (Some u) n e k = room (taking_all r (stamped u cs)) (has_room (taking_all r (stamped u cs))) (rw (e, n) at k)
-      stamped_by r None n e k = absurd (not_script StampWord t (rw (e, n) at k))
+      stamped_by r None n e k = absurd (not_script (codes "stamp") t (rw (e, n) at k))
 
       by : (o : Option Replica) → s.replica ≡ o → edited s cs goal ≡ Is t → IsHistory s cs t.history
       by (Some r) e k = stamped_by r (next_stamp r) refl e k
@@ -158,16 +159,16 @@ module _ (P : Addr × Content → Type 0) where
       made = record { sheet = []; replica = Some (new_replica n); history = no_history }
 
       by : (o : Option Replica) (S : Cells) → s.replica ≡ o → s.sheet ≡ S → Carries t
-      by (Some r) S e f = let no : sited s n ≡ Not SiteWord = rw e refl in absurd (not_script SiteWord t (sym no ∙ h))
-      by None (c ∷ cs) e f = let no : sited s n ≡ Not SiteWord = rw (e, f) refl in absurd (not_script SiteWord t (sym no ∙ h))
+      by (Some r) S e f = let no : sited s n ≡ Not (codes "site") = rw e refl in absurd (not_script (codes "site") t (sym no ∙ h))
+      by None (c ∷ cs) e f = let no : sited s n ≡ Not (codes "site") = rw (e, f) refl in absurd (not_script (codes "site") t (sym no ∙ h))
       by None [] e f = let yes : sited s n ≡ Is made = rw (e, f) refl in moved made t (record { sheet = tt; done = tt; undone = tt }) (sym yes ∙ h)
 
   undone_carries : (s t : Script) → Carries s → undone s ≡ Is t → Carries t
   undone_carries s t c h = by s.replica s.history.done refl refl
     where
       by : (o : Option Replica) (ds : List Step) → s.replica ≡ o → s.history.done ≡ ds → Carries t
-      by (Some r) ds e f = let no : undone s ≡ Not SiteWord = rw e refl in absurd (not_script SiteWord t (sym no ∙ h))
-      by None [] e f = let no : undone s ≡ Not UndoWord = rw (e, f) refl in absurd (not_script UndoWord t (sym no ∙ h))
+      by (Some r) ds e f = let no : undone s ≡ Not (codes "site") = rw e refl in absurd (not_script (codes "site") t (sym no ∙ h))
+      by None [] e f = let no : undone s ≡ Not (codes "undo") = rw (e, f) refl in absurd (not_script (codes "undo") t (sym no ∙ h))
       by None (d ∷ ds) e f =
           let made : Script = record s { sheet = with_changes s.sheet (befores d); history = record { done = ds; undone = d ∷ s.history.undone } } in
           let yes : undone s ≡ Is made = rw (e, f) refl in
@@ -178,8 +179,8 @@ module _ (P : Addr × Content → Type 0) where
   redone_carries s t c h = by s.replica s.history.undone refl refl
     where
       by : (o : Option Replica) (us : List Step) → s.replica ≡ o → s.history.undone ≡ us → Carries t
-      by (Some r) us e f = let no : redone s ≡ Not SiteWord = rw e refl in absurd (not_script SiteWord t (sym no ∙ h))
-      by None [] e f = let no : redone s ≡ Not RedoWord = rw (e, f) refl in absurd (not_script RedoWord t (sym no ∙ h))
+      by (Some r) us e f = let no : redone s ≡ Not (codes "site") = rw e refl in absurd (not_script (codes "site") t (sym no ∙ h))
+      by None [] e f = let no : redone s ≡ Not (codes "redo") = rw (e, f) refl in absurd (not_script (codes "redo") t (sym no ∙ h))
       by None (u ∷ us) e f =
           let made : Script = record s { sheet = with_changes s.sheet (afters u); history = record { done = u ∷ s.history.done; undone = us } } in
           let yes : redone s ≡ Is made = rw (e, f) refl in
@@ -197,9 +198,9 @@ module _ (P : Addr × Content → Type 0) where
       won q (Is S) a m = moved (record s { sheet = S; replica = Some q }) t (record { sheet = hold_allowed s.sheet S e.place e.content c.sheet k a; done = c.done; undone = c.undone }) m
       won q (Not w) a m = absurd (not_script w t m)
 
-      room : (q : Replica) (b : Bool) → cond b (onto (λ S. record s { sheet = S; replica = Some q }) (allowed_change s.sheet e.place e.content)) (Not EditsWord) ≡ Is t → Carries t
+      room : (q : Replica) (b : Bool) → cond b (onto (λ S. record s { sheet = S; replica = Some q }) (allowed_change s.sheet e.place e.content)) (Not (codes "edits")) ≡ Is t → Carries t
       room q true m = won q (allowed_change s.sheet e.place e.content) refl m
-      room q false m = absurd (not_script EditsWord t m)
+      room q false m = absurd (not_script (codes "edits") t m)
 
       kept : (q : Replica) → Is (record s { replica = Some q }) ≡ Is t → Carries t
       kept q m = moved (record s { replica = Some q }) t (record { sheet = c.sheet; done = c.done; undone = c.undone }) m
@@ -208,8 +209,8 @@ module _ (P : Addr × Content → Type 0) where
       by (Some r) Wins f m = room (taking r e) (has_room (taking r e)) (rw f at m)
       by (Some r) Loses f m = kept (taking r e) (rw f at m)
       by (Some r) Same f m = kept (taking r e) (rw f at m)
-      by (Some r) Conflict f m = absurd (not_script ConflictWord t (rw f at m))
-      by None j f m = absurd (not_script SiteWord t (rw f at m))
+      by (Some r) Conflict f m = absurd (not_script (codes "conflict") t (rw f at m))
+      by None j f m = absurd (not_script (codes "site") t (rw f at m))
 
   -- ---- items
 
@@ -254,10 +255,10 @@ module _ (P : Addr × Content → Type 0) where
 
     does_carry : {s : Script} (l : Bytes) {x : Request} {t : Script} {r : Bytes} → Carries s → ReadsLine l (Is x) → Does records version s x t r → Carries t
     does_carry l h q T.Does.nothing = h
-    does_carry {s} l h q (T.Does.changed {x = x} {s' = t} i k) = change_carries s l x t h q i k
-    does_carry l h q (T.Does.unchanged t k) = h
-    does_carry {s} l h q (T.Does.merged {e = e} j {s' = t} i k) = merged_carries s e j t h (all.merges l e q) k
-    does_carry l h q (T.Does.unmerged j i k) = h
+    does_carry {s} l h q (T.Does.changed {x = x} i (T.Leaves.left {s' = t} k)) = change_carries s l x t h q i k
+    does_carry l h q (T.Does.changed t (T.Leaves.kept k)) = h
+    does_carry {s} l h q (T.Does.merged {e = e} j i (T.Leaves.left {s' = t} k)) = merged_carries s e j t h (all.merges l e q) k
+    does_carry l h q (T.Does.merged j i (T.Leaves.kept k)) = h
     does_carry l h q T.Does.get = h
     does_carry l h q T.Does.list = h
     does_carry l h q (T.Does.export r e) = h
@@ -272,12 +273,12 @@ module _ (P : Addr × Content → Type 0) where
     acts_carry h (T.Acts.refused q) = h
     acts_carry h T.Acts.long = h
     acts_carry h T.Acts.truncated = h
-    acts_carry {s} h (T.Acts.import {p = p} {s' = t} place n a cs ws at_place read k) =
+    acts_carry {s} h (T.Acts.import {p = p} place n a ws at_place (T.Imports.contents cs read (T.Leaves.left {s' = t} k))) =
         let given = all.imports a (records (without_mark p)) cs read in
         edited_carries s (settings cs) (allowed (with_contents s.sheet cs)) t h (settings_come cs given) (λ S e. subst AllHold (allowed_is (with_contents s.sheet cs) S e).0 (hold_with_all cs s.sheet h.sheet given)) k
     acts_carry h (T.Acts.import_place place n ws none) = h
-    acts_carry h (T.Acts.import_fields place n a ws at_place read) = h
-    acts_carry h (T.Acts.import_refused place n a cs ws at_place read over) = h
+    acts_carry h (T.Acts.import place n a ws at_place (T.Imports.fault read)) = h
+    acts_carry h (T.Acts.import place n a ws at_place (T.Imports.contents cs read (T.Leaves.kept over))) = h
 
     run_carries : {s t : Script} {is : List Item} {rs : List Bytes} → Carries s → Runs records version s is t rs → Carries t
     run_carries h O.Runs.no_more = h

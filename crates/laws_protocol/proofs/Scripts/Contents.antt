@@ -1,12 +1,13 @@
 -- What is set or imported is a proper content.
-use Rattle.std.proofs.Common.{◌≡◌, ◌∙◌, ◌≤◌, nat_lt, nat_le, Bool, true, false, ◌&&◌, List, [], ◌∷◌, ◌++◌, length, Option, Some, None, refl, sym, subst, arith, IsTrue}
+use Rattle.std.specs.Prelude.{codes}
+use Rattle.std.proofs.Common.{cond, ◌≡◌, ◌∙◌, ◌≤◌, nat_lt, nat_le, Bool, true, false, ◌&&◌, List, [], ◌∷◌, ◌++◌, length, Option, Some, None, refl, sym, subst, arith, IsTrue}
 use Rattle.std.specs.Prelude.{ℤ, bytes_eq, ⊤}
 use Rattle.std.specs.List.{list_all, AllByRecursion}
 use Rattle.std.specs.Str.{IsUtf8, is_utf8}
 use Rattle.std.proofs.lemmas.Str.{IsUtf8-from_is_utf8, is_utf8-from_IsUtf8}
 use Rattle.std.proofs.lemmas.Bool.Decides.{nat_tests}
 use Rattle.gl_calculus.specs.Grid.Limits.{max_text}
-use Rattle.gl_calculus.specs.Grid.Grid.{Addr, shifted}
+use Rattle.gl_calculus.specs.Grid.Grid.{Range, Addr, shifted}
 use Rattle.gl_calculus.specs.Values.Operators.{exact}
 use Rattle.gl_calculus.specs.Values.Value as V
 use Rattle.gl_calculus.specs.Formulas.Formula.{Content, Const, Cells}
@@ -14,7 +15,7 @@ use Rattle.gl_language.specs.Texts.Text.{Bytes, truth_text}
 use Rattle.gl_language.specs.Reading.Content.{IsProperContent}
 use Rattle.gl_calculus.specs.Edits.Replicas.{Edit, is_stamp}
 use Rattle.gl_protocol.specs.Scripts.Commands as C
-use Rattle.gl_protocol.specs.Scripts.Commands.{Read, Is, Not, Word, FieldWord, Request, ReadsContent, ReadsText, ReadsWords, ReadsLine, words_of, fields_of_record, fields, field_fault, contents, imported}
+use Rattle.gl_protocol.specs.Scripts.Commands.{Read, Is, Not, Request, ReadsContent, ReadsText, ReadsWords, ReadsLine, words_of, fields_of_record, fields, field_fault, contents, imported}
 use Rattle.gl_language.specs.Texts.Plain.{signed_value, plain_scalar}
 use Rattle.gl_script.proofs.Contents.{well_formed}
 use Rattle.gl_script.proofs.Decoded.{decoded_text}
@@ -78,14 +79,18 @@ IfProperText (Not w) = ⊤
 
 text_proper : {o : Option Bytes} {x : Read (Option Content)} → ReadsText o x → IsTextIn o → IfProperText x
 text_proper C.ReadsText.no_text u = tt
-text_proper (C.ReadsText.text r) u = read_proper r u
-text_proper (C.ReadsText.text_fault r) u = tt
+text_proper (C.ReadsText.text {r = Is c} r) u = read_proper r u
+text_proper (C.ReadsText.text {r = Not w} r) u = tt
 
 -- what is set is proper, and an edit has a stamp
 abbrev IfSet : Read Request → Type 0
 IfSet (Is (C.Request.Set a c)) = IsProperContent c
 IfSet (Is (C.Request.Merge e)) = IsTrue (is_stamp e.stamp.time e.stamp.site) × IsProperOption e.content
 IfSet x = ⊤
+
+view_set : (b : Bool) (x : Range) → IfSet (cond b (Is (C.Request.View x)) (Not (codes "range")))
+view_set true x = tt
+view_set false x = tt
 
 words_set : (l : Bytes) {ws : C.Words} {x : Read Request} → IsUtf8 l → words_of l ≡ Some ws → ReadsWords ws x → IfSet x
 words_set l u h C.ReadsWords.list = tt
@@ -97,17 +102,16 @@ words_set l u h C.ReadsWords.undo = tt
 words_set l u h C.ReadsWords.redo = tt
 words_set l u h C.ReadsWords.flow = tt
 words_set l u h C.ReadsWords.site = tt
-words_set l u h (C.ReadsWords.edit {t = t} {n = n} {place = place} {text = o} k b r) = (b, text_proper r (text_of_edit l t n place o h u))
-words_set l u h (C.ReadsWords.edit_fault a k b r) = tt
+words_set l u h (C.ReadsWords.edit {t = t} {n = n} {place = place} {text = o} {r = Is c} a k b r) = (b, text_proper r (text_of_edit l t n place o h u))
+words_set l u h (C.ReadsWords.edit {r = Not w} a k b r) = tt
 words_set l u h (C.ReadsWords.edit_stamp a k b) = tt
 words_set l u h (C.ReadsWords.edit_place n) = tt
-words_set l u h (C.ReadsWords.set {place = place} {t = t} k r) = read_proper r (text_of_set l place t h u)
-words_set l u h (C.ReadsWords.set_fault a k r) = tt
+words_set l u h (C.ReadsWords.set {place = place} {t = t} {r = Is c} a k r) = read_proper r (text_of_set l place t h u)
+words_set l u h (C.ReadsWords.set {r = Not w} a k r) = tt
 words_set l u h (C.ReadsWords.set_place n) = tt
-words_set l u h (C.ReadsWords.clear r) = tt
-words_set l u h (C.ReadsWords.clear_place r) = tt
-words_set l u h (C.ReadsWords.view r v) = tt
-words_set l u h (C.ReadsWords.view_size r v) = tt
+words_set l u h (C.ReadsWords.clear {r = Is x} r) = tt
+words_set l u h (C.ReadsWords.clear {r = Not w} r) = tt
+words_set l u h (C.ReadsWords.view {r = x} r) = view_set (C.is_viewable x) x
 words_set l u h (C.ReadsWords.view_place r) = tt
 words_set l u h (C.ReadsWords.show k) = tt
 words_set l u h (C.ReadsWords.show_place n) = tt
@@ -164,14 +168,14 @@ field_short : (x : Addr × Bytes) → field_fault x ≡ None → length x.1 ≤ 
 field_short x h = by (nat_lt max_text (length x.1)) refl
   where
     by : (b : Bool) → nat_lt max_text (length x.1) ≡ b → length x.1 ≤ max_text
-    by true k = let e : field_fault x ≡ Some FieldWord = rw k refl in let i : None ≡ Some FieldWord = sym h ∙ e in cc i
+    by true k = let e : field_fault x ≡ Some (codes "field") = rw k refl in let i : None ≡ Some (codes "field") = sym h ∙ e in cc i
     by false k = grind (arith, nat_tests, k)
 
 contents_proper : (xs : List (Addr × Bytes)) → AllTexts xs → AllProper (contents xs)
 contents_proper [] h = tt
 contents_proper (x ∷ xs) h = by (field_fault x) (contents xs) refl refl (contents_proper xs h.1)
   where
-    by : (o : Option Word) (r : Read Cells) → field_fault x ≡ o → contents xs ≡ r → AllProper r → AllProper (contents (x ∷ xs))
+    by : (o : Option Bytes) (r : Read Cells) → field_fault x ≡ o → contents xs ≡ r → AllProper r → AllProper (contents (x ∷ xs))
     by (Some w) r e k all = rw e tt
     by None (Is cs) e k all = rw (e, k) (plain_proper x.1 h.0 (field_short x e), all)
     by None (Not w) e k all = rw (e, k) tt

@@ -11,7 +11,7 @@ use Rattle.gl_calculus.specs.Edits.Replicas.{Edit, Replica, Judged, IsJudged}
 use Rattle.gl_protocol.specs.Framing.Framing.{Item, Line, Import, Long, Truncated}
 use Rattle.gl_protocol.specs.Replies.Tables.{line, export_text}
 use Rattle.gl_protocol.specs.Scripts.Commands as C
-use Rattle.gl_protocol.specs.Scripts.Commands.{Read, Is, Not, Word, AddressWord, LineWord, TruncatedWord, SiteWord, Request, ReadsLine, ImportWords, words_of, IsAddress, NoAddress, allowed, imported, without_mark, error_line, spent_line, ok_line, get_text, list_text, SettledReply, asks_calculation}
+use Rattle.gl_protocol.specs.Scripts.Commands.{Read, Is, Not, Request, ReadsLine, ImportWords, words_of, IsAddress, NoAddress, allowed, imported, without_mark, error_line, spent_line, ok_line, get_text, list_text, SettledReply, asks_calculation}
 use Rattle.gl_calculus.specs.Edits.Sheets.{with_contents}
 use Rattle.gl_calculus.specs.Forecast.{Forecast, IsForecast}
 use Rattle.gl_protocol.specs.Replies.Explanations.{forecast_line}
@@ -24,7 +24,7 @@ use Rattle.gl_protocol.specs.Scripts.Acts.{Does, Acts}
 abbrev pub Effect : Type 0
 Effect = Script × Bytes
 
-abbrev pub refused : Script → Word → Effect
+abbrev pub refused : Script → Bytes → Effect
 refused s w = (s, error_line w)
 
 -- of a command that leaves this, or is refused
@@ -38,14 +38,14 @@ AreBoth s' r x = (s' ≡ x.0) × (r ≡ x.1)
 pub both_is : (s s' : Script) (r : Read Script) → r ≡ Is s' → AreBoth s' ok_line (of_read s r)
 both_is s s' r e = (sym (ap (λ (z : Read Script). (of_read s z).0) e), sym (ap (λ (z : Read Script). (of_read s z).1) e))
 
-pub both_not : (s : Script) (w : Word) (r : Read Script) → r ≡ Not w → AreBoth s (error_line w) (of_read s r)
+pub both_not : (s : Script) (w : Bytes) (r : Read Script) → r ≡ Not w → AreBoth s (error_line w) (of_read s r)
 both_not s w r e = (sym (ap (λ (z : Read Script). (of_read s z).0) e), sym (ap (λ (z : Read Script). (of_read s z).1) e))
 
 -- ---- requests
 
 abbrev pub export_effect : Script → Option Replica → Effect
 export_effect s (Some r) = (s, export_text r.registers)
-export_effect s None = refused s SiteWord
+export_effect s None = refused s (codes "site")
 
 -- of a request that asks for no calculation and no forecast, and brings no edit of another replica
 abbrev pub effect : Version → Script → Request → Effect
@@ -122,10 +122,10 @@ module _ (records : Bytes → List (List Bytes)) (version : Version) (s : Script
   -- what a request leaves and replies
   pub done : {x : Request} {s' : Script} {r : Bytes} → Does records version s x s' r → Done (asks_calculation records version s.sheet x) x s' r
   done T.Does.nothing = (refl, refl)
-  done (T.Does.changed {x = x} {s' = s'} t e) = change_done x s' ok_line t (both_is s s' (change s x) e)
-  done (T.Does.unchanged {x = x} {w = w} t e) = change_done x s (error_line w) t (both_not s w (change s x) e)
-  done (T.Does.merged {e = e} j {s' = s'} i m) = (j, i, both_is s s' (merge s e j) m)
-  done (T.Does.unmerged {e = e} j {w = w} i m) = (j, i, both_not s w (merge s e j) m)
+  done (T.Does.changed {x = x} t (T.Leaves.left {s' = s'} e)) = change_done x s' ok_line t (both_is s s' (change s x) e)
+  done (T.Does.changed {x = x} t (T.Leaves.kept {w = w} e)) = change_done x s (error_line w) t (both_not s w (change s x) e)
+  done (T.Does.merged {e = e} j i (T.Leaves.left {s' = s'} m)) = (j, i, both_is s s' (merge s e j) m)
+  done (T.Does.merged {e = e} j i (T.Leaves.kept {w = w} m)) = (j, i, both_not s w (merge s e j) m)
   done T.Does.get = (refl, refl)
   done T.Does.list = (refl, refl)
   done (T.Does.export r e) = (sym (ap (λ (o : Option Replica). (export_effect s o).0) e), sym (ap (λ (o : Option Replica). (export_effect s o).1) e))
@@ -147,7 +147,7 @@ module _ (records : Bytes → List (List Bytes)) (version : Version) (s : Script
 
   abbrev pub ByPlace : Bytes → Bytes → Script → Bytes → Type 0
   ByPlace place p s' r =
-      (NoAddress place × (s' ≡ s) × (r ≡ error_line AddressWord))
+      (NoAddress place × (s' ≡ s) × (r ≡ error_line (codes "address")))
       ⊎ ((a : Addr) × IsAddress place a × (s' ≡ (import_effect a p).0) × (r ≡ (import_effect a p).1))
 
   pub record Imports (l p : Bytes) (s' : Script) (r : Bytes) : Type 0 where
@@ -160,23 +160,23 @@ module _ (records : Bytes → List (List Bytes)) (version : Version) (s : Script
 
   -- what an item leaves and replies
   abbrev pub Acted : Item → Script → Bytes → Type 0
-  Acted (Line l) s' r = ((x : Request) × ReadsLine l (Is x) × Does records version s x s' r) ⊎ ((w : Word) × ReadsLine l (Not w) × (s' ≡ s) × (r ≡ error_line w))
+  Acted (Line l) s' r = ((x : Request) × ReadsLine l (Is x) × Does records version s x s' r) ⊎ ((w : Bytes) × ReadsLine l (Not w) × (s' ≡ s) × (r ≡ error_line w))
   Acted (Import l p) s' r = Imports l p s' r
-  Acted Long s' r = (s' ≡ s) × (r ≡ error_line LineWord)
-  Acted Truncated s' r = (s' ≡ s) × (r ≡ error_line TruncatedWord)
+  Acted Long s' r = (s' ≡ s) × (r ≡ error_line (codes "line"))
+  Acted Truncated s' r = (s' ≡ s) × (r ≡ error_line (codes "truncated"))
 
   pub acted : {x : Item} {s' : Script} {r : Bytes} → Acts records version s x s' r → Acted x s' r
   acted (T.Acts.request {x = x} l d) = inl (x, l, d)
   acted (T.Acts.refused {w = w} l) = inr (w, l, refl, refl)
   acted T.Acts.long = (refl, refl)
   acted T.Acts.truncated = (refl, refl)
-  acted (T.Acts.import {p = p} {s' = s'} place n a cs ws at_place read ok) =
+  acted (T.Acts.import {p = p} place n a ws at_place (T.Imports.contents cs read (T.Leaves.left {s' = s'} ok))) =
       let h = both_is s s' (added (imported a (records (without_mark p)))) (ap added read ∙ ok) in
       record { place = place; count = n; words = ws; by_place = inr (a, at_place, h.0, h.1) }
   acted (T.Acts.import_place place n ws none) = record { place = place; count = n; words = ws; by_place = inl (none, refl, refl) }
-  acted (T.Acts.import_fields {p = p} {w = w} place n a ws at_place read) =
+  acted (T.Acts.import {p = p} place n a ws at_place (T.Imports.fault {w = w} read)) =
       let h = both_not s w (added (imported a (records (without_mark p)))) (ap added read) in
       record { place = place; count = n; words = ws; by_place = inr (a, at_place, h.0, h.1) }
-  acted (T.Acts.import_refused {p = p} {w = w} place n a cs ws at_place read over) =
+  acted (T.Acts.import {p = p} place n a ws at_place (T.Imports.contents cs read (T.Leaves.kept {w = w} over))) =
       let h = both_not s w (added (imported a (records (without_mark p)))) (ap added read ∙ over) in
       record { place = place; count = n; words = ws; by_place = inr (a, at_place, h.0, h.1) }

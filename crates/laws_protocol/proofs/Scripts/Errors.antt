@@ -1,4 +1,5 @@
 -- An `error` line begins as one, and no other reply does.
+use Rattle.std.specs.Prelude.{codes}
 use Rattle.std.proofs.Common.{◌≡◌, ℕ, List, Option, Some, None, refl, arith, IsTrue}
 use Rattle.gl_calculus.specs.Grid.Grid.{extents}
 use Rattle.gl_calculus.specs.Values.Value.{Oracle}
@@ -11,7 +12,7 @@ use Rattle.gl_protocol.specs.Framing.Framing.{Item}
 use Rattle.gl_protocol.specs.Replies.Tables.{line}
 use Rattle.gl_protocol.specs.Replies.Explanations.{forecast_line}
 use Rattle.gl_protocol.specs.Scripts.Commands as C
-use Rattle.gl_protocol.specs.Scripts.Commands.{Word, Request, error_line, spent_line, why_text, ok_line, get_text, SettledReply}
+use Rattle.gl_protocol.specs.Scripts.Commands.{Request, error_line, spent_line, why_text, ok_line, get_text, SettledReply}
 use Rattle.gl_protocol.specs.Scripts.Script.{Script}
 use Rattle.gl_protocol.specs.Scripts.Acts as T
 use Rattle.gl_protocol.specs.Scripts.Acts.{Does, Acts}
@@ -21,12 +22,12 @@ use Rattle.laws_protocol.proofs.Scripts.Beginnings.{Begins, empty, by, no_refusa
 
 -- the reply is an `error` line, or doesn't begin as one
 abbrev IsError : Bytes → Type 0
-IsError r = IsTrue (is_refusal r) → (w : Word) × (r ≡ error_line w)
+IsError r = IsTrue (is_refusal r) → (w : Bytes) × (r ≡ error_line w)
 
 no_error : {r : Bytes} → Begins r → IsError r
 no_error b h = absurd (no_refusal b h)
 
-an_error : (w : Word) → IsError (error_line w)
+an_error : (w : Bytes) → IsError (error_line w)
 an_error w h = (w, refl)
 
 spent_reply : (k : SpentKind) → IsError (spent_line k)
@@ -68,15 +69,15 @@ module _ (records : Bytes → List (List Bytes)) (version : Version) (s : Script
 
   does_reply : {x : Request} {t : Script} {r : Bytes} → Does records version s x t r → IsError r
   does_reply T.Does.nothing = no_error empty
-  does_reply (T.Does.changed c e) = ok_reply
-  does_reply (T.Does.unchanged {w = w} c e) = an_error w
-  does_reply (T.Does.merged j i m) = ok_reply
-  does_reply (T.Does.unmerged j {w = w} i m) = an_error w
+  does_reply (T.Does.changed c (T.Leaves.left e)) = ok_reply
+  does_reply (T.Does.changed c (T.Leaves.kept {w = w} e)) = an_error w
+  does_reply (T.Does.merged j i (T.Leaves.left m)) = ok_reply
+  does_reply (T.Does.merged j i (T.Leaves.kept {w = w} m)) = an_error w
   does_reply (T.Does.get {a = a}) = get_reply (content s.sheet a)
   does_reply T.Does.list = no_error (by (omega arith) (λ e. omega (arith, e)))
   -- `export` begins with an `e` too
   does_reply (T.Does.export r e) = λ h. cc h
-  does_reply (T.Does.export_alone e) = an_error C.SiteWord
+  does_reply (T.Does.export_alone e) = an_error (codes "site")
   does_reply (T.Does.flow {f = f} h) = forecast_reply f
   does_reply T.Does.quit = no_error (by (omega arith) (λ e. omega (arith, e)))
   does_reply (T.Does.settled a h) = settled_reply records version s.sheet h
@@ -85,12 +86,12 @@ module _ (records : Bytes → List (List Bytes)) (version : Version) (s : Script
   acts_reply : {x : Item} {t : Script} {r : Bytes} → Acts records version s x t r → IsError r
   acts_reply (T.Acts.request l d) = does_reply d
   acts_reply (T.Acts.refused {w = w} l) = an_error w
-  acts_reply T.Acts.long = an_error C.LineWord
-  acts_reply T.Acts.truncated = an_error C.TruncatedWord
-  acts_reply (T.Acts.import place n a cs ws at_place read ok) = ok_reply
-  acts_reply (T.Acts.import_place place n ws none) = an_error C.AddressWord
-  acts_reply (T.Acts.import_fields {w = w} place n a ws at_place read) = an_error w
-  acts_reply (T.Acts.import_refused {w = w} place n a cs ws at_place read over) = an_error w
+  acts_reply T.Acts.long = an_error (codes "line")
+  acts_reply T.Acts.truncated = an_error (codes "truncated")
+  acts_reply (T.Acts.import place n a ws at_place (T.Imports.contents cs read (T.Leaves.left ok))) = ok_reply
+  acts_reply (T.Acts.import_place place n ws none) = an_error (codes "address")
+  acts_reply (T.Acts.import place n a ws at_place (T.Imports.fault {w = w} read)) = an_error w
+  acts_reply (T.Acts.import place n a ws at_place (T.Imports.contents cs read (T.Leaves.kept {w = w} over))) = an_error w
 
 pub errors_are_refusals : ErrorsAreRefusals
 errors_are_refusals w = refl

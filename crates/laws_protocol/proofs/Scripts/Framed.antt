@@ -88,15 +88,15 @@ line_items ls = map (λ l. Line l) ls
 abbrev pub AreAlone : List Bytes → Type 0
 AreAlone ls = AllByRecursion IsAlone ls
 
-items_by : (ls : List Bytes) (n : ℕ) → AreAlone ls → length (text_of ls) ≤ n → items_within n (text_of ls) ≡ line_items ls
+items_by : (ls : List Bytes) (n : ℕ) → AreAlone ls → length (text_of ls) ≤ n → items_within last_items n (text_of ls) ≡ line_items ls
 items_by [] zero h k = refl
 items_by [] (suc n) h k = refl
 items_by (l ∷ ls) zero h k = absurd (omega (arith, k, length-append (line l) (text_of ls), length-append l (10 ∷ [])))
 items_by (l ∷ ls) (suc n) h k =
     let rest = text_of ls in
     let less : length rest ≤ n = omega (arith, k, length-append (line l) rest, length-append l (10 ∷ [])) in
-    ap (λ (o : Option (Item × Bytes)). go_on o (items_within n) (last_items (line l ++ rest))) (first_is l rest h.0)
-    ∙ ap (λ (t : Bool). Line l ∷ cond t [] (items_within n rest)) h.0.stays
+    ap (λ (o : Option (Item × Bytes)). go_on o (items_within last_items n) (last_items (line l ++ rest))) (first_is l rest h.0)
+    ∙ ap (λ (t : Bool). Line l ∷ cond t [] (items_within last_items n rest)) h.0.stays
     ∙ ap (λ (is : List Item). Line l ∷ is) (items_by ls n h.1 less)
 
 pub items_are : (ls : List Bytes) → AreAlone ls → items (text_of ls) ≡ line_items ls

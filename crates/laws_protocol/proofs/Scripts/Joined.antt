@@ -1,4 +1,5 @@
 -- What replicas took, and what they hold then.
+use Rattle.std.specs.Prelude.{codes}
 use Rattle.std.proofs.Common.{◌≡◌, ◌∙◌, ℕ, true, false, Bool, List, [], ◌∷◌, ◌++◌, map, Option, Some, None, IfSome, refl, sym, ap, subst, IsTrue, IsFalse, append-nil, append_assoc}
 use Rattle.gl_calculus.specs.Grid.Grid.{Addr, AreInOrder}
 use Rattle.gl_calculus.specs.Values.Value.{Oracle}
@@ -12,7 +13,7 @@ use Rattle.laws_calculus.proofs.Edits.Joins.{none_taken, taken_alike}
 use Rattle.laws_calculus.proofs.Edits.Taking.{one_more_taken, order_with_edit}
 use Rattle.gl_protocol.specs.Framing.Framing.{Item}
 use Rattle.gl_protocol.specs.Scripts.Commands as C
-use Rattle.gl_protocol.specs.Scripts.Commands.{Read, Is, Not, Word, StampWord, SiteWord, ConflictWord, EditsWord, UndoWord, RedoWord, Request, ReadsLine, ImportWords, IsAddress, imported, allowed, without_mark}
+use Rattle.gl_protocol.specs.Scripts.Commands.{Read, Is, Not, Request, ReadsLine, ImportWords, IsAddress, imported, allowed, without_mark}
 use Rattle.gl_calculus.specs.Edits.Sheets.{with_content, with_contents, without}
 use Rattle.gl_protocol.specs.Scripts.Script.{Script, is_change, change, edited, sited, undone, redone, register_of, merge, allowed_change}
 use Rattle.gl_calculus.specs.Edits.Sheets.{with_changes, settings, removals}
@@ -79,11 +80,11 @@ module _ (records : Bytes → List (List Bytes)) (version : Version) where
           let older = older_than_next r t cs was.0.past next in
           let taken : HasTaken (ds ++ stamped t cs) (taking_all r (stamped t cs)) = all_from ds (stamped t cs) r (subst (λ (o : Option Replica). Holds o ds) is got) (own_takeable r t cs was.0.ordered rise older) in
           subst (λ (z : Script). HasGot z (ds ++ own records version s cs)) same (subst (λ (zs : List Edit). HasTaken (ds ++ zs) (taking_all r (stamped t cs))) (sym (own_some s cs r t is next)) taken)
-      roomy r t false is next f = absurd (not_script EditsWord s' (sym (no_room s cs r is goal t next f) ∙ k))
+      roomy r t false is next f = absurd (not_script (codes "edits") s' (sym (no_room s cs r is goal t next f) ∙ k))
 
       stamped_by : (r : Replica) (o : Option Stamp) → s.replica ≡ Some r → next_stamp r ≡ o → HasGot s' (ds ++ own records version s cs)
       stamped_by r (Some t) is next = roomy r t (has_room (taking_all r (stamped t cs))) is next refl
-      stamped_by r None is next = absurd (not_script StampWord s' (sym (no_stamp s cs r is goal next) ∙ k))
+      stamped_by r None is next = absurd (not_script (codes "stamp") s' (sym (no_stamp s cs r is goal next) ∙ k))
 
       by : (o : Option Replica) → s.replica ≡ o → HasGot s' (ds ++ own records version s cs)
       by (Some r) is = stamped_by r (next_stamp r) is refl
@@ -101,8 +102,8 @@ module _ (records : Bytes → List (List Bytes)) (version : Version) where
   undone_alike s s' k = by s.replica s.history.done refl refl
     where
       by : (o : Option Replica) (zs : List Step) → s.replica ≡ o → s.history.done ≡ zs → s'.replica ≡ s.replica
-      by (Some r) zs e f = let no : undone s ≡ Not SiteWord = rw e refl in absurd (not_script SiteWord s' (sym no ∙ k))
-      by None [] e f = let no : undone s ≡ Not UndoWord = rw (e, f) refl in absurd (not_script UndoWord s' (sym no ∙ k))
+      by (Some r) zs e f = let no : undone s ≡ Not (codes "site") = rw e refl in absurd (not_script (codes "site") s' (sym no ∙ k))
+      by None [] e f = let no : undone s ≡ Not (codes "undo") = rw (e, f) refl in absurd (not_script (codes "undo") s' (sym no ∙ k))
       by None (d ∷ zs) e f =
           let made : Script = record s { sheet = with_changes s.sheet (befores d); history = record { done = zs; undone = d ∷ s.history.undone } } in
           let yes : undone s ≡ Is made = rw (e, f) refl in
@@ -112,8 +113,8 @@ module _ (records : Bytes → List (List Bytes)) (version : Version) where
   redone_alike s s' k = by s.replica s.history.undone refl refl
     where
       by : (o : Option Replica) (zs : List Step) → s.replica ≡ o → s.history.undone ≡ zs → s'.replica ≡ s.replica
-      by (Some r) zs e f = let no : redone s ≡ Not SiteWord = rw e refl in absurd (not_script SiteWord s' (sym no ∙ k))
-      by None [] e f = let no : redone s ≡ Not RedoWord = rw (e, f) refl in absurd (not_script RedoWord s' (sym no ∙ k))
+      by (Some r) zs e f = let no : redone s ≡ Not (codes "site") = rw e refl in absurd (not_script (codes "site") s' (sym no ∙ k))
+      by None [] e f = let no : redone s ≡ Not (codes "redo") = rw (e, f) refl in absurd (not_script (codes "redo") s' (sym no ∙ k))
       by None (u ∷ zs) e f =
           let made : Script = record s { sheet = with_changes s.sheet (afters u); history = record { done = u ∷ s.history.done; undone = zs } } in
           let yes : redone s ≡ Is made = rw (e, f) refl in
@@ -123,8 +124,8 @@ module _ (records : Bytes → List (List Bytes)) (version : Version) where
   sited_takes s n s' ds got k = by s.replica s.sheet refl refl
     where
       by : (o : Option Replica) (A : Cells) → s.replica ≡ o → s.sheet ≡ A → HasGot s' (ds ++ [])
-      by (Some r) A e f = let no : sited s n ≡ Not SiteWord = rw e refl in absurd (not_script SiteWord s' (sym no ∙ k))
-      by None (c ∷ A) e f = let no : sited s n ≡ Not SiteWord = rw (e, f) refl in absurd (not_script SiteWord s' (sym no ∙ k))
+      by (Some r) A e f = let no : sited s n ≡ Not (codes "site") = rw e refl in absurd (not_script (codes "site") s' (sym no ∙ k))
+      by None (c ∷ A) e f = let no : sited s n ≡ Not (codes "site") = rw (e, f) refl in absurd (not_script (codes "site") s' (sym no ∙ k))
       by None [] e f =
           let made : Script = record { sheet = []; replica = Some (new_replica n); history = no_history } in
           let yes : sited s n ≡ Is made = rw (e, f) refl in
@@ -147,7 +148,7 @@ module _ (records : Bytes → List (List Bytes)) (version : Version) where
 
       roomy : (r : Replica) (b : Bool) → s.replica ≡ Some r → has_room (taking r e) ≡ b → merge s e R.Judged.Wins ≡ Is s' → s'.replica ≡ Some (taking r e)
       roomy r true is f m = sheeted r (allowed_change s.sheet e.place e.content) is f refl m
-      roomy r false is f m = let no : merge s e R.Judged.Wins ≡ Not EditsWord = rw (is, f) refl in absurd (not_script EditsWord s' (sym no ∙ m))
+      roomy r false is f m = let no : merge s e R.Judged.Wins ≡ Not (codes "edits") = rw (is, f) refl in absurd (not_script (codes "edits") s' (sym no ∙ m))
 
       judged_so : (r : Replica) → s.replica ≡ Some r → (j : Judged) → IsJudged (register_at r.registers e.place) e j → merge s e j ≡ Is s' → HasGot s' (ds ++ e ∷ [])
       judged_so r is R.Judged.Wins w m = took r R.Judged.Wins is w (λ f. cc f) (roomy r (has_room (taking r e)) is refl m)
@@ -159,13 +160,13 @@ module _ (records : Bytes → List (List Bytes)) (version : Version) where
           let made : Script = record s { replica = Some (taking r e) } in
           let yes : merge s e R.Judged.Same ≡ Is made = rw is refl in
           took r R.Judged.Same is w (λ f. cc f) (ap (λ (z : Script). z.replica) (sym (is_script made s' (sym yes ∙ m))))
-      judged_so r is R.Judged.Conflict w m = let no : merge s e R.Judged.Conflict ≡ Not ConflictWord = rw is refl in absurd (not_script ConflictWord s' (sym no ∙ m))
+      judged_so r is R.Judged.Conflict w m = let no : merge s e R.Judged.Conflict ≡ Not (codes "conflict") = rw is refl in absurd (not_script (codes "conflict") s' (sym no ∙ m))
 
       by : (o : Option Replica) → s.replica ≡ o → HasGot s' (ds ++ e ∷ [])
       by (Some r) is =
           let there : register_of s e.place ≡ register_at r.registers e.place = rw is refl in
           judged_so r is j (subst (λ (o : Option Edit). IsJudged o e j) there i) k
-      by None is = let no : merge s e j ≡ Not SiteWord = rw is refl in absurd (not_script SiteWord s' (sym no ∙ k))
+      by None is = let no : merge s e j ≡ Not (codes "site") = rw is refl in absurd (not_script (codes "site") s' (sym no ∙ k))
 
   -- ---- requests
 
@@ -189,7 +190,7 @@ module _ (records : Bytes → List (List Bytes)) (version : Version) where
   change_takes s (C.Request.Explain a) s' ds h got t k = cc t
   change_takes s (C.Request.Merge e) s' ds h got t k = cc t
 
-  no_error : (w : Word) → IsFalse (is_refusal (C.error_line w)) → ⊥
+  no_error : (w : Bytes) → IsFalse (is_refusal (C.error_line w)) → ⊥
   no_error w h = cc h
 
   -- what asks for the calculation takes none
@@ -226,14 +227,14 @@ module _ (records : Bytes → List (List Bytes)) (version : Version) where
 
   does_take : {s s' : Script} {x : Request} {r : Bytes} (ds : List Edit) → IsState s → HasGot s ds → Does records version s x s' r → IsFalse (is_refusal r) → HasGot s' (ds ++ edits_of records version s x)
   does_take {s = s} ds h got T.Does.nothing f = no_more s ds got
-  does_take {s = s} ds h got (T.Does.changed {x = x} {s' = s'} t k) f = change_takes s x s' ds h got t k
-  does_take ds h got (T.Does.unchanged {w = w} t k) f = absurd (no_error w f)
-  does_take {s = s} ds h got (T.Does.merged {e = e} j {s' = s'} i k) f = merged_takes s e s' ds j got i k
-  does_take ds h got (T.Does.unmerged j {w = w} i k) f = absurd (no_error w f)
+  does_take {s = s} ds h got (T.Does.changed {x = x} t (T.Leaves.left {s' = s'} k)) f = change_takes s x s' ds h got t k
+  does_take ds h got (T.Does.changed t (T.Leaves.kept {w = w} k)) f = absurd (no_error w f)
+  does_take {s = s} ds h got (T.Does.merged {e = e} j i (T.Leaves.left {s' = s'} k)) f = merged_takes s e s' ds j got i k
+  does_take ds h got (T.Does.merged j i (T.Leaves.kept {w = w} k)) f = absurd (no_error w f)
   does_take {s = s} ds h got T.Does.get f = no_more s ds got
   does_take {s = s} ds h got T.Does.list f = no_more s ds got
   does_take {s = s} ds h got (T.Does.export r e) f = no_more s ds got
-  does_take ds h got (T.Does.export_alone e) f = absurd (no_error SiteWord f)
+  does_take ds h got (T.Does.export_alone e) f = absurd (no_error (codes "site") f)
   does_take {s = s} ds h got (T.Does.flow k) f = no_more s ds got
   does_take {s = s} ds h got T.Does.quit f = no_more s ds got
   does_take {s = s} {x = x} ds h got (T.Does.settled a k) f = stays s ds (edits_of records version s x) (settled_takes s k) got
@@ -254,14 +255,14 @@ module _ (records : Bytes → List (List Bytes)) (version : Version) where
   acts_take {s = s} {s' = s'} {r = r} ds h got (S.Takes.line {l = l} y q) (T.Acts.request {x = x} p d) f =
       does_take {x = y} ds h got (subst (λ (z : Request). Does records version s z s' r) (one_request l x y p q) d) f
   acts_take ds h got (S.Takes.line y q) (T.Acts.refused {w = w} p) f = absurd (no_error w f)
-  acts_take {s = s} {s' = s'} ds h got (S.Takes.import {l = l} {p = p} q m b bs ws at_b read_b) (T.Acts.import place n a cs vs at_place read k) f =
+  acts_take {s = s} {s' = s'} ds h got (S.Takes.import {l = l} {p = p} q m b bs ws at_b read_b) (T.Acts.import place n a vs at_place (T.Imports.contents cs read (T.Leaves.left k))) f =
       let same = same_place q b a at_b (subst (λ (z : Bytes). IsAddress z a) (same_words place q n m (sym vs ∙ ws)) at_place) in
       let cells : bs ≡ cs = same_cells bs cs (sym read_b ∙ ap (λ (z : Addr). imported z (records (without_mark p))) same ∙ read) in
       let got_all = edited_takes s (settings cs) (allowed (with_contents s.sheet cs)) s' ds h (settings_rise cs (imported_rise a (records (without_mark p)) cs read)) got k in
       subst (λ (zs : Cells). HasGot s' (ds ++ own records version s (settings zs))) (sym cells) got_all
-  acts_take ds h got (S.Takes.import q m b bs ws at_b read_b) (T.Acts.import_place place n vs nowhere) f = absurd (no_error C.AddressWord f)
-  acts_take ds h got (S.Takes.import q m b bs ws at_b read_b) (T.Acts.import_fields {w = w} place n a vs at_place read) f = absurd (no_error w f)
-  acts_take ds h got (S.Takes.import q m b bs ws at_b read_b) (T.Acts.import_refused {w = w} place n a cs vs at_place read over) f = absurd (no_error w f)
+  acts_take ds h got (S.Takes.import q m b bs ws at_b read_b) (T.Acts.import_place place n vs nowhere) f = absurd (no_error (codes "address") f)
+  acts_take ds h got (S.Takes.import q m b bs ws at_b read_b) (T.Acts.import place n a vs at_place (T.Imports.fault {w = w} read)) f = absurd (no_error w f)
+  acts_take ds h got (S.Takes.import q m b bs ws at_b read_b) (T.Acts.import place n a vs at_place (T.Imports.contents cs read (T.Leaves.kept {w = w} over))) f = absurd (no_error w f)
 
   took_all : {s u : Script} {is : List Item} {es : List Edit} (ds : List Edit) → IsState s → HasGot s ds → Took records version s is u es → IsState u × HasGot u (ds ++ es)
   took_all {s = s} ds h got S.Took.none = (h, no_more s ds got)

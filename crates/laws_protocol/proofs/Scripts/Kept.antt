@@ -1,4 +1,6 @@
 -- Each item leaves a state whose steps lead back and on, and whose replica holds its sheet.
+use Rattle.std.specs.Prelude.{codes}
+use Rattle.gl_language.specs.Texts.Text.{Bytes}
 use Rattle.std.proofs.Common.{◌≡◌, ◌∙◌, ◌⊎◌, inl, inr, ℕ, ◌+◌, ◌≤◌, ◌<◌, zero, suc, max, nat_lt, Bool, true, false, cond, not, List, [], ◌∷◌, map, take, length, Option, Some, None, IfSome, refl, sym, ap, subst, arith, IsTrue, length-take}
 use Rattle.std.proofs.lemmas.Bool.Decides.{nat_tests}
 use Rattle.std.proofs.lemmas.Grind.{common_steps}
@@ -13,7 +15,7 @@ use Rattle.gl_calculus.specs.Edits.Replicas.{Stamp, Edit, Changes, Replica, Judg
 use Rattle.gl_calculus.specs.Edits.Steps.{Step, step_of, befores, afters, no_history, pushed}
 use Rattle.laws_calculus.proofs.Edits.Orders.{tail}
 use Rattle.laws_calculus.proofs.Edits.Taking.{order_with_edit}
-use Rattle.gl_protocol.specs.Scripts.Commands.{Read, Is, Not, Word, StampWord, SiteWord, ConflictWord, EditsWord, UndoWord, RedoWord, allowed}
+use Rattle.gl_protocol.specs.Scripts.Commands.{Read, Is, Not, allowed}
 use Rattle.gl_calculus.specs.Edits.Sheets.{with_content, with_contents, without}
 use Rattle.gl_protocol.specs.Scripts.Script.{Script, edited, sited, undone, redone, register_of, merge, allowed_change}
 use Rattle.gl_calculus.specs.Edits.Sheets.{with_change, with_changes}
@@ -34,7 +36,7 @@ use Rattle.laws_protocol.proofs.Scripts.Sizes.{allowed_is, limits_filter}
 is_cells : (S T : Cells) → Is S ≡ Is T → S ≡ T
 is_cells S T h = cc h
 
-no_cells : (w : Word) (T : Cells) → Not w ≡ Is T → ⊥
+no_cells : (w : Bytes) (T : Cells) → Not w ≡ Is T → ⊥
 no_cells w T h = cc h
 
 pub good_set : (S T : Cells) (a : Addr) (c : Content) → IsGood S → IsProperContent c → allowed (with_content S a c) ≡ Is T → IsGood T
@@ -200,11 +202,11 @@ module _ (s : Script) (cs : Changes) (goal : Read Cells) (s' : Script) (h : IsSt
 
       roomy : (r : Replica) (t : Stamp) (b : Bool) → s.replica ≡ Some r → next_stamp r ≡ Some t → has_room (taking_all r (stamped t cs)) ≡ b → IsState s'
       roomy r t true is next f = in_replica r t is next f k e (good s'.sheet e).0 (good s'.sheet e).1
-      roomy r t false is next f = absurd (not_script EditsWord s' (sym (no_room s cs r is goal t next f) ∙ k))
+      roomy r t false is next f = absurd (not_script (codes "edits") s' (sym (no_room s cs r is goal t next f) ∙ k))
 
       stamped_by : (r : Replica) (o : Option Stamp) → s.replica ≡ Some r → next_stamp r ≡ o → IsState s'
       stamped_by r (Some t) is next = roomy r t (has_room (taking_all r (stamped t cs))) is next refl
-      stamped_by r None is next = absurd (not_script StampWord s' (sym (no_stamp s cs r is goal next) ∙ k))
+      stamped_by r None is next = absurd (not_script (codes "stamp") s' (sym (no_stamp s cs r is goal next) ∙ k))
 
       by : (o : Option Replica) → s.replica ≡ o → IsState s'
       by (Some r) is = stamped_by r (next_stamp r) is refl
@@ -228,16 +230,16 @@ sited_state s n s' h = by s.replica s.sheet refl refl
     }
 
     by : (o : Option Replica) (S : Cells) → s.replica ≡ o → s.sheet ≡ S → IsState s'
-    by (Some r) S e f = let no : sited s n ≡ Not SiteWord = rw e refl in absurd (not_script SiteWord s' (sym no ∙ h))
-    by None (c ∷ cs) e f = let no : sited s n ≡ Not SiteWord = rw (e, f) refl in absurd (not_script SiteWord s' (sym no ∙ h))
+    by (Some r) S e f = let no : sited s n ≡ Not (codes "site") = rw e refl in absurd (not_script (codes "site") s' (sym no ∙ h))
+    by None (c ∷ cs) e f = let no : sited s n ≡ Not (codes "site") = rw (e, f) refl in absurd (not_script (codes "site") s' (sym no ∙ h))
     by None [] e f = let yes : sited s n ≡ Is made = rw (e, f) refl in subst IsState (is_script made s' (sym yes ∙ h)) state
 
 pub undone_state : (s s' : Script) → IsState s → undone s ≡ Is s' → IsState s'
 undone_state s s' h k = by s.replica s.history.done refl refl
   where
     by : (o : Option Replica) (ds : List Step) → s.replica ≡ o → s.history.done ≡ ds → IsState s'
-    by (Some r) ds e f = let no : undone s ≡ Not SiteWord = rw e refl in absurd (not_script SiteWord s' (sym no ∙ k))
-    by None [] e f = let no : undone s ≡ Not UndoWord = rw (e, f) refl in absurd (not_script UndoWord s' (sym no ∙ k))
+    by (Some r) ds e f = let no : undone s ≡ Not (codes "site") = rw e refl in absurd (not_script (codes "site") s' (sym no ∙ k))
+    by None [] e f = let no : undone s ≡ Not (codes "undo") = rw (e, f) refl in absurd (not_script (codes "undo") s' (sym no ∙ k))
     by None (d ∷ ds) e f =
         let S = with_changes s.sheet (befores d) in
         let made : Script = record s { sheet = S; history = record { done = ds; undone = d ∷ s.history.undone } } in
@@ -256,8 +258,8 @@ pub redone_state : (s s' : Script) → IsState s → redone s ≡ Is s' → IsSt
 redone_state s s' h k = by s.replica s.history.undone refl refl
   where
     by : (o : Option Replica) (us : List Step) → s.replica ≡ o → s.history.undone ≡ us → IsState s'
-    by (Some r) us e f = let no : redone s ≡ Not SiteWord = rw e refl in absurd (not_script SiteWord s' (sym no ∙ k))
-    by None [] e f = let no : redone s ≡ Not RedoWord = rw (e, f) refl in absurd (not_script RedoWord s' (sym no ∙ k))
+    by (Some r) us e f = let no : redone s ≡ Not (codes "site") = rw e refl in absurd (not_script (codes "site") s' (sym no ∙ k))
+    by None [] e f = let no : redone s ≡ Not (codes "redo") = rw (e, f) refl in absurd (not_script (codes "redo") s' (sym no ∙ k))
     by None (u ∷ us) e f =
         let S = with_changes s.sheet (afters u) in
         let made : Script = record s { sheet = S; history = record { done = u ∷ s.history.done; undone = us } } in
@@ -381,7 +383,7 @@ module _ (s : Script) (e : Edit) (s' : Script) (h : IsState s) (time : e.stamp.t
 
       roomy : (r : Replica) (b : Bool) → s.replica ≡ Some r → IsJudged (register_at r.registers e.place) e R.Judged.Wins → has_room (taking r e) ≡ b → merge s e R.Judged.Wins ≡ Is s' → IsState s'
       roomy r true is w f m = sheeted r is w f (allowed_change s.sheet e.place e.content) refl m
-      roomy r false is w f m = let no : merge s e R.Judged.Wins ≡ Not EditsWord = rw (is, f) refl in absurd (not_script EditsWord s' (sym no ∙ m))
+      roomy r false is w f m = let no : merge s e R.Judged.Wins ≡ Not (codes "edits") = rw (is, f) refl in absurd (not_script (codes "edits") s' (sym no ∙ m))
 
       judged_so : (r : Replica) → s.replica ≡ Some r → (j : Judged) → IsJudged (register_at r.registers e.place) e j → merge s e j ≡ Is s' → IsState s'
       judged_so r is R.Judged.Wins w m = roomy r (has_room (taking r e)) is w refl m
@@ -391,10 +393,10 @@ module _ (s : Script) (e : Edit) (s' : Script) (h : IsState s) (time : e.stamp.t
       judged_so r is R.Judged.Same w m =
           let yes : merge s e R.Judged.Same ≡ Is (record s { replica = Some (taking r e) }) = rw is refl in
           passed_state r is (passed_same (register_at r.registers e.place) e w) (sym yes ∙ m)
-      judged_so r is R.Judged.Conflict w m = let no : merge s e R.Judged.Conflict ≡ Not ConflictWord = rw is refl in absurd (not_script ConflictWord s' (sym no ∙ m))
+      judged_so r is R.Judged.Conflict w m = let no : merge s e R.Judged.Conflict ≡ Not (codes "conflict") = rw is refl in absurd (not_script (codes "conflict") s' (sym no ∙ m))
 
       by : (o : Option Replica) → s.replica ≡ o → IsState s'
       by (Some r) is =
           let there : register_of s e.place ≡ register_at r.registers e.place = rw is refl in
           judged_so r is j (subst (λ (o : Option Edit). IsJudged o e j) there i) k
-      by None is = let no : merge s e j ≡ Not SiteWord = rw is refl in absurd (not_script SiteWord s' (sym no ∙ k))
+      by None is = let no : merge s e j ≡ Not (codes "site") = rw is refl in absurd (not_script (codes "site") s' (sym no ∙ k))

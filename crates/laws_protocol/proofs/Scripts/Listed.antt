@@ -211,4 +211,4 @@ set_says x h =
 -- it asks to set this content
 pub set_reads : (x : Addr × Content) → IsListed x → ReadsLine (set_text x) (Is (C.Request.Set x.0 x.1))
 set_reads x h =
-    C.ReadsLine.words {ws = SetWords (address_text x.0) (content_text x.1)} refl (is_utf8-from_IsUtf8 (set_text x) (set_clean x h).utf8) (set_says x h) (C.ReadsWords.set (h.on, refl) h.back)
+    C.ReadsLine.words {ws = SetWords (address_text x.0) (content_text x.1)} refl (is_utf8-from_IsUtf8 (set_text x) (set_clean x h).utf8) (set_says x h) (C.ReadsWords.set {r = Is x.1} x.0 (h.on, refl) h.back)

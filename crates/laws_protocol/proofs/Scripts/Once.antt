@@ -1,4 +1,5 @@
 -- An item has one effect and one reply.
+use Rattle.std.specs.Prelude.{codes}
 use Rattle.std.proofs.Common.{◌≡◌, ◌∙◌, inl, inr, ℕ, ◌+◌, ◌-◌, ◌<◌, Bool, true, false, List, ◌∷◌, length, get_or, Option, Some, None, refl, sym, ap, subst, arith, IsTrue}
 use Rattle.std.proofs.lemmas.List.{ext_get_or}
 use Rattle.std.proofs.lemmas.Grind.{common_steps}
@@ -16,7 +17,7 @@ use Rattle.gl_protocol.specs.Framing.Framing.{Item, Line, Import, Long, Truncate
 use Rattle.gl_protocol.specs.Replies.Tables.{line, table_text}
 use Rattle.gl_protocol.specs.Replies.Explanations.{explanation_text, forecast_line}
 use Rattle.gl_protocol.specs.Scripts.Commands as C
-use Rattle.gl_protocol.specs.Scripts.Commands.{Is, Not, Word, LineWord, TruncatedWord, Request, ReadsLine, ImportWords, words_of, error_line, spent_line, AreShown, SettledReply, asks_calculation}
+use Rattle.gl_protocol.specs.Scripts.Commands.{Is, Not, Request, ReadsLine, ImportWords, words_of, error_line, spent_line, AreShown, SettledReply, asks_calculation}
 use Rattle.gl_calculus.specs.Edits.Replicas.{Stamp, Edit, Judged, Wins, Loses, Conflict, IsJudged, is_earlier}
 use Rattle.gl_calculus.specs.Edits.Replicas as R
 use Rattle.gl_calculus.specs.Evaluation.World.{world}
@@ -142,10 +143,10 @@ module _ (records : Bytes → List (List Bytes)) (version : Version) (s : Script
   one_request : (l : Bytes) (x y : Request) → ReadsLine l (Is x) → ReadsLine l (Is y) → x ≡ y
   one_request l x y h k = let e : Is x ≡ Is y = one_line l (Is x) (Is y) h k in cc e
 
-  one_word : (l : Bytes) (w v : Word) → ReadsLine l (Not w) → ReadsLine l (Not v) → w ≡ v
+  one_word : (l : Bytes) (w v : Bytes) → ReadsLine l (Not w) → ReadsLine l (Not v) → w ≡ v
   one_word l w v h k = let e : Not w ≡ Not v = one_line l (Not w) (Not v) h k in cc e
 
-  asked_or_refused : (l : Bytes) (x : Request) (w : Word) → ReadsLine l (Is x) → ReadsLine l (Not w) → ⊥
+  asked_or_refused : (l : Bytes) (x : Request) (w : Bytes) → ReadsLine l (Is x) → ReadsLine l (Not w) → ⊥
   asked_or_refused l x w h k = let e : Is x ≡ Not w = one_line l (Is x) (Not w) h k in cc e
 
   one_by_place : (place p : Bytes) (t u : Script) (r q : Bytes) → ByPlace records version s place p t r → ByPlace records version s place p u q → Same t u r q
@@ -170,5 +171,5 @@ module _ (records : Bytes → List (List Bytes)) (version : Version) (s : Script
   one_item (Line l) t u r q (inr (w, h, d, e)) (inl (y, k, f)) = absurd (asked_or_refused l y w k h)
   one_item (Line l) t u r q (inr (w, h, d, e)) (inr (v, k, f, g)) = (d ∙ sym f, e ∙ ap error_line (one_word l w v h k) ∙ sym g)
   one_item (Import l p) t u r q h k = one_import l p t u r q h k
-  one_item Long t u r q h k = same t u s r q (error_line LineWord) h k
-  one_item Truncated t u r q h k = same t u s r q (error_line TruncatedWord) h k
+  one_item Long t u r q h k = same t u s r q (error_line (codes "line")) h k
+  one_item Truncated t u r q h k = same t u s r q (error_line (codes "truncated")) h k

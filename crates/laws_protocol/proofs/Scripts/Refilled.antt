@@ -83,7 +83,7 @@ module _ (records : Bytes → List (List Bytes)) (version : Version) where
 
   set_acts : (t : Script) (x : Addr × Content) (Q : Cells) → IsListed x → t.replica ≡ None → allowed (with_content t.sheet x.0 x.1) ≡ Is Q → Acts records version t (Line (set_text x)) (with_set t x Q) ok_line
   set_acts t x Q h none e =
-      T.Acts.request {x = C.Request.Set x.0 x.1} (set_reads x h) (T.Does.changed {x = C.Request.Set x.0 x.1} refl (alone_done t ((x.0, Some x.1) ∷ []) Q (allowed (with_content t.sheet x.0 x.1)) none e))
+      T.Acts.request {x = C.Request.Set x.0 x.1} (set_reads x h) (T.Does.changed {x = C.Request.Set x.0 x.1} refl (T.Leaves.left (alone_done t ((x.0, Some x.1) ∷ []) Q (allowed (with_content t.sheet x.0 x.1)) none e)))
 
   pub filled : (P S : Cells) (t : Script) → t.replica ≡ None → t.sheet ≡ P → IsSheet (P ++ S) → IsWithinLimits (P ++ S) → AllByRecursion IsListed S → IsFilled t S (P ++ S)
   filled P [] t none e o l h = record { last = t; run = O.Runs.no_more; same = e ∙ sym (append-nil P) }

@@ -15,10 +15,10 @@ ok_is_none h = cc h
 
 does_leave : (records : Bytes → List (List Bytes)) (version : Version) (s : Script) {x : Request} {t : Script} {r : Bytes} → Does records version s x t r → IsTrue (is_refusal r) → t ≡ s
 does_leave records version s T.Does.nothing h = refl
-does_leave records version s (T.Does.changed c e) h = absurd (ok_is_none h)
-does_leave records version s (T.Does.unchanged c e) h = refl
-does_leave records version s (T.Does.merged j i m) h = absurd (ok_is_none h)
-does_leave records version s (T.Does.unmerged j i m) h = refl
+does_leave records version s (T.Does.changed c (T.Leaves.left e)) h = absurd (ok_is_none h)
+does_leave records version s (T.Does.changed c (T.Leaves.kept e)) h = refl
+does_leave records version s (T.Does.merged j i (T.Leaves.left m)) h = absurd (ok_is_none h)
+does_leave records version s (T.Does.merged j i (T.Leaves.kept m)) h = refl
 does_leave records version s T.Does.get h = refl
 does_leave records version s T.Does.list h = refl
 does_leave records version s (T.Does.export r e) h = refl
@@ -33,10 +33,10 @@ acts_leave records version s (T.Acts.request l d) h = does_leave records version
 acts_leave records version s (T.Acts.refused l) h = refl
 acts_leave records version s T.Acts.long h = refl
 acts_leave records version s T.Acts.truncated h = refl
-acts_leave records version s (T.Acts.import place n a cs ws at_place read ok) h = absurd (ok_is_none h)
+acts_leave records version s (T.Acts.import place n a ws at_place (T.Imports.contents cs read (T.Leaves.left ok))) h = absurd (ok_is_none h)
 acts_leave records version s (T.Acts.import_place place n ws none) h = refl
-acts_leave records version s (T.Acts.import_fields place n a ws at_place read) h = refl
-acts_leave records version s (T.Acts.import_refused place n a cs ws at_place read over) h = refl
+acts_leave records version s (T.Acts.import place n a ws at_place (T.Imports.fault read)) h = refl
+acts_leave records version s (T.Acts.import place n a ws at_place (T.Imports.contents cs read (T.Leaves.kept over))) h = refl
 
 pub refusals_leave : RefusalsLeave
 refusals_leave records version s t x r a h = acts_leave records version s a h

@@ -1,4 +1,5 @@
 -- The addresses of what is imported are in row-major order.
+use Rattle.std.specs.Prelude.{codes}
 use Rattle.std.proofs.Common.{◌≡◌, ◌∙◌, ℕ, ◌+◌, ◌<◌, ◌≤◌, Bool, true, false, cond, List, [], ◌∷◌, ◌++◌, map, IsTrue, Option, Some, None, refl, sym, ap, subst, arith}
 use Rattle.std.proofs.lemmas.Grind.{common_steps}
 use Rattle.std.proofs.lemmas.List.{map-append}
@@ -8,7 +9,7 @@ use Rattle.gl_calculus.specs.Formulas.Formula as F
 use Rattle.gl_calculus.specs.Formulas.Formula.{IsSheet}
 use Rattle.gl_calculus.specs.Grid.Grid.{Addr, shifted, is_before, AreInOrder}
 use Rattle.gl_language.specs.Texts.Text.{Bytes}
-use Rattle.gl_protocol.specs.Scripts.Commands.{Read, Is, Not, Word, Utf8Word, fields_of_record, fields, field_fault, contents, imported}
+use Rattle.gl_protocol.specs.Scripts.Commands.{Read, Is, Not, fields_of_record, fields, field_fault, contents, imported}
 use Rattle.gl_language.specs.Texts.Plain.{plain_scalar}
 
 abbrev pub Fields : Type 0
@@ -95,12 +96,12 @@ abbrev pub constant : Addr × Bytes → Addr × F.Content
 constant x = (x.0, F.Const (plain_scalar x.1))
 
 -- the contents of a field and of those behind it
-abbrev pub then_contents : Option Word → Addr × Bytes → Read F.Cells → Read F.Cells
+abbrev pub then_contents : Option Bytes → Addr × Bytes → Read F.Cells → Read F.Cells
 then_contents (Some w) x r = Not w
 then_contents None x (Is cs) = Is (constant x ∷ cs)
 then_contents None x (Not w) = Not w
 
-pub contents_by : (x : Addr × Bytes) (xs : Fields) (o : Option Word) (r : Read F.Cells) → field_fault x ≡ o → contents xs ≡ r → contents (x ∷ xs) ≡ then_contents o x r
+pub contents_by : (x : Addr × Bytes) (xs : Fields) (o : Option Bytes) (r : Read F.Cells) → field_fault x ≡ o → contents xs ≡ r → contents (x ∷ xs) ≡ then_contents o x r
 contents_by x xs (Some w) r h k = rw h refl
 contents_by x xs None (Is cs) h k = rw (h, k) refl
 contents_by x xs None (Not w) h k = rw (h, k) refl
@@ -108,13 +109,13 @@ contents_by x xs None (Not w) h k = rw (h, k) refl
 is_cells : (cs ds : F.Cells) → Is cs ≡ Is ds → cs ≡ ds
 is_cells cs ds h = cc
 
-no_cells : (w : Word) (cs : F.Cells) → Not w ≡ Is cs → ⊥
+no_cells : (w : Bytes) (cs : F.Cells) → Not w ≡ Is cs → ⊥
 no_cells w cs h = cc
 
 abbrev SamePlaces : Fields → F.Cells → Type 0
 SamePlaces xs cs = contents xs ≡ Is cs → map (λ (c : Addr × F.Content). c.0) cs ≡ places xs
 
-one_more : (x : Addr × Bytes) (xs : Fields) (cs : F.Cells) (o : Option Word) (r : Read F.Cells) → ((ds : F.Cells) → SamePlaces xs ds) → field_fault x ≡ o → contents xs ≡ r → SamePlaces (x ∷ xs) cs
+one_more : (x : Addr × Bytes) (xs : Fields) (cs : F.Cells) (o : Option Bytes) (r : Read F.Cells) → ((ds : F.Cells) → SamePlaces xs ds) → field_fault x ≡ o → contents xs ≡ r → SamePlaces (x ∷ xs) cs
 one_more x xs cs (Some w) r rest i j h = absurd (no_cells w cs (sym (contents_by x xs (Some w) r i j) ∙ h))
 one_more x xs cs None (Not w) rest i j h = absurd (no_cells w cs (sym (contents_by x xs None (Not w) i j) ∙ h))
 one_more x xs cs None (Is ds) rest i j h =
@@ -131,6 +132,6 @@ rises p rs cs h = subst AreInOrder (sym (same_places (fields p rs) cs h)) (field
 pub imported_rise : (a : Addr) (rs : List (List Bytes)) (cs : F.Cells) → imported a rs ≡ Is cs → IsSheet cs
 imported_rise a rs cs h = by (list_all (list_all is_utf8) rs) h
   where
-    by : (b : Bool) → cond b (contents (fields a rs)) (Not Utf8Word) ≡ Is cs → IsSheet cs
+    by : (b : Bool) → cond b (contents (fields a rs)) (Not (codes "utf8")) ≡ Is cs → IsSheet cs
     by true k = rises a rs cs k
-    by false k = absurd (no_cells Utf8Word cs k)
+    by false k = absurd (no_cells (codes "utf8") cs k)

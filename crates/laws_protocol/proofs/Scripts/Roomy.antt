@@ -1,4 +1,5 @@
 -- Each item leaves a state in which no undo and no redo passes a limit.
+use Rattle.std.specs.Prelude.{codes}
 use Rattle.std.proofs.Common.{◌≡◌, ◌∙◌, ℕ, zero, suc, Bool, true, false, cond, List, [], ◌∷◌, take, Option, Some, None, IfSome, refl, sym, ap, subst}
 use Rattle.std.specs.List.{AllByRecursion, list_all}
 use Rattle.std.specs.Str.{is_utf8}
@@ -11,7 +12,7 @@ use Rattle.gl_calculus.specs.Edits.Replicas as R
 use Rattle.gl_calculus.specs.Edits.Steps.{Step, step_of, befores, afters, History, no_history, pushed}
 use Rattle.gl_protocol.specs.Framing.Framing.{Item}
 use Rattle.gl_protocol.specs.Scripts.Commands as C
-use Rattle.gl_protocol.specs.Scripts.Commands.{Read, Is, Not, Word, Utf8Word, StampWord, SiteWord, ConflictWord, EditsWord, UndoWord, RedoWord, Request, allowed, without_mark, field_fault, contents, fields, imported}
+use Rattle.gl_protocol.specs.Scripts.Commands.{Read, Is, Not, Request, allowed, without_mark, field_fault, contents, fields, imported}
 use Rattle.gl_calculus.specs.Edits.Sheets.{with_content, with_contents, without}
 use Rattle.gl_protocol.specs.Scripts.Script.{Script, is_change, change, edited, sited, undone, redone, merge, allowed_change}
 use Rattle.gl_calculus.specs.Edits.Sheets.{with_changes, settings, removals}
@@ -31,14 +32,14 @@ use Rattle.laws_protocol.proofs.Scripts.Sizes.{allowed_is}
 is_cells : (A B : Cells) → Is A ≡ Is B → A ≡ B
 is_cells A B h = cc h
 
-no_cells : (w : Word) (A : Cells) → Not w ≡ Is A → ⊥
+no_cells : (w : Bytes) (A : Cells) → Not w ≡ Is A → ⊥
 no_cells w A h = cc h
 
 abbrev AllConst : Read Cells → Type 0
 AllConst (Is cs) = AllByRecursion IsConst cs
 AllConst (Not w) = Unit {0}
 
-then_const : (o : Option Word) (x : Addr × Bytes) (r : Read Cells) → AllConst r → AllConst (then_contents o x r)
+then_const : (o : Option Bytes) (x : Addr × Bytes) (r : Read Cells) → AllConst r → AllConst (then_contents o x r)
 then_const (Some w) x r h = tt
 then_const None x (Is cs) h = (tt, h)
 then_const None x (Not w) h = tt
@@ -50,9 +51,9 @@ contents_const (x ∷ xs) = subst AllConst (sym (contents_by x xs (field_fault x
 imported_const : (a : Addr) (rs : List (List Bytes)) (cs : Cells) → imported a rs ≡ Is cs → AllByRecursion IsConst cs
 imported_const a rs cs h = by (list_all (list_all is_utf8) rs) h
   where
-    by : (b : Bool) → cond b (contents (fields a rs)) (Not Utf8Word) ≡ Is cs → AllByRecursion IsConst cs
+    by : (b : Bool) → cond b (contents (fields a rs)) (Not (codes "utf8")) ≡ Is cs → AllByRecursion IsConst cs
     by true k = subst AllConst k (contents_const (fields a rs))
-    by false k = absurd (no_cells Utf8Word cs k)
+    by false k = absurd (no_cells (codes "utf8") cs k)
 
 -- ---- an edit of the sheet
 
@@ -79,11 +80,11 @@ module _ (s : Script) (cs : Changes) (goal : Read Cells) (s' : Script) (h : IsSt
       roomy r t true is next f =
           let made : Script = record s { sheet = s'.sheet; replica = Some (taking_all r (stamped t cs)) } in
           empty r made is refl (is_script made s' (sym (replica_done s cs r is goal t s'.sheet next f e) ∙ m))
-      roomy r t false is next f = absurd (not_script EditsWord s' (sym (no_room s cs r is goal t next f) ∙ m))
+      roomy r t false is next f = absurd (not_script (codes "edits") s' (sym (no_room s cs r is goal t next f) ∙ m))
 
       stamped_by : (r : Replica) (o : Option Stamp) → s.replica ≡ Some r → next_stamp r ≡ o → IsRoomy s'
       stamped_by r (Some t) is next = roomy r t (has_room (taking_all r (stamped t cs))) is next refl
-      stamped_by r None is next = absurd (not_script StampWord s' (sym (no_stamp s cs r is goal next) ∙ m))
+      stamped_by r None is next = absurd (not_script (codes "stamp") s' (sym (no_stamp s cs r is goal next) ∙ m))
 
       by : (o : Option Replica) → s.replica ≡ o → IsRoomy s'
       by (Some r) is = stamped_by r (next_stamp r) is refl
@@ -103,8 +104,8 @@ sited_roomy : (s : Script) (n : ℕ) (s' : Script) → sited s n ≡ Is s' → I
 sited_roomy s n s' m = by s.replica s.sheet refl refl
   where
     by : (o : Option Replica) (A : Cells) → s.replica ≡ o → s.sheet ≡ A → IsRoomy s'
-    by (Some r) A e f = let no : sited s n ≡ Not SiteWord = rw e refl in absurd (not_script SiteWord s' (sym no ∙ m))
-    by None (c ∷ A) e f = let no : sited s n ≡ Not SiteWord = rw (e, f) refl in absurd (not_script SiteWord s' (sym no ∙ m))
+    by (Some r) A e f = let no : sited s n ≡ Not (codes "site") = rw e refl in absurd (not_script (codes "site") s' (sym no ∙ m))
+    by None (c ∷ A) e f = let no : sited s n ≡ Not (codes "site") = rw (e, f) refl in absurd (not_script (codes "site") s' (sym no ∙ m))
     by None [] e f =
         let made : Script = record { sheet = []; replica = Some (R.new_replica n); history = no_history } in
         let yes : sited s n ≡ Is made = rw (e, f) refl in
@@ -115,8 +116,8 @@ undone_roomy : (s s' : Script) → IsState s → IsRoomy s → undone s ≡ Is s
 undone_roomy s s' h k m = by s.replica s.history.done refl refl
   where
     by : (o : Option Replica) (ds : List Step) → s.replica ≡ o → s.history.done ≡ ds → IsRoomy s'
-    by (Some r) ds e f = let no : undone s ≡ Not SiteWord = rw e refl in absurd (not_script SiteWord s' (sym no ∙ m))
-    by None [] e f = let no : undone s ≡ Not UndoWord = rw (e, f) refl in absurd (not_script UndoWord s' (sym no ∙ m))
+    by (Some r) ds e f = let no : undone s ≡ Not (codes "site") = rw e refl in absurd (not_script (codes "site") s' (sym no ∙ m))
+    by None [] e f = let no : undone s ≡ Not (codes "undo") = rw (e, f) refl in absurd (not_script (codes "undo") s' (sym no ∙ m))
     by None (d ∷ ds) e f =
         let A = with_changes s.sheet (befores d) in
         let made : Script = record s { sheet = A; history = record { done = ds; undone = d ∷ s.history.undone } } in
@@ -133,8 +134,8 @@ redone_roomy : (s s' : Script) → IsState s → IsRoomy s → redone s ≡ Is s
 redone_roomy s s' h k m = by s.replica s.history.undone refl refl
   where
     by : (o : Option Replica) (us : List Step) → s.replica ≡ o → s.history.undone ≡ us → IsRoomy s'
-    by (Some r) us e f = let no : redone s ≡ Not SiteWord = rw e refl in absurd (not_script SiteWord s' (sym no ∙ m))
-    by None [] e f = let no : redone s ≡ Not RedoWord = rw (e, f) refl in absurd (not_script RedoWord s' (sym no ∙ m))
+    by (Some r) us e f = let no : redone s ≡ Not (codes "site") = rw e refl in absurd (not_script (codes "site") s' (sym no ∙ m))
+    by None [] e f = let no : redone s ≡ Not (codes "redo") = rw (e, f) refl in absurd (not_script (codes "redo") s' (sym no ∙ m))
     by None (u ∷ us) e f =
         let A = with_changes s.sheet (afters u) in
         let made : Script = record s { sheet = A; history = record { done = u ∷ s.history.done; undone = us } } in
@@ -160,7 +161,7 @@ merge_alike s e j s' m = by s.replica refl
 
     roomy : (r : Replica) (b : Bool) → s.replica ≡ Some r → has_room (taking r e) ≡ b → merge s e R.Judged.Wins ≡ Is s' → s'.history ≡ s.history
     roomy r true is f k = sheeted r (allowed_change s.sheet e.place e.content) is f refl k
-    roomy r false is f k = let no : merge s e R.Judged.Wins ≡ Not EditsWord = rw (is, f) refl in absurd (not_script EditsWord s' (sym no ∙ k))
+    roomy r false is f k = let no : merge s e R.Judged.Wins ≡ Not (codes "edits") = rw (is, f) refl in absurd (not_script (codes "edits") s' (sym no ∙ k))
 
     judged_so : (r : Replica) (j : Judged) → s.replica ≡ Some r → merge s e j ≡ Is s' → s'.history ≡ s.history
     judged_so r R.Judged.Wins is k = roomy r (has_room (taking r e)) is refl k
@@ -172,11 +173,11 @@ merge_alike s e j s' m = by s.replica refl
         let made : Script = record s { replica = Some (taking r e) } in
         let yes : merge s e R.Judged.Same ≡ Is made = rw is refl in
         ap (λ (z : Script). z.history) (sym (is_script made s' (sym yes ∙ k)))
-    judged_so r R.Judged.Conflict is k = let no : merge s e R.Judged.Conflict ≡ Not ConflictWord = rw is refl in absurd (not_script ConflictWord s' (sym no ∙ k))
+    judged_so r R.Judged.Conflict is k = let no : merge s e R.Judged.Conflict ≡ Not (codes "conflict") = rw is refl in absurd (not_script (codes "conflict") s' (sym no ∙ k))
 
     by : (o : Option Replica) → s.replica ≡ o → (r : Replica) × (s.replica ≡ Some r) × (s'.history ≡ s.history)
     by (Some r) is = (r, is, judged_so r j is m)
-    by None is = let no : merge s e j ≡ Not SiteWord = rw is refl in absurd (not_script SiteWord s' (sym no ∙ m))
+    by None is = let no : merge s e j ≡ Not (codes "site") = rw is refl in absurd (not_script (codes "site") s' (sym no ∙ m))
 
 merged_roomy : (s : Script) (e : Edit) (j : Judged) (s' : Script) → IsState s → merge s e j ≡ Is s' → IsRoomy s'
 merged_roomy s e j s' h m =
@@ -215,10 +216,10 @@ module _ (records : Bytes → List (List Bytes)) (version : Version) (s : Script
 
   does_roomy : {x : Request} {s' : Script} {r : Bytes} → IsState s → IsRoomy s → Does records version s x s' r → IsRoomy s'
   does_roomy h k T.Does.nothing = k
-  does_roomy h k (T.Does.changed {x = x} {s' = s'} t m) = change_roomy x s' h k t m
-  does_roomy h k (T.Does.unchanged t m) = k
-  does_roomy h k (T.Does.merged {e = e} j {s' = s'} i m) = merged_roomy s e j s' h m
-  does_roomy h k (T.Does.unmerged j i m) = k
+  does_roomy h k (T.Does.changed {x = x} t (T.Leaves.left {s' = s'} m)) = change_roomy x s' h k t m
+  does_roomy h k (T.Does.changed t (T.Leaves.kept m)) = k
+  does_roomy h k (T.Does.merged {e = e} j i (T.Leaves.left {s' = s'} m)) = merged_roomy s e j s' h m
+  does_roomy h k (T.Does.merged j i (T.Leaves.kept m)) = k
   does_roomy h k T.Does.get = k
   does_roomy h k T.Does.list = k
   does_roomy h k (T.Does.export r e) = k
@@ -233,14 +234,14 @@ module _ (records : Bytes → List (List Bytes)) (version : Version) (s : Script
   acts_roomy h k (T.Acts.refused q) = k
   acts_roomy h k T.Acts.long = k
   acts_roomy h k T.Acts.truncated = k
-  acts_roomy h k (T.Acts.import {p = p} {s' = s'} place n a cs ws at_place read m) =
+  acts_roomy h k (T.Acts.import {p = p} place n a ws at_place (T.Imports.contents cs read (T.Leaves.left {s' = s'} m))) =
       edited_roomy s (settings cs) (allowed (with_contents s.sheet cs)) s' h k
       (λ A e.
       let q = allowed_is (with_contents s.sheet cs) A e in
       (rooms_import s.sheet A cs h.sheet.ordered h.sheet.small q.1 (imported_const a (records (without_mark p)) cs read) q.0, sym q.0 ∙ contents_are_changes cs s.sheet)) m
   acts_roomy h k (T.Acts.import_place place n ws none) = k
-  acts_roomy h k (T.Acts.import_fields place n a ws at_place read) = k
-  acts_roomy h k (T.Acts.import_refused place n a cs ws at_place read over) = k
+  acts_roomy h k (T.Acts.import place n a ws at_place (T.Imports.fault read)) = k
+  acts_roomy h k (T.Acts.import place n a ws at_place (T.Imports.contents cs read (T.Leaves.kept over))) = k
 
 pub acts_keep_rooms : ActsKeepRooms
 acts_keep_rooms records version s s' x r h k a = acts_roomy records version s h k a

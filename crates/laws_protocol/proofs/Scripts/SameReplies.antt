@@ -40,10 +40,10 @@ module _ (records : Bytes → List (List Bytes)) (version : Version) (s t : Scri
   -- the other state has this reply too
   over : {x : Request} {s' : Script} {r : Bytes} → IsTrue (asks_sheet x) → Does records version s x s' r → Does records version t x t r
   over i T.Does.nothing = cc i
-  over i (T.Does.changed {x = x} c k) = absurd (change_or_asks x c i)
-  over i (T.Does.unchanged {x = x} c k) = absurd (change_or_asks x c i)
-  over i (T.Does.merged j d k) = cc i
-  over i (T.Does.unmerged j d k) = cc i
+  over i (T.Does.changed {x = x} c (T.Leaves.left k)) = absurd (change_or_asks x c i)
+  over i (T.Does.changed {x = x} c (T.Leaves.kept k)) = absurd (change_or_asks x c i)
+  over i (T.Does.merged j d (T.Leaves.left k)) = cc i
+  over i (T.Does.merged j d (T.Leaves.kept k)) = cc i
   over i (T.Does.get {a = a}) = subst (λ (Z : Cells). Does records version t (C.Request.Get a) t (line (get_text (content Z a)))) (sym same) T.Does.get
   over i T.Does.list = subst (λ (Z : Cells). Does records version t C.Request.ListAll t (list_text version Z)) (sym same) T.Does.list
   over i (T.Does.export r e) = cc i

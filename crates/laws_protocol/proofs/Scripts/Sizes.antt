@@ -1,25 +1,27 @@
 -- Edits keep a sheet within the limits.
+use Rattle.std.specs.Prelude.{codes}
+use Rattle.gl_language.specs.Texts.Text.{Bytes}
 use Rattle.std.proofs.Common.{◌≡◌, ◌≤◌, nat_lt, Bool, true, false, cond, [], ◌∷◌, length, filter, refl, subst, arith}
 use Rattle.std.proofs.lemmas.Bool.Decides.{nat_tests}
 use Rattle.gl_calculus.specs.Grid.Limits.{max_formulas, max_contents}
 use Rattle.gl_calculus.specs.Grid.Grid.{Addr}
 use Rattle.gl_calculus.specs.Formulas.Formula.{Content, Const, Form, Cells, formula_addresses}
-use Rattle.gl_protocol.specs.Scripts.Commands.{Is, Not, Word, FormulasWord, ContentsWord, allowed}
+use Rattle.gl_protocol.specs.Scripts.Commands.{Is, Not, allowed}
 use Rattle.laws_protocol.specs.Replies.{IsWithinLimits}
 
 is_cells : (S T : Cells) → Is S ≡ Is T → S ≡ T
 is_cells S T h = cc h
 
-no_cells : (w : Word) (T : Cells) → Not w ≡ Is T → ⊥
+no_cells : (w : Bytes) (T : Cells) → Not w ≡ Is T → ⊥
 no_cells w T h = cc h
 
 -- a sheet that is allowed is within the limits, and is what was asked for
 pub allowed_is : (S T : Cells) → allowed S ≡ Is T → (S ≡ T) × IsWithinLimits T
 allowed_is S T h = by (nat_lt max_formulas (length (formula_addresses S))) (nat_lt max_contents (length S)) refl refl h
   where
-    by : (p q : Bool) → nat_lt max_formulas (length (formula_addresses S)) ≡ p → nat_lt max_contents (length S) ≡ q → cond p (Not FormulasWord) (cond q (Not ContentsWord) (Is S)) ≡ Is T → (S ≡ T) × IsWithinLimits T
-    by true q e f k = absurd (no_cells FormulasWord T k)
-    by false true e f k = absurd (no_cells ContentsWord T k)
+    by : (p q : Bool) → nat_lt max_formulas (length (formula_addresses S)) ≡ p → nat_lt max_contents (length S) ≡ q → cond p (Not (codes "formulas")) (cond q (Not (codes "contents")) (Is S)) ≡ Is T → (S ≡ T) × IsWithinLimits T
+    by true q e f k = absurd (no_cells (codes "formulas") T k)
+    by false true e f k = absurd (no_cells (codes "contents") T k)
     by false false e f k =
         let few : length (formula_addresses S) ≤ max_formulas = grind (arith, nat_tests, e) in
         let small : length S ≤ max_contents = grind (arith, nat_tests, f) in

@@ -1,17 +1,18 @@
 -- What a line sets, an edit brings or an import gives is at an address of the grid, and is read from its own text.
+use Rattle.std.specs.Prelude.{codes}
 use Rattle.std.proofs.Common.{◌≡◌, ◌∙◌, nat_lt, Bool, true, false, cond, List, [], ◌∷◌, length, Option, Some, None, refl, sym, ap, subst, IsTrue}
 use Rattle.std.specs.Prelude.{⊤}
 use Rattle.std.specs.List.{AllByRecursion, list_all}
 use Rattle.std.specs.Str.{is_utf8}
 use Rattle.gl_calculus.specs.Grid.Limits.{max_text}
-use Rattle.gl_calculus.specs.Grid.Grid.{Addr, grid, covers, same_addr}
+use Rattle.gl_calculus.specs.Grid.Grid.{Range, Addr, grid, covers, same_addr}
 use Rattle.gl_calculus.specs.Formulas.Formula.{Content, Cells, IsSheet, content}
 use Rattle.gl_calculus.proofs.Tests.{addr_exact, addr_same}
 use Rattle.gl_language.specs.Texts.Text.{Bytes, content_text}
 use Rattle.gl_language.specs.Reading.Content.{IsProperContent}
 use Rattle.gl_calculus.specs.Edits.Replicas.{Edit}
 use Rattle.gl_protocol.specs.Scripts.Commands as C
-use Rattle.gl_protocol.specs.Scripts.Commands.{Read, Is, Not, Word, FieldWord, GridWord, Request, ReadsContent, ReadsText, ReadsWords, ReadsLine, fields, field_fault, contents, imported}
+use Rattle.gl_protocol.specs.Scripts.Commands.{Read, Is, Not, Request, ReadsContent, ReadsText, ReadsWords, ReadsLine, fields, field_fault, contents, imported}
 use Rattle.laws_calculus.proofs.SheetEdits.SameSheets.{nothing_before}
 use Rattle.laws_protocol.proofs.Scripts.Rising.{imported_rise}
 use Rattle.gl_script.proofs.ReadsBack.{set_reads_back, import_reads_back}
@@ -34,14 +35,18 @@ IfBackOption (Not w) = ⊤
 
 text_back : {o : Option Bytes} {x : Read (Option Content)} → ReadsText o x → IfBackOption x
 text_back C.ReadsText.no_text = tt
-text_back (C.ReadsText.text {t = t} {c = c} r) = set_reads_back t c r
-text_back (C.ReadsText.text_fault r) = tt
+text_back (C.ReadsText.text {t = t} {r = Is c} r) = set_reads_back t c r
+text_back (C.ReadsText.text {r = Not w} r) = tt
 
 -- what is set, or comes with an edit
 abbrev IfSet : Read Request → Type 0
 IfSet (Is (C.Request.Set a c)) = IsTrue (covers grid a) × IsBack c
 IfSet (Is (C.Request.Merge e)) = IsTrue (covers grid e.place) × IsBackOption e.content
 IfSet x = ⊤
+
+view_set : (b : Bool) (x : Range) → IfSet (cond b (Is (C.Request.View x)) (Not (codes "range")))
+view_set true x = tt
+view_set false x = tt
 
 words_set : {ws : C.Words} {x : Read Request} → ReadsWords ws x → IfSet x
 words_set C.ReadsWords.list = tt
@@ -53,17 +58,16 @@ words_set C.ReadsWords.undo = tt
 words_set C.ReadsWords.redo = tt
 words_set C.ReadsWords.flow = tt
 words_set C.ReadsWords.site = tt
-words_set (C.ReadsWords.edit k b r) = (k.0, text_back r)
-words_set (C.ReadsWords.edit_fault a k b r) = tt
+words_set (C.ReadsWords.edit {r = Is c} a k b r) = (k.0, text_back r)
+words_set (C.ReadsWords.edit {r = Not w} a k b r) = tt
 words_set (C.ReadsWords.edit_stamp a k b) = tt
 words_set (C.ReadsWords.edit_place n) = tt
-words_set (C.ReadsWords.set {t = t} {c = c} k r) = (k.0, set_reads_back t c r)
-words_set (C.ReadsWords.set_fault a k r) = tt
+words_set (C.ReadsWords.set {t = t} {r = Is c} a k r) = (k.0, set_reads_back t c r)
+words_set (C.ReadsWords.set {r = Not w} a k r) = tt
 words_set (C.ReadsWords.set_place n) = tt
-words_set (C.ReadsWords.clear r) = tt
-words_set (C.ReadsWords.clear_place r) = tt
-words_set (C.ReadsWords.view r v) = tt
-words_set (C.ReadsWords.view_size r v) = tt
+words_set (C.ReadsWords.clear {r = Is x} r) = tt
+words_set (C.ReadsWords.clear {r = Not w} r) = tt
+words_set (C.ReadsWords.view {r = x} r) = view_set (C.is_viewable x) x
 words_set (C.ReadsWords.view_place r) = tt
 words_set (C.ReadsWords.show k) = tt
 words_set (C.ReadsWords.show_place n) = tt
@@ -103,7 +107,7 @@ IfOn (Not w) = ⊤
 field_on : (x : Addr × Bytes) → field_fault x ≡ None → IsTrue (covers grid x.0)
 field_on x h = by (nat_lt max_text (length x.1)) (covers grid x.0) refl h
   where
-    by : (u v : Bool) → covers grid x.0 ≡ v → cond u (Some FieldWord) (cond v None (Some GridWord)) ≡ None → IsTrue (covers grid x.0)
+    by : (u v : Bool) → covers grid x.0 ≡ v → cond u (Some (codes "field")) (cond v None (Some (codes "grid"))) ≡ None → IsTrue (covers grid x.0)
     by true v e k = cc k
     by false true e k = e
     by false false e k = cc k
@@ -112,7 +116,7 @@ contents_on : (xs : List (Addr × Bytes)) → IfOn (contents xs)
 contents_on [] = tt
 contents_on (x ∷ xs) = by (field_fault x) (contents xs) refl refl (contents_on xs)
   where
-    by : (o : Option Word) (r : Read Cells) → field_fault x ≡ o → contents xs ≡ r → IfOn r → IfOn (contents (x ∷ xs))
+    by : (o : Option Bytes) (r : Read Cells) → field_fault x ≡ o → contents xs ≡ r → IfOn r → IfOn (contents (x ∷ xs))
     by (Some w) r e k all = rw e tt
     by None (Is cs) e k all = rw (e, k) (field_on x e, all)
     by None (Not w) e k all = rw (e, k) tt

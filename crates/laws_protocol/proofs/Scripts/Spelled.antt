@@ -1,4 +1,5 @@
 -- The text of tokens is clean, and a literal is at most four times as long as what it stands for.
+use Rattle.gl_calculus.specs.Formulas.Formula as F
 use Rattle.std.proofs.Common.{◌≡◌, ℕ, ◌+◌, ◌*◌, ◌<◌, ◌≤◌, Bool, true, false, ◌⊎◌, inl, inr, List, [], ◌∷◌, ◌++◌, length, refl, sym, subst, arith, append_assoc}
 use Rattle.std.specs.Prelude.{nat_lt}
 use Rattle.std.specs.Str.{IsUtf8}
@@ -101,17 +102,17 @@ truth_clean true = visible_clean (truth_text true) (refl, (refl, (refl, (refl, t
 truth_clean false = visible_clean (truth_text false) (refl, (refl, (refl, (refl, (refl, tt)))))
 
 sign_visible : (s : Sign) → AllPass is_visible (sign_text s)
-sign_visible T.Sign.Eq = (refl, tt)
-sign_visible T.Sign.Ne = (refl, (refl, tt))
-sign_visible T.Sign.Lt = (refl, tt)
-sign_visible T.Sign.Le = (refl, (refl, tt))
-sign_visible T.Sign.Gt = (refl, tt)
-sign_visible T.Sign.Ge = (refl, (refl, tt))
-sign_visible T.Sign.Join = (refl, tt)
-sign_visible T.Sign.Plus = (refl, tt)
-sign_visible T.Sign.Minus = (refl, tt)
-sign_visible T.Sign.Times = (refl, tt)
-sign_visible T.Sign.Over = (refl, tt)
+sign_visible (T.Sign.Operator F.Op.Eq) = (refl, tt)
+sign_visible (T.Sign.Operator F.Op.Ne) = (refl, (refl, tt))
+sign_visible (T.Sign.Operator F.Op.Lt) = (refl, tt)
+sign_visible (T.Sign.Operator F.Op.Le) = (refl, (refl, tt))
+sign_visible (T.Sign.Operator F.Op.Gt) = (refl, tt)
+sign_visible (T.Sign.Operator F.Op.Ge) = (refl, (refl, tt))
+sign_visible (T.Sign.Operator F.Op.Join) = (refl, tt)
+sign_visible (T.Sign.Operator F.Op.Add) = (refl, tt)
+sign_visible (T.Sign.Operator F.Op.Sub) = (refl, tt)
+sign_visible (T.Sign.Operator F.Op.Mul) = (refl, tt)
+sign_visible (T.Sign.Operator F.Op.Div) = (refl, tt)
 sign_visible T.Sign.Hash = (refl, tt)
 sign_visible T.Sign.LeftParen = (refl, tt)
 sign_visible T.Sign.RightParen = (refl, tt)

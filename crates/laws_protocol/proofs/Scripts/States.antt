@@ -78,12 +78,12 @@ module _ (records : Bytes → List (List Bytes)) (version : Version) (s : Script
 
   does_keep : (l : Bytes) {x : Request} {s' : Script} {r : Bytes} → IsState s → ReadsLine l (Is x) → Does records version s x s' r → IsState s'
   does_keep l h q T.Does.nothing = h
-  does_keep l h q (T.Does.changed {x = x} {s' = s'} t k) = change_keeps l x s' h q t k
-  does_keep l h q (T.Does.unchanged t k) = h
-  does_keep l h q (T.Does.merged {e = e} j {s' = s'} i k) =
+  does_keep l h q (T.Does.changed {x = x} t (T.Leaves.left {s' = s'} k)) = change_keeps l x s' h q t k
+  does_keep l h q (T.Does.changed t (T.Leaves.kept k)) = h
+  does_keep l h q (T.Does.merged {e = e} j i (T.Leaves.left {s' = s'} k)) =
       let p = merged_proper l e q in
       merged_state s e s' h (stamp_time e.stamp.time e.stamp.site p.0) j p.1 i k
-  does_keep l h q (T.Does.unmerged j i k) = h
+  does_keep l h q (T.Does.merged j i (T.Leaves.kept k)) = h
   does_keep l h q T.Does.get = h
   does_keep l h q T.Does.list = h
   does_keep l h q (T.Does.export r e) = h
@@ -98,12 +98,12 @@ module _ (records : Bytes → List (List Bytes)) (version : Version) (s : Script
   acts_keep h (T.Acts.refused q) = h
   acts_keep h T.Acts.long = h
   acts_keep h T.Acts.truncated = h
-  acts_keep h (T.Acts.import {p = p} {s' = s'} place n a cs ws at_place read k) =
+  acts_keep h (T.Acts.import {p = p} place n a ws at_place (T.Imports.contents cs read (T.Leaves.left {s' = s'} k))) =
       edited_state s (settings cs) (allowed (with_contents s.sheet cs)) s' h (settings_rise cs (imported_rise a (records (without_mark p)) cs read))
       (λ U e. (good_sets s.sheet U cs h.sheet (imported_proper a (records (without_mark p)) cs read) e, sym (allowed_is (with_contents s.sheet cs) U e).0 ∙ contents_are_changes cs s.sheet)) k
   acts_keep h (T.Acts.import_place place n ws none) = h
-  acts_keep h (T.Acts.import_fields place n a ws at_place read) = h
-  acts_keep h (T.Acts.import_refused place n a cs ws at_place read over) = h
+  acts_keep h (T.Acts.import place n a ws at_place (T.Imports.fault read)) = h
+  acts_keep h (T.Acts.import place n a ws at_place (T.Imports.contents cs read (T.Leaves.kept over))) = h
 
 pub acts_keep_states : ActsKeepStates
 acts_keep_states records version s s' x r h a = acts_keep records version s h a

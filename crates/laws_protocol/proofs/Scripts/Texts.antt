@@ -4,8 +4,10 @@ use Rattle.std.specs.Prelude.{bytes_eq, codes, ⊤}
 use Rattle.std.specs.Str.{IsUtf8}
 use Rattle.std.proofs.lemmas.Bool.Decides.{nat_tests}
 use Rattle.gl_language.specs.Texts.Text.{Bytes}
-use Rattle.gl_protocol.specs.Framing.Pieces.{Cut, cut_at, pieces, is_number}
-use Rattle.gl_protocol.specs.Scripts.Commands.{Words, ListWords, CalcWords, OracleWords, QuitWords, ExportWords, UndoWords, RedoWords, FlowWords, SetWords, EditWords, ClearWords, ViewWords, ShowWords, GetWords, WhyWords, ExplainWords, SiteWords, ImportWords, words_of, set_words, edit_words, words_of_pieces, some_words, behind, is_text}
+use Rattle.gl_script.specs.Parts.{Cut}
+use Rattle.gl_protocol.specs.Framing.Pieces.{cut_at, pieces, is_number}
+use Rattle.gl_script.specs.Parts.{some_words}
+use Rattle.gl_protocol.specs.Scripts.Commands.{Words, ListWords, CalcWords, OracleWords, QuitWords, ExportWords, UndoWords, RedoWords, FlowWords, SetWords, EditWords, ClearWords, ViewWords, ShowWords, GetWords, WhyWords, ExplainWords, SiteWords, ImportWords, words_of, set_words, edit_words, words_of_pieces, behind, is_text}
 use Rattle.gl_script.specs.Numbers.{is_site}
 use Rattle.gl_script.specs.Parts.{edit_at, edit_behind}
 use Rattle.gl_script.proofs.Decoded.{after_ascii}

@@ -121,15 +121,15 @@ module _ (records : Bytes → List (List Bytes)) (version : Version) where
   no_settled C.SettledReply.why_so i = cc i
   no_settled (C.SettledReply.explain k) i = cc i
 
-  no_error : (w : C.Word) → IsFalse (is_refusal (C.error_line w)) → ⊥
+  no_error : (w : Bytes) → IsFalse (is_refusal (C.error_line w)) → ⊥
   no_error w h = cc h
 
   does_more : {s t : Script} {x : Request} {r : Bytes} → IsState s → s.replica ≡ None → IsTrue (is_edit records version x) → Does records version s x t r → IsFalse (is_refusal r) → OneMore s t
   does_more h none i T.Does.nothing f = cc i
-  does_more {s = s} h none i (T.Does.changed {x = x} {s' = t} c k) f = change_more s t x h none i k
-  does_more h none i (T.Does.unchanged {w = w} c k) f = absurd (no_error w f)
-  does_more h none i (T.Does.merged j d k) f = cc i
-  does_more h none i (T.Does.unmerged j d k) f = cc i
+  does_more {s = s} h none i (T.Does.changed {x = x} c (T.Leaves.left {s' = t} k)) f = change_more s t x h none i k
+  does_more h none i (T.Does.changed c (T.Leaves.kept {w = w} k)) f = absurd (no_error w f)
+  does_more h none i (T.Does.merged j d (T.Leaves.left k)) f = cc i
+  does_more h none i (T.Does.merged j d (T.Leaves.kept k)) f = cc i
   does_more h none i T.Does.get f = cc i
   does_more h none i T.Does.list f = cc i
   does_more h none i (T.Does.export r e) f = cc i
@@ -143,11 +143,11 @@ module _ (records : Bytes → List (List Bytes)) (version : Version) where
   acts_more {s = s} {t = t} {r = r} h none (S.IsEditItem.line {l = l} y q i) (T.Acts.request {x = x} p d) f =
       does_more {x = y} h none i (subst (λ (z : Request). Does records version s z t r) (one_request l x y p q) d) f
   acts_more h none (S.IsEditItem.line y q i) (T.Acts.refused {w = w} p) f = absurd (no_error w f)
-  acts_more {s = s} {t = t} h none S.IsEditItem.import (T.Acts.import place n a cs ws at_place read k) f =
+  acts_more {s = s} {t = t} h none S.IsEditItem.import (T.Acts.import place n a ws at_place (T.Imports.contents cs read (T.Leaves.left k))) f =
       edit_more s (settings cs) (allowed (with_contents s.sheet cs)) t h none (λ A e. sym (allowed_is (with_contents s.sheet cs) A e).0 ∙ contents_are_changes cs s.sheet) k
-  acts_more h none S.IsEditItem.import (T.Acts.import_place place n ws nowhere) f = absurd (no_error C.AddressWord f)
-  acts_more h none S.IsEditItem.import (T.Acts.import_fields {w = w} place n a ws at_place read) f = absurd (no_error w f)
-  acts_more h none S.IsEditItem.import (T.Acts.import_refused {w = w} place n a cs ws at_place read over) f = absurd (no_error w f)
+  acts_more h none S.IsEditItem.import (T.Acts.import_place place n ws nowhere) f = absurd (no_error (codes "address") f)
+  acts_more h none S.IsEditItem.import (T.Acts.import place n a ws at_place (T.Imports.fault {w = w} read)) f = absurd (no_error w f)
+  acts_more h none S.IsEditItem.import (T.Acts.import place n a ws at_place (T.Imports.contents cs read (T.Leaves.kept {w = w} over))) f = absurd (no_error w f)
 
   -- ---- several
 
@@ -188,12 +188,12 @@ module _ (records : Bytes → List (List Bytes)) (version : Version) where
   undo_one : (s s' : Script) (r : Bytes) (d : Step) (ds : List Step) → s.replica ≡ None → s.history.done ≡ d ∷ ds → Acts records version s (Line (codes "undo")) s' r → (s' ≡ after_undo s d ds) × (r ≡ ok_line)
   undo_one s s' r d ds none e a =
       let yes : undone s ≡ Is (after_undo s d ds) = rw (none, e) refl in
-      one_act records version s s' (after_undo s d ds) (Line (codes "undo")) r ok_line a (T.Acts.request undo_reads (T.Does.changed refl yes))
+      one_act records version s s' (after_undo s d ds) (Line (codes "undo")) r ok_line a (T.Acts.request undo_reads (T.Does.changed refl (T.Leaves.left yes)))
 
   redo_one : (s s' : Script) (r : Bytes) (u : Step) (us : List Step) → s.replica ≡ None → s.history.undone ≡ u ∷ us → Acts records version s (Line (codes "redo")) s' r → (s' ≡ after_redo s u us) × (r ≡ ok_line)
   redo_one s s' r u us none e a =
       let yes : redone s ≡ Is (after_redo s u us) = rw (none, e) refl in
-      one_act records version s s' (after_redo s u us) (Line (codes "redo")) r ok_line a (T.Acts.request redo_reads (T.Does.changed refl yes))
+      one_act records version s s' (after_redo s u us) (Line (codes "redo")) r ok_line a (T.Acts.request redo_reads (T.Does.changed refl (T.Leaves.left yes)))
 
   pub record Undid (n m : ℕ) (A B : Cells) (u : Script) (rs : List Bytes) : Type 0 where
     pub sheet : u.sheet ≡ A

@@ -146,11 +146,11 @@ returns-in-Flow-clause-spends c =
 
 pub returns-in-Import-clause-spends : goal.returns-in-Import-clause-spends
 returns-in-Import-clause-spends c =
-    if_refused (version_tree c.args.version) (known_of c.args.script.now) c.args.request c.error_line.result C.CommandWord c.error_line.ensures
+    if_refused (version_tree c.args.version) (known_of c.args.script.now) c.args.request c.error_line.result (codes "command") c.error_line.ensures
 
 pub returns-in-Version-clause-spends : goal.returns-in-Version-clause-spends
 returns-in-Version-clause-spends c =
-    if_refused (version_tree c.args.version) (known_of c.args.script.now) c.args.request c.error_line-in-Version.result C.CommandWord c.error_line-in-Version.ensures
+    if_refused (version_tree c.args.version) (known_of c.args.script.now) c.args.request c.error_line-in-Version.result (codes "command") c.error_line-in-Version.ensures
 
 pub returns-in-Quit-clause-spends : goal.returns-in-Quit-clause-spends
 returns-in-Quit-clause-spends c =

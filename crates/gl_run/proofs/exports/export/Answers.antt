@@ -1,3 +1,4 @@
+use Rattle.std.specs.Prelude.{codes}
 use Rattle.std.proofs.Common.{◌≡◌, ℕ, Vec, Global, option_map, ap}
 use Rattle.std.proofs.lemmas.Result.{IfOk-weaker}
 use Rattle.gl_protocol.specs.Scripts.Commands as C
@@ -20,6 +21,6 @@ returns-in-Some c =
 pub returns-in-None : goal.returns-in-None
 returns-in-None c =
     let s = script_of c.args.script.now in
-    let W : Vec ℕ Global → Type 0 = λ reply. reply.items ≡ error_line C.SiteWord in
+    let W : Vec ℕ Global → Type 0 = λ reply. reply.items ≡ error_line (codes "site") in
     let Q : Vec ℕ Global → Type 0 = λ reply. IsExport s reply.items in
     IfOk-weaker c.error_line.result W Q (λ reply p. export_none s reply.items (ap (option_map replica_tree) c.in-None.is) p) c.error_line.ensures

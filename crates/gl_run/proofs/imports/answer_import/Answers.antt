@@ -1,3 +1,4 @@
+use Rattle.std.specs.Prelude.{codes}
 use Rattle.std.proofs.Common.{◌≡◌, ℕ, Some, Vec, Global}
 use Rattle.std.proofs.lemmas.Result.{IfOk-weaker}
 use Rattle.gl_calculus.specs.Formulas.Formula.{Version, One}
@@ -6,7 +7,7 @@ use Rattle.gl_run.proofs.Keeping.{kept_by}
 use Rattle.gl_run.specs.Replies.{HasPlace}
 use Rattle.gl_protocol.specs.Framing.Framing.{Import}
 use Rattle.gl_protocol.specs.Scripts.Acts.{Acts}
-use Rattle.gl_protocol.specs.Scripts.Commands.{AddressWord, error_line}
+use Rattle.gl_protocol.specs.Scripts.Commands.{error_line}
 use Rattle.gl_protocol.specs.Run.Records.{csv_records}
 use Rattle.gl_run.proofs.Importing.{import_nowhere}
 use Rattle.gl_run.specs.Script.{known_of, script_of}
@@ -19,7 +20,7 @@ returns-in-Ok-None-clause-acts c =
     let s = script_of c.args.script.now in
     let l = c.args.header.now in
     let p = c.args.payload.now in
-    let P : Vec ℕ Global → Type 0 = λ reply. reply.items ≡ error_line AddressWord in
+    let P : Vec ℕ Global → Type 0 = λ reply. reply.items ≡ error_line (codes "address") in
     let Q : Vec ℕ Global → Type 0 = λ reply. (version : Version) → Acts csv_records version s (Import l p) s reply.items in
     IfOk-weaker c.error_line.result P Q (λ reply e version. import_nowhere version s l p reply.items (rw c.in-Ok-None.field-0-is at c.in-Ok-None.ensures) e) c.error_line.ensures
 
@@ -28,9 +29,9 @@ returns-in-Ok-None-clause-spends c =
     let K = known_of c.args.script.now in
     let l = c.args.header.now in
     let p = c.args.payload.now in
-    let P : Vec ℕ Global → Type 0 = λ reply. reply.items ≡ error_line AddressWord in
+    let P : Vec ℕ Global → Type 0 = λ reply. reply.items ≡ error_line (codes "address") in
     let Q : Vec ℕ Global → Type 0 = λ reply. (version : Version) (n : ℕ) → Spends version K (Import l p) reply.items K n n in
-    IfOk-weaker c.error_line.result P Q (λ reply e version n. refused_spends version K n (Import l p) AddressWord reply.items e) c.error_line.ensures
+    IfOk-weaker c.error_line.result P Q (λ reply e version n. refused_spends version K n (Import l p) (codes "address") reply.items e) c.error_line.ensures
 
 pub returns-in-Ok-Some-clause-kept : goal.returns-in-Ok-Some-clause-kept
 returns-in-Ok-Some-clause-kept c =

@@ -1,3 +1,4 @@
+use Rattle.std.specs.Prelude.{codes}
 use Rattle.std.proofs.Common.{rules, ◌≡◌, ℕ, Some, IfOk, Vec, Global, is_some, sym, ap, subst}
 use Rattle.std.proofs.lemmas.Result.{IfOk-weaker}
 use Rattle.gl_protocol.specs.Scripts.Commands as C
@@ -36,7 +37,7 @@ returns-in-Err-Edits c =
     let same = c.in-Err-Edits.ensures.known in
     let later : IsLater (script_of z) (edit_tree e) = subst (λ (K : Known). IsLater K.script (edit_tree e)) (sym same) c.requires in
     let full = subst (λ (a : Addr). IsFull z a) c.place.ensures (rw c.in-Err-Edits.field-0-is at c.in-Err-Edits.ensures.room) in
-    let W : Vec ℕ Global → Type 0 = λ reply. reply.items ≡ error_line C.EditsWord in
+    let W : Vec ℕ Global → Type 0 = λ reply. reply.items ≡ error_line (codes "edits") in
     let Q : Vec ℕ Global → Type 0 = λ reply. IsMerged (script_of z) (edit_tree e) (script_of z) reply.items in
     let K = known_of c.args.script.now in
     let K' = known_of c.make_room.new.script in
@@ -44,6 +45,6 @@ returns-in-Err-Edits c =
     record {
       does = subst (λ (K : Known). IfOk c.error_line.result (λ reply. IsMerged K.script (edit_tree e) (script_of z) reply.items)) same
           (IfOk-weaker c.error_line.result W Q (λ reply p. full_merged z e later reply.items full p) c.error_line.ensures);
-      touches = IfOk-weaker c.error_line.result W T (λ reply p. touches_kept (touched_by K.script (C.Request.Merge (edit_tree e))) K K' c.in-Err-Edits.ensures.known (Some C.EditsWord) reply.items p) c.error_line.ensures;
+      touches = IfOk-weaker c.error_line.result W T (λ reply p. touches_kept (touched_by K.script (C.Request.Merge (edit_tree e))) K K' c.in-Err-Edits.ensures.known (Some (codes "edits")) reply.items p) c.error_line.ensures;
       err = search rules;
     }

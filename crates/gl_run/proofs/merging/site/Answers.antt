@@ -1,3 +1,4 @@
+use Rattle.std.specs.Prelude.{codes}
 use Rattle.std.proofs.Common.{rules, ◌≡◌, ◌∙◌, ℕ, length, [], Some, Vec, Global, option_map, refl, sym, ap, arith}
 use Rattle.std.proofs.lemmas.Result.{IfOk-weaker}
 use Rattle.gl_protocol.specs.Scripts.Commands as C
@@ -18,13 +19,13 @@ returns-then-is_some c =
     let x = c.args.script.now in
     let s = script_of x in
     let r = some_replica x (sym c.is_some.ensures ∙ c.if-is_some.true) in
-    let W : Vec ℕ Global → Type 0 = λ reply. reply.items ≡ error_line C.SiteWord in
+    let W : Vec ℕ Global → Type 0 = λ reply. reply.items ≡ error_line (codes "site") in
     let Q : Vec ℕ Global → Type 0 = λ reply. IsChanged (change s (C.Request.Site c.args.site)) s s reply.items in
     let K = known_of c.args.script.now in
     let T : Vec ℕ Global → Type 0 = λ reply. Touches reply.items [] K K in
     record {
       does = IfOk-weaker c.error_line.result W Q (λ reply p. site_in_replica s c.args.site r.0 reply.items r.1 p) c.error_line.ensures;
-      touches = IfOk-weaker c.error_line.result W T (λ reply p. touches_kept [] K K refl (Some C.SiteWord) reply.items p) c.error_line.ensures;
+      touches = IfOk-weaker c.error_line.result W T (λ reply p. touches_kept [] K K refl (Some (codes "site")) reply.items p) c.error_line.ensures;
       err = search rules;
     }
 
@@ -45,12 +46,12 @@ returns-then-contents-gt0 c =
     let x = c.args.script.now in
     let s = script_of x in
     let none = alone x (sym c.is_some.ensures ∙ c.if-is_some.false) in
-    let W : Vec ℕ Global → Type 0 = λ reply. reply.items ≡ error_line C.SiteWord in
+    let W : Vec ℕ Global → Type 0 = λ reply. reply.items ≡ error_line (codes "site") in
     let Q : Vec ℕ Global → Type 0 = λ reply. IsChanged (change s (C.Request.Site c.args.site)) s s reply.items in
     let K = known_of c.args.script.now in
     let T : Vec ℕ Global → Type 0 = λ reply. Touches reply.items [] K K in
     record {
       does = IfOk-weaker c.error_line-then-contents-gt0.result W Q (λ reply p. site_too_late s c.args.site reply.items (ap (option_map replica_tree) none) (omega (arith, c.contents.ensures.count, ap length c.cells.ensures, c.if-contents-gt0.true)) p) c.error_line-then-contents-gt0.ensures;
-      touches = IfOk-weaker c.error_line-then-contents-gt0.result W T (λ reply p. touches_kept [] K K refl (Some C.SiteWord) reply.items p) c.error_line-then-contents-gt0.ensures;
+      touches = IfOk-weaker c.error_line-then-contents-gt0.result W T (λ reply p. touches_kept [] K K refl (Some (codes "site")) reply.items p) c.error_line-then-contents-gt0.ensures;
       err = search rules;
     }

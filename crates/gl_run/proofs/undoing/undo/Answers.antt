@@ -1,3 +1,4 @@
+use Rattle.std.specs.Prelude.{codes}
 use Rattle.std.proofs.Common.{rules, ◌≡◌, ◌∙◌, ℕ, Some, Vec, Global, option_map, refl, sym, ap, subst}
 use Rattle.std.proofs.lemmas.Result.{IfOk-weaker}
 use Rattle.gl_calculus.specs.Edits.Steps.{befores}
@@ -23,14 +24,14 @@ returns-then-is_some c =
     let x = c.args.script.now in
     let s = script_of x in
     let r = some_replica x (sym c.is_some.ensures ∙ c.if-is_some.true) in
-    let W : Vec ℕ Global → Type 0 = λ reply. reply.items ≡ error_line C.SiteWord in
+    let W : Vec ℕ Global → Type 0 = λ reply. reply.items ≡ error_line (codes "site") in
     let Q : Vec ℕ Global → Type 0 = λ reply. IsChanged (change s C.Request.Undo) s s reply.items in
     let K = known_of c.args.script.now in
     let ps = touched_by K.script C.Request.Undo in
     let T : Vec ℕ Global → Type 0 = λ reply. Touches reply.items ps K K in
     record {
       does = IfOk-weaker c.error_line.result W Q (λ reply p. undo_in_replica s r.0 reply.items r.1 p) c.error_line.ensures;
-      touches = IfOk-weaker c.error_line.result W T (λ reply p. touches_kept ps K K refl (Some C.SiteWord) reply.items p) c.error_line.ensures;
+      touches = IfOk-weaker c.error_line.result W T (λ reply p. touches_kept ps K K refl (Some (codes "site")) reply.items p) c.error_line.ensures;
       err = search rules;
     }
 
@@ -51,13 +52,13 @@ returns-in-Ok-None c =
     let x = c.args.script.now in
     let s = script_of x in
     let none = told_nothing befores (done x.history) (rw c.in-Ok-None.field-0-is at c.in-Ok-None.ensures.value) in
-    let W : Vec ℕ Global → Type 0 = λ reply. reply.items ≡ error_line C.UndoWord in
+    let W : Vec ℕ Global → Type 0 = λ reply. reply.items ≡ error_line (codes "undo") in
     let Q : Vec ℕ Global → Type 0 = λ reply. IsChanged (change s C.Request.Undo) s s reply.items in
     let K = known_of c.args.script.now in
     let ps = touched_by K.script C.Request.Undo in
     let T : Vec ℕ Global → Type 0 = λ reply. Touches reply.items ps K K in
     record {
       does = IfOk-weaker c.error_line-in-Ok-None.result W Q (λ reply p. undo_nothing s reply.items (ap (option_map replica_tree) (alone x (sym c.is_some.ensures ∙ c.if-is_some.false))) none p) c.error_line-in-Ok-None.ensures;
-      touches = IfOk-weaker c.error_line-in-Ok-None.result W T (λ reply p. touches_kept ps K K refl (Some C.UndoWord) reply.items p) c.error_line-in-Ok-None.ensures;
+      touches = IfOk-weaker c.error_line-in-Ok-None.result W T (λ reply p. touches_kept ps K K refl (Some (codes "undo")) reply.items p) c.error_line-in-Ok-None.ensures;
       err = search rules;
     }

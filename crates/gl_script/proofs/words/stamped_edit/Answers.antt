@@ -1,5 +1,6 @@
 use Rattle.std.proofs.Common.{◌∙◌, sym, ap, Some, None, lit<}
-use Rattle.gl_protocol.specs.Framing.Pieces.{Cut, cut_at}
+use Rattle.gl_script.specs.Parts.{Cut}
+use Rattle.gl_protocol.specs.Framing.Pieces.{cut_at}
 use Rattle.gl_script.specs.Parts.{edit_at}
 use Rattle.std.proofs.lemmas.Str.Pattern.{split_parts}
 use Rattle.gl_script.proofs.Cuts.{cut-none, cut-at}

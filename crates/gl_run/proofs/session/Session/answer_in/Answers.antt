@@ -1,6 +1,6 @@
+use Rattle.std.specs.Prelude.{codes}
 use Rattle.gl_ast.specs.View.{version_tree}
 use Rattle.gl_protocol.specs.Framing.Framing.{Item}
-use Rattle.gl_protocol.specs.Scripts.Commands.{LineWord, TruncatedWord}
 use Rattle.gl_run.specs.Script.{known_of, script_of}
 use Rattle.gl_run.proofs.Acting.{long_reply, truncated_reply}
 use Rattle.gl_run.proofs.Spending.{refused_reply}
@@ -14,8 +14,8 @@ returns-in-Truncated-clause-acts g c = rw c.in-Truncated.is (truncated_reply _ (
 
 pub returns-in-Long-clause-spends : goal.returns-in-Long-clause-spends
 returns-in-Long-clause-spends g c =
-    rw c.in-Long.is (refused_reply (version_tree c.args.version) (known_of c.args.self.now.script) c.args.steps.now Item.Long c.answer_long.result LineWord c.answer_long.ensures)
+    rw c.in-Long.is (refused_reply (version_tree c.args.version) (known_of c.args.self.now.script) c.args.steps.now Item.Long c.answer_long.result (codes "line") c.answer_long.ensures)
 
 pub returns-in-Truncated-clause-spends : goal.returns-in-Truncated-clause-spends
 returns-in-Truncated-clause-spends g c =
-    rw c.in-Truncated.is (refused_reply (version_tree c.args.version) (known_of c.args.self.now.script) c.args.steps.now Item.Truncated c.answer_truncated.result TruncatedWord c.answer_truncated.ensures)
+    rw c.in-Truncated.is (refused_reply (version_tree c.args.version) (known_of c.args.self.now.script) c.args.steps.now Item.Truncated c.answer_truncated.result (codes "truncated") c.answer_truncated.ensures)
