@@ -7,7 +7,7 @@ from typing import Callable, Dict, List, Optional
 
 from . import terminal
 from .addresses import Range, read_range
-from .errors import BadInput, GridletError, ProgramFailed, Refused
+from .errors import BadInput, GridletError, ProgramFailed, Refused, Spent
 from .manual import Manual
 from .program import Answer
 from .replies import Item, is_edit
@@ -51,7 +51,9 @@ class Prompt:
             else:
                 self.command(Item(line.lstrip().encode("utf-8", "replace")))
         except Refused as error:
-            self.complain(error.word)
+            self.complain(f"error {error.word}", self.manual.refusal(error.word))
+        except Spent as error:
+            self.complain(f"spent {error.what}", self.manual.budget(error.what))
         except ProgramFailed as error:
             print(error)
             self.is_over, self.status = True, 2
@@ -70,20 +72,15 @@ class Prompt:
     def command(self, item: Item) -> None:
         """A command of the language."""
         reply = self.sheet.ask(item)
-        if reply.refusal is not None:
-            self.complain(reply.refusal)
-            return
-        for line in reply.lines:
-            bad = line.startswith(("#", "spent "))
-            print(terminal.painted(line, "bad", self.is_coloured and bad))
+        for line in reply.accepted(item):
+            print(terminal.painted(line, "bad", self.is_coloured and line.startswith("#")))
         if is_edit(item, reply):
             self._edits.append(item)
             self.is_changed = True
 
-    def complain(self, word: str) -> None:
-        """The word of a refused command, and what it means."""
-        meaning = self.manual.refusal(word)
-        said = terminal.painted(f"error {word}", "bad", self.is_coloured)
+    def complain(self, text: str, meaning: Optional[str]) -> None:
+        """What a command came to that was refused or spent a budget, and what that means."""
+        said = terminal.painted(text, "bad", self.is_coloured)
         print(f"{said}: {meaning}" if meaning else said)
 
     def view(self, rest: str) -> None:

@@ -14,6 +14,7 @@ from .scripts import read_bytes, whole_items
 from .values import Array, Edit, Explanation, Forecast, Permit, Rows, Value
 
 Where = Union[str, Address]
+Constant = Union[None, int, bool, str]
 Line = Union[str, bytes, Item]
 
 
@@ -34,7 +35,8 @@ class Sheet:
                 self.tell("gridlet 2")
             if file is not None:
                 for item, reply in self.load(file):
-                    reply.accepted(item)
+                    if reply.refusal is not None:
+                        reply.accepted(item)
         except BaseException:
             self.close()
             raise
@@ -87,18 +89,17 @@ class Sheet:
         item = _item(line)
         return self.ask(item).accepted(item)
 
-    def set(self, address: Where, value: Union[int, bool, str]) -> None:
+    def set(self, address: Where, value: Constant) -> None:
         """A text that begins with `=` is a formula; else the value's type says what it is."""
-        self.tell(f"set {address} {values.content(value)}")
+        self.tell(_setting(address, value))
 
     def enter(self, address: Where, text: str) -> None:
         """The content of a text as the language reads it, so that `12` is an integer."""
         self.tell(f"set {address} {text}")
 
-    def set_all(self, contents: Mapping[str, Union[int, bool, str]]) -> None:
-        """Many contents at once. One that is refused leaves those before it set."""
-        lines = [f"set {at} {values.content(value)}" for at, value in contents.items()]
-        for item, reply in self.run(lines):
+    def set_all(self, contents: Mapping[str, Constant]) -> None:
+        """Many contents at once. One that is refused leaves all others set."""
+        for item, reply in self.run([_setting(*it) for it in contents.items()]):
             reply.accepted(item)
 
     def clear(self, where: Union[Where, Range]) -> None:
@@ -191,6 +192,10 @@ class Sheet:
     def _note_site(self, item: Item, reply: Reply) -> None:
         if item.text.startswith(b"site ") and reply.lines == ("ok",):
             self.site_number = int(item.text[5:])
+
+
+def _setting(address: Where, value: Constant) -> str:
+    return f"clear {address}" if value is None else f"set {address} {values.content(value)}"
 
 
 def _item(line: Line) -> Item:

@@ -29,6 +29,8 @@ class Methods(unittest.TestCase):
                          [2, True, "007", 6, CellError("#DIV/0!"), None])
         self.sheet.enter("A3", "007")
         self.assertEqual(self.sheet.show(Address(3, 1)), 7)
+        self.sheet.set("A1", None)
+        self.assertIsNone(self.sheet.show("A1"))
         self.sheet.clear("A1:A5")
         self.assertEqual(self.sheet.list(), {})
 
@@ -224,14 +226,9 @@ def cells(count: int) -> Any:
 
 
 class Examples(unittest.TestCase):
-    """Each example opens, but the one that is meant to spend a budget."""
+    """Each example opens, also the one that is meant to spend a budget."""
 
     def test_all(self) -> None:
         for file in sorted(EXAMPLES.glob("*.gridlet")):
-            with self.subTest(file=file.name):
-                if file.stem == "recursion":
-                    with self.assertRaises(Spent):
-                        Sheet(file)
-                else:
-                    with Sheet(file) as sheet:
-                        self.assertTrue(sheet.list())
+            with self.subTest(file=file.name), Sheet(file) as sheet:
+                self.assertTrue(sheet.list())
