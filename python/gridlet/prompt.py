@@ -10,6 +10,7 @@ from .addresses import Range, read_range
 from .errors import BadInput, GridletError, ProgramFailed, Refused, Spent
 from .manual import Manual
 from .program import Answer
+from .reasons import lines
 from .replies import Item, is_edit
 from .saving import save_sheet
 from .scripts import head_comments, read_bytes
@@ -18,6 +19,7 @@ from .snapshot import used
 
 OWN = """view [RANGE]      the grid of a range, or of all that is in the sheet
 import A1 FILE    the values of a CSV file, as the command import has them
+reasons A1        the cells that a cell rests on, as a tree
 save [FILE]       writes the sheet, once it reads back equal
 help [WORD]       what the language's page says of a command, a function or an error
 quit              leaves"""
@@ -35,8 +37,8 @@ class Prompt:
         self._refused = sum(reply.refusal is not None for _, reply in answers or [])
         self._before = read_bytes(file) if file and file.exists() else None
         self._own: Dict[str, Callable[[str], None]] = {
-            "help": self.help, "save": self.save, "view": self.view, "quit": self.leave,
-            "exit": self.leave}
+            "help": self.help, "reasons": self.tell_reasons, "save": self.save,
+            "view": self.view, "quit": self.leave, "exit": self.leave}
 
     def answer(self, line: str) -> None:
         """Does what a line says, and prints what there is to say."""
@@ -92,8 +94,14 @@ class Prompt:
             print("the sheet is empty")
             return
         covers = {at: it for it in self.sheet.oracle() if it.permitted for at in it.area.cells()}
-        lines = terminal.grid(found, self.sheet.view(found), covers, self.is_coloured)
-        print("\n".join(lines))
+        shown = terminal.grid(found, self.sheet.view(found), covers, self.is_coloured)
+        print("\n".join(shown))
+
+    def tell_reasons(self, rest: str) -> None:
+        """The tree of what a cell rests on."""
+        found = self.sheet.reasons(rest)
+        print("\n".join(lines(found, self.sheet.list())) if found
+              else f"{rest} has no formula, and no array covers it")
 
     def take_file(self, rest: str) -> None:
         """An import, whose payload is a file."""

@@ -9,6 +9,7 @@ from . import replies, values
 from .addresses import Address, Range, read_range
 from .errors import BadInput
 from .program import Answer, Process
+from .reasons import Reason, reasons
 from .replies import Item, Reply
 from .scripts import read_bytes, whole_items
 from .values import Array, Edit, Explanation, Forecast, Permit, Rows, Value
@@ -154,6 +155,10 @@ class Sheet:
     def explain(self, address: Where) -> Explanation:
         """From what it follows that a cell shows what it shows."""
         return replies.read_explanation(self.tell(f"explain {address}"))
+
+    def reasons(self, address: Where) -> Optional[Reason]:
+        """The same as a tree of the cells that rest on each other."""
+        return reasons(self, address)
 
     def flow(self) -> Forecast:
         """Whether the sheet surely settles, by its formulas alone."""

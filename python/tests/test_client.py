@@ -11,6 +11,7 @@ from gridlet import (
     Address, BadInput, CellError, Edit, Forecast, Note, ProgramFailed, ProgramNotFound, Range,
     Refused, Sheet, Spent)
 
+from gridlet.reasons import reasons
 from gridlet.replies import items
 
 from .support import EXAMPLES, Folder
@@ -67,6 +68,31 @@ class Methods(unittest.TestCase):
         kinds = [(it.kind, it.place, it.outcome) for it in self.sheet.explain("C1").notes]
         self.assertEqual(kinds, [("copy", "B1", "36"), ("settle", "A1:B1", "0"),
                                  ("cell", "C1", "36")])
+
+    def tree(self, reason: Any) -> Any:
+        """A tree as its places."""
+        return (reason.note.place, *map(self.tree, reason.rests_on))
+
+    def test_reasons(self) -> None:
+        self.sheet.set_all({"A1": "=1+1", "B1": "=A1*2", "B2": "=A1*3", "C1": "=B1+B2+A1",
+                            "D1": "=SEQUENCE(2,1)*A1", "E1": "=D2", "F1": "=F2", "F2": "=F1"})
+        shared = ("A1",)
+        self.assertEqual(self.tree(self.sheet.reasons("C1")),
+                         ("C1", ("B1", shared), ("B2", shared)))
+        self.assertEqual(self.tree(self.sheet.reasons("E1")), ("E1", ("D1", shared)))
+        self.assertEqual(self.tree(self.sheet.reasons("D2")), ("D1", shared))
+        self.assertEqual(self.tree(self.sheet.reasons("F1")), ("F1", ("F2",)))
+        self.assertIsNone(self.sheet.reasons("Z1"))
+
+    def test_reasons_of_copies(self) -> None:
+        self.sheet.set_all({"A1": 3, "B1": "=A1*A1", "C1": "=VIEW(UPDATE(SHEET(A1:B1),A1,6),B1)",
+                            "D1": "=C1+B1"})
+        found = self.sheet.reasons("D1")
+        assert found
+        self.assertEqual([it.note.place for it in found.rests_on], ["C1", "B1"])
+        self.assertEqual([it.note.kind for it in found.rests_on[0].rests_on], ["copy", "settle"])
+        with self.assertRaisesRegex(BadInput, "rests on 3 cells, more than 2"):
+            reasons(self.sheet, "D1", 2)
 
     def test_import_undo_and_redo(self) -> None:
         self.sheet.import_csv("B2", "part,é\nnut,5\n")

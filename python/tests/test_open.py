@@ -56,6 +56,14 @@ class Lines(Folder):
     def test_spaces_behind_a_text_stay(self) -> None:
         self.assertEqual(self.told("set A1 x  ", "get A1"), ["ok", '"x  "'])
 
+    def test_reasons(self) -> None:
+        lines = ("set A1 12", "set A2 twenty", "set B1 =A1*3", "set B2 =A2*4",
+                 "set B3 =IFERROR(B2,0)", "set B4 =B1+B3", "reasons B4", "reasons A1", "reasons A0")
+        self.assertEqual(self.told(*lines)[6:], [
+            "B4 36  =B1+B3", "├ B1 36  =A1*3", "└ B3 0  =IFERROR(B2,0)", "  └ B2 #VALUE!  =A2*4",
+            "A1 has no formula, and no array covers it",
+            "error address: an address is none"])
+
     def test_import_takes_a_file(self) -> None:
         file = self.file("f.csv", "1,2")
         self.assertEqual(self.told(f"import B1 {file}", "show C1", f"import A0 {file}",
