@@ -16,7 +16,7 @@ from .values import Note
 if TYPE_CHECKING:
     from .sheet import Sheet
 
-MOST = 500
+MOST = 300
 
 
 @dataclass(frozen=True)
@@ -30,11 +30,12 @@ class Reason:
 def reasons(sheet: "Sheet", address: object, most: int = MOST) -> Optional[Reason]:
     """The tree of an address; None where it has no formula and no array covers it."""
     whole = sheet.explain(str(address))
+    cells = [it for it in whole.notes if it.kind == "cell"]
+    count = max(len(cells), len(whole.loops))
+    if count > most:
+        raise BadInput(f"{address} rests on {count} cells, more than {most}")
     if whole.loops:
         return _chain(list(whole.loops))
-    cells = [it for it in whole.notes if it.kind == "cell"]
-    if len(cells) > most:
-        raise BadInput(f"{address} rests on {len(cells)} cells, more than {most}")
     made: Dict[str, Reason] = {}
     needed: Dict[str, Set[str]] = {}
     notes: Dict[str, "Counter[Note]"] = {}
