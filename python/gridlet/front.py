@@ -56,7 +56,8 @@ def main(words: Optional[List[str]] = None) -> int:
         os.dup2(os.open(os.devnull, os.O_WRONLY), sys.stdout.fileno())
         if isinstance(error, BrokenPipeError):
             return 141
-        print(f"gridlet-sheet: standard output: {error.strerror}", file=sys.stderr)
+        name = error.filename or "standard output"
+        print(f"gridlet-sheet: {name}: {error.strerror}", file=sys.stderr)
         return 2
     except KeyboardInterrupt:
         return 130
