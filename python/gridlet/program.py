@@ -46,7 +46,10 @@ def ended(status: int) -> str:
 
 
 class Process:
-    """A running program. Commands go in and replies come out, each with its command."""
+    """A running program. Commands go in and replies come out, each with its command.
+
+    A sheet wants no more of it than `ask`, `run`, `version` and `close`.
+    """
 
     def __init__(self, program: Optional[str] = None, words: Sequence[str] = ()) -> None:
         path = find_program(program)
