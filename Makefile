@@ -62,7 +62,8 @@ install: $(PROGRAM) install-libraries
 	$(INSTALL) -m 755 $(PROGRAM) $(to)/bin/gridlet
 	$(INSTALL) -m 755 $(TOP)python/gridlet-sheet $(to)/bin/gridlet-sheet
 	$(INSTALL) -m 644 $(TOP)include/gridlet.h $(to)/include/gridlet.h
-	$(INSTALL) -m 644 $(TOP)python/gridlet/*.py $(TOP)docs/LANGUAGE.md $(package)
+	$(INSTALL) -m 644 $(TOP)python/gridlet/*.py $(TOP)python/gridlet/py.typed $(package)
+	$(INSTALL) -m 644 $(TOP)docs/LANGUAGE.md $(package)
 	$(INSTALL) -m 644 $(TOP)python/gridlet/commands/*.py $(package)/commands
 	$(INSTALL) -m 644 $(TOP)python/gridlet/assets/* $(package)/assets
 	$(INSTALL) -m 644 $(TOP)man/gridlet.1 $(TOP)man/gridlet-sheet.1 $(pages)/man1

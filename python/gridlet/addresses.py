@@ -67,6 +67,13 @@ class Range(NamedTuple):
             for column in range(self.first.column, self.last.column + 1):
                 yield Address(row, column)
 
+    def parts(self, size: int) -> Iterator["Range"]:
+        """Its rows, in ranges of at most so many cells, but of a row at least."""
+        step = max(1, size // self.columns)
+        for row in range(self.first.row, self.last.row + 1, step):
+            yield Range(Address(row, self.first.column),
+                        Address(min(row + step - 1, self.last.row), self.last.column))
+
     def __contains__(self, address: object) -> bool:
         return (isinstance(address, Address)
                 and self.first.row <= address.row <= self.last.row

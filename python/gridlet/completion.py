@@ -16,7 +16,7 @@ except ImportError:  # a Python without it has no history and no completion
 
 LENGTH = 1000
 DELIMITERS = " ()+-*/&=<>,:#\""
-OWN = ("exit", "help", "save")
+OWN = ("exit", "help", "reasons", "save")
 
 
 def history_file() -> Path:

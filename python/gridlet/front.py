@@ -51,9 +51,13 @@ def main(words: Optional[List[str]] = None) -> int:
     except GridletError as error:
         print(f"gridlet-sheet: {error}", file=sys.stderr)
         return 2
-    except BrokenPipeError:
-        # Whoever read the output has gone; the interpreter must not try to write the rest.
+    except OSError as error:
+        # The output cannot be written, so the interpreter must not try to write the rest.
         os.dup2(os.open(os.devnull, os.O_WRONLY), sys.stdout.fileno())
-        return 141
+        if isinstance(error, BrokenPipeError):
+            return 141
+        name = error.filename or "standard output"
+        print(f"gridlet-sheet: {name}: {error.strerror}", file=sys.stderr)
+        return 2
     except KeyboardInterrupt:
         return 130

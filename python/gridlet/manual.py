@@ -81,6 +81,12 @@ class Manual:
                 return meanings[it.codes().index(word)] if is_each else plain(it.cells[1])
         return None
 
+    def budget(self, what: str) -> Optional[str]:
+        """What it means that a budget is spent, as in `rounds A1`."""
+        head = "spent " + what.split(" ")[0]
+        found = [it.cells[1] for it in self.entries if it.cells[0].startswith(f"`{head}")]
+        return plain(found[0]) if found else None
+
 
 def _names(code: str, word: str) -> bool:
     """Whether a piece of code begins with this word, in whatever case."""

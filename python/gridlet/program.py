@@ -3,6 +3,7 @@ from __future__ import annotations
 
 import os
 import shutil
+import signal
 import subprocess
 import sys
 import threading
@@ -14,7 +15,7 @@ from .replies import Item, Pairing, Reply
 
 STATUSES = {
     3: "out of memory", 4: "reading failed", 5: "writing failed",
-    6: "the script has more than 16,777,216 bytes"}
+    6: "the commands have more than 16,777,216 bytes"}
 CHECKOUT = Path(__file__).resolve().parents[2]
 Answer = Tuple[Item, Reply]
 
@@ -45,7 +46,10 @@ def ended(status: int) -> str:
 
 
 class Process:
-    """A running program. Commands go in and replies come out, each with its command."""
+    """A running program. Commands go in and replies come out, each with its command.
+
+    A sheet wants no more of it than `ask`, `run`, `version` and `close`.
+    """
 
     def __init__(self, program: Optional[str] = None, words: Sequence[str] = ()) -> None:
         path = find_program(program)
@@ -73,7 +77,7 @@ class Process:
             return None if item.is_silent else self._reply(item)
         except BaseException:
             # A reply that is not read whole would be taken for that of the next command.
-            self._running.kill()
+            self._kill()
             raise
 
     def run(self, items: Iterable[Item], is_end: bool = False) -> List[Answer]:
@@ -89,7 +93,7 @@ class Process:
             return [(it, self._reply(it)) for it in told if not it.is_silent]
         except BaseException:
             # The replies that are left have lost their commands, so the process is of no more use.
-            self._running.kill()
+            self._kill()
             raise
         finally:
             writer.join()
@@ -105,8 +109,15 @@ class Process:
         try:
             return self._running.wait(2)
         except subprocess.TimeoutExpired:
-            self._running.kill()
+            self._kill()
             return self._running.wait()
+
+    def _kill(self) -> None:
+        """Ends the program with all that it started, as where it is a shell's script."""
+        try:
+            os.killpg(self._running.pid, signal.SIGKILL)
+        except OSError:
+            pass
 
     def _write(self, data: bytes, is_end: bool = False) -> None:
         view = memoryview(data)

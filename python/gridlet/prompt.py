@@ -7,9 +7,10 @@ from typing import Callable, Dict, List, Optional
 
 from . import terminal
 from .addresses import Range, read_range
-from .errors import BadInput, GridletError, ProgramFailed, Refused
+from .errors import BadInput, GridletError, ProgramFailed, Refused, Spent
 from .manual import Manual
 from .program import Answer
+from .reasons import lines
 from .replies import Item, is_edit
 from .saving import save_sheet
 from .scripts import head_comments, read_bytes
@@ -18,6 +19,7 @@ from .snapshot import used
 
 OWN = """view [RANGE]      the grid of a range, or of all that is in the sheet
 import A1 FILE    the values of a CSV file, as the command import has them
+reasons A1        the cells that a cell rests on, as a tree
 save [FILE]       writes the sheet, once it reads back equal
 help [WORD]       what the language's page says of a command, a function or an error
 quit              leaves"""
@@ -35,8 +37,8 @@ class Prompt:
         self._refused = sum(reply.refusal is not None for _, reply in answers or [])
         self._before = read_bytes(file) if file and file.exists() else None
         self._own: Dict[str, Callable[[str], None]] = {
-            "help": self.help, "save": self.save, "view": self.view, "quit": self.leave,
-            "exit": self.leave}
+            "help": self.help, "reasons": self.tell_reasons, "save": self.save,
+            "view": self.view, "quit": self.leave, "exit": self.leave}
 
     def answer(self, line: str) -> None:
         """Does what a line says, and prints what there is to say."""
@@ -51,7 +53,9 @@ class Prompt:
             else:
                 self.command(Item(line.lstrip().encode("utf-8", "replace")))
         except Refused as error:
-            self.complain(error.word)
+            self.complain(f"error {error.word}", self.manual.refusal(error.word))
+        except Spent as error:
+            self.complain(f"spent {error.what}", self.manual.budget(error.what))
         except ProgramFailed as error:
             print(error)
             self.is_over, self.status = True, 2
@@ -70,20 +74,15 @@ class Prompt:
     def command(self, item: Item) -> None:
         """A command of the language."""
         reply = self.sheet.ask(item)
-        if reply.refusal is not None:
-            self.complain(reply.refusal)
-            return
-        for line in reply.lines:
-            bad = line.startswith(("#", "spent "))
-            print(terminal.painted(line, "bad", self.is_coloured and bad))
+        for line in reply.accepted(item):
+            print(terminal.painted(line, "bad", self.is_coloured and line.startswith("#")))
         if is_edit(item, reply):
             self._edits.append(item)
             self.is_changed = True
 
-    def complain(self, word: str) -> None:
-        """The word of a refused command, and what it means."""
-        meaning = self.manual.refusal(word)
-        said = terminal.painted(f"error {word}", "bad", self.is_coloured)
+    def complain(self, text: str, meaning: Optional[str]) -> None:
+        """What a command came to that was refused or spent a budget, and what that means."""
+        said = terminal.painted(text, "bad", self.is_coloured)
         print(f"{said}: {meaning}" if meaning else said)
 
     def view(self, rest: str) -> None:
@@ -95,8 +94,14 @@ class Prompt:
             print("the sheet is empty")
             return
         covers = {at: it for it in self.sheet.oracle() if it.permitted for at in it.area.cells()}
-        lines = terminal.grid(found, self.sheet.view(found), covers, self.is_coloured)
-        print("\n".join(lines))
+        shown = terminal.grid(found, self.sheet.view(found), covers, self.is_coloured)
+        print("\n".join(shown))
+
+    def tell_reasons(self, rest: str) -> None:
+        """The tree of what a cell rests on."""
+        found = self.sheet.reasons(rest)
+        print("\n".join(lines(found, self.sheet.list())) if found
+              else f"{rest} has no formula, and no array covers it")
 
     def take_file(self, rest: str) -> None:
         """An import, whose payload is a file."""

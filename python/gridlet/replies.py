@@ -17,6 +17,8 @@ PAYLOAD_LIMIT = 1_048_576
 
 _SAYS_OK = frozenset((
     b"set", b"clear", b"import", b"undo", b"redo", b"site", b"edit", b"gridlet"))
+_WIDEST = 24
+_CELL = re.compile(r'"(?:[^"\\]|\\.)*"|[^" ]+')
 _IMPORT = re.compile(rb"import [^ ]+ (0|[1-9][0-9]{0,6})")
 
 
@@ -181,6 +183,25 @@ def read_oracle(lines: Tuple[str, ...]) -> List[Array]:
         rows, columns = size.split("x")
         found.append(Array(address_of(root), int(rows), int(columns), permit == "permitted"))
     return found
+
+
+def read_row(line: str) -> List[Optional[str]]:
+    """The shown texts of a row of `view`, None for each that the table cuts.
+
+    A text may hold spaces, so it is read to its closing quote. One that is cut has none within
+    its first characters, and so none that is near enough.
+    """
+    made: List[Optional[str]] = []
+    at = 0
+    while at < len(line):
+        if line[at] == " ":
+            at += 1
+            continue
+        found = _CELL.match(line, at)
+        is_cut = found is None or found.end() - at > _WIDEST
+        made.append(None if found is None or is_cut else found[0])
+        at = at + _WIDEST if found is None or is_cut else found.end()
+    return made
 
 
 def read_permit(line: str) -> Permit:

@@ -51,7 +51,7 @@ def write(script: bytes, file: Path, before: Optional[bytes] = None) -> None:
         with os.fdopen(handle, "wb") as output:
             output.write(script)
             output.flush()
-            os.fchmod(output.fileno(), _mode(file))
+            _make_alike(output.fileno(), file)
             os.fsync(output.fileno())
         if Path(name).read_bytes() != script:
             raise BadInput(f"{file}: what was written does not read back, so nothing was saved")
@@ -74,14 +74,21 @@ def save_sheet(sheet: Sheet, file: Path, comments: Iterable[bytes] = (),
     write(script, file, before)
 
 
-def _mode(file: Path) -> int:
-    """The permissions of the old file, or those that a new one gets."""
+def _make_alike(handle: int, file: Path) -> None:
+    """Gives a new file the permissions and the owner of the old one, or those of any new one."""
     try:
-        return stat.S_IMODE(file.stat().st_mode)
+        old = file.stat()
     except OSError:
         mask = os.umask(0)
         os.umask(mask)
-        return 0o666 & ~mask
+        os.fchmod(handle, 0o666 & ~mask)
+        return
+    try:
+        os.fchown(handle, old.st_uid, old.st_gid)
+    except OSError:
+        # Only the system's owner may give a file away; then it belongs to whoever saves.
+        pass
+    os.fchmod(handle, stat.S_IMODE(old.st_mode))
 
 
 def _settle(folder: Path) -> None:

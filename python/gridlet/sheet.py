@@ -9,11 +9,15 @@ from . import replies, values
 from .addresses import Address, Range, read_range
 from .errors import BadInput
 from .program import Answer, Process
+from .reasons import Reason, reasons
 from .replies import Item, Reply
 from .scripts import read_bytes, whole_items
 from .values import Array, Edit, Explanation, Forecast, Permit, Rows, Value
 
+# So many cells one `view` shows at most.
+PART = 10_000
 Where = Union[str, Address]
+Constant = Union[None, int, bool, str]
 Line = Union[str, bytes, Item]
 
 
@@ -27,14 +31,16 @@ class Sheet:
     def __init__(self, file: Union[None, str, Path] = None, *, program: Optional[str] = None,
                  order: Optional[str] = None, version: int = 1) -> None:
         self.program = program
-        self._process = Process(program, ["--order", order] if order else [])
+        self._words = ["--order", order] if order else []
+        self._process = Process(program, self._words)
         self.site_number: Optional[int] = None
         try:
             if version == 2 and file is None:
                 self.tell("gridlet 2")
             if file is not None:
                 for item, reply in self.load(file):
-                    reply.accepted(item)
+                    if reply.refusal is not None:
+                        reply.accepted(item)
         except BaseException:
             self.close()
             raise
@@ -87,18 +93,17 @@ class Sheet:
         item = _item(line)
         return self.ask(item).accepted(item)
 
-    def set(self, address: Where, value: Union[int, bool, str]) -> None:
+    def set(self, address: Where, value: Constant) -> None:
         """A text that begins with `=` is a formula; else the value's type says what it is."""
-        self.tell(f"set {address} {values.content(value)}")
+        self.tell(_setting(address, value))
 
     def enter(self, address: Where, text: str) -> None:
         """The content of a text as the language reads it, so that `12` is an integer."""
         self.tell(f"set {address} {text}")
 
-    def set_all(self, contents: Mapping[str, Union[int, bool, str]]) -> None:
-        """Many contents at once. One that is refused leaves those before it set."""
-        lines = [f"set {at} {values.content(value)}" for at, value in contents.items()]
-        for item, reply in self.run(lines):
+    def set_all(self, contents: Mapping[str, Constant]) -> None:
+        """Many contents at once. One that is refused leaves all others set."""
+        for item, reply in self.run([_setting(*it) for it in contents.items()]):
             reply.accepted(item)
 
     def clear(self, where: Union[Where, Range]) -> None:
@@ -110,13 +115,20 @@ class Sheet:
         return values.read_value(self.tell(f"show {address}")[0])
 
     def view(self, where: Union[str, Range]) -> Rows:
-        """What the cells of a range show, row by row, and whole: `view` itself cuts texts."""
+        """What the cells of a range show, row by row, and whole: the table itself cuts texts."""
         found = read_range(where) if isinstance(where, str) else where
         if found is None:
             raise BadInput(f"{where}: no range such as A1:B3")
-        answers = self.run(f"show {address}" for address in found.cells())
-        shown = [values.read_value(reply.accepted(item)[0]) for item, reply in answers]
-        return [shown[at:at + found.columns] for at in range(0, len(shown), found.columns)]
+        return [row for part in found.parts(PART) for row in self._rows(part)]
+
+    def _rows(self, part: Range) -> Rows:
+        shown = [replies.read_row(it) for it in self.tell(f"view {part}")]
+        cut = [at for at, text in zip(part.cells(), (it for row in shown for it in row))
+               if text is None]
+        whole = iter([reply.accepted(item)[0]
+                      for item, reply in self.run(f"show {it}" for it in cut)])
+        return [[values.read_value(next(whole) if it is None else it) for it in row]
+                for row in shown]
 
     def frame(self, where: Union[str, Range], has_names: bool = True) -> Any:
         """A range as a `pandas.DataFrame`, where pandas is installed; its first row has names."""
@@ -154,6 +166,10 @@ class Sheet:
         """From what it follows that a cell shows what it shows."""
         return replies.read_explanation(self.tell(f"explain {address}"))
 
+    def reasons(self, address: Where) -> Optional[Reason]:
+        """The same as a tree of the cells that rest on each other."""
+        return reasons(self, address)
+
     def flow(self) -> Forecast:
         """Whether the sheet surely settles, by its formulas alone."""
         return replies.read_forecast(self.tell("flow")[0])
@@ -188,9 +204,25 @@ class Sheet:
         from .saving import save_sheet
         save_sheet(self, Path(file))
 
+    def renew(self) -> None:
+        """Begins another program with the same sheet: one takes 16,777,216 bytes of commands.
+
+        What could be undone is lost.
+        """
+        from .saving import script_of
+        script, before = script_of(self), self._process
+        self._process = Process(self.program, self._words)
+        before.close()
+        for item, reply in self.load_script(script, ""):
+            reply.accepted(item)
+
     def _note_site(self, item: Item, reply: Reply) -> None:
         if item.text.startswith(b"site ") and reply.lines == ("ok",):
             self.site_number = int(item.text[5:])
+
+
+def _setting(address: Where, value: Constant) -> str:
+    return f"clear {address}" if value is None else f"set {address} {values.content(value)}"
 
 
 def _item(line: Line) -> Item:

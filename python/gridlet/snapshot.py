@@ -46,10 +46,10 @@ class Snapshot:
                 for at in array.area.cells()}
 
 
-def take(sheet: Sheet, range: Optional[Range] = None) -> Snapshot:
+def take(sheet: Sheet, where: Optional[Range] = None) -> Snapshot:
     """A snapshot of a range, or of the box of all that is in the sheet."""
     sheet.calc()
-    found = range or used(sheet) or Range(Address(1, 1), Address(1, 1))
+    found = where or used(sheet) or Range(Address(1, 1), Address(1, 1))
     arrays = sheet.oracle()
     permits = {it.root: str(sheet.why(it.root)) for it in arrays}
     return Snapshot(found, sheet.view(found), sheet.list(), arrays, permits, str(sheet.flow()))

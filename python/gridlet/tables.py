@@ -16,7 +16,9 @@ TEXT_LIMIT = 4096
 LEAST, GREATEST = -2 ** 63, 2 ** 63 - 1
 INTEGER = re.compile(r"-?(0|[1-9][0-9]*)")
 AMOUNT = re.compile(r"([-+]?)([0-9]+|[0-9]{1,3}(?:,[0-9]{3})+|(?=\.))(?:\.([0-9]{0,2}))?")
-DECIMAL = re.compile(r"[-+]?[0-9][0-9,]*\.[0-9]+|[-+]?\.[0-9]+")
+# Whoever writes this means a number, which the language does not read as one.
+LOOKS_LIKE_A_NUMBER = re.compile(r"\s*[-+]?(?:[0-9][0-9,]*(?:\.[0-9]*)?|\.[0-9]+)%?\s*")
+SWAPPED = str.maketrans(",.", ".,")
 
 
 @dataclass(frozen=True)
@@ -35,6 +37,7 @@ class Reader:
     cents: Set[int]
     names: List[str]
     misfits: List[Misfit]
+    has_decimal_comma: bool = False
 
     def content(self, line: int, column: int, field: str, is_head: bool) -> Optional[str]:
         """The content of a field; None where it is empty or cannot be held."""
@@ -48,17 +51,18 @@ class Reader:
             return self._cents(line, column, field, is_head)
         if field in ("TRUE", "FALSE"):
             return field
-        if INTEGER.fullmatch(field) and field != "-0":
+        if INTEGER.fullmatch(field):
             if LEAST <= int(field) <= GREATEST:
                 return field
             self._lost(line, column, f"{brief(field)} is outside 64 bits and stays a text")
-        elif DECIMAL.fullmatch(field):
+        elif LOOKS_LIKE_A_NUMBER.fullmatch(field) and not field.isdigit():
             self._lost(line, column, f"{brief(field)} stays a text, which sums pass over; "
                                      f"--cents makes it whole, --text says that it is one")
         return literal(field)
 
     def _cents(self, line: int, column: int, field: str, is_head: bool) -> str:
-        found = AMOUNT.fullmatch(field.strip())
+        text = field.translate(SWAPPED) if self.has_decimal_comma else field
+        found = AMOUNT.fullmatch(text.strip())
         if found and (found[2] or found[3]):
             whole, part = found[2].replace(",", "") or "0", (found[3] or "").ljust(2, "0")
             number = int(whole + part)

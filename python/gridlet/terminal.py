@@ -4,6 +4,7 @@ from __future__ import annotations
 import os
 import shutil
 import sys
+import unicodedata
 from typing import Dict, List
 
 from .addresses import Address, Range, letters
@@ -35,6 +36,14 @@ def face(value: Value) -> str:
     return text if len(text) <= WIDEST else text[:WIDEST - 1] + "~"
 
 
+def width_of(text: str) -> int:
+    """How many places a text takes in a terminal."""
+    if text.isascii():
+        return len(text)
+    return sum(0 if unicodedata.combining(it) else 2 if unicodedata.east_asian_width(it) in "WF"
+               else 1 for it in text)
+
+
 def colour_of(value: Value, is_spilled: bool) -> str:
     """The colour of a cell, empty where it has none."""
     if isinstance(value, CellError):
@@ -51,7 +60,7 @@ def grid(found: Range, rows: Rows, covers: Dict[Address, Array],
     edge = len(str(found.last.row))
     columns, names, sizes = list(zip(*rows)), [], []
     for number, column in enumerate(columns, found.first.column):
-        size = max(len(letters(number)), *(len(face(it)) for it in column))
+        size = max(len(letters(number)), *(width_of(face(it)) for it in column))
         if names and edge + sum(sizes) + 2 * len(sizes) + 2 + size > width:
             break
         names.append(letters(number))
@@ -71,6 +80,7 @@ def grid(found: Range, rows: Rows, covers: Dict[Address, Array],
 
 def _cell(value: Value, size: int, is_spilled: bool, is_coloured: bool) -> str:
     text = face(value)
-    text = text.ljust(size) if isinstance(value, str) else text.rjust(size)
+    room = " " * (size - width_of(text))
+    text = text + room if isinstance(value, str) else room + text
     colour = colour_of(value, is_spilled)
     return painted(text, colour, is_coloured) if colour else text

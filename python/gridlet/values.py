@@ -3,6 +3,7 @@ from __future__ import annotations
 
 import re
 from dataclasses import dataclass
+from operator import index
 from typing import List, Optional, Tuple, Union
 
 from .addresses import Address, Range, area
@@ -134,8 +135,8 @@ def content(value: object) -> str:
     """The text of a content: a formula where a text begins with `=`, else by the value's type."""
     if isinstance(value, bool):
         return "TRUE" if value else "FALSE"
-    if isinstance(value, int):
-        return str(value)
     if isinstance(value, str):
         return value if value.startswith("=") else literal(value)
+    if hasattr(value, "__index__"):
+        return str(index(value))  # of other libraries' integers too
     raise TypeError(f"a cell holds an int, a bool or a str, and no {type(value).__name__}")

@@ -1,7 +1,12 @@
 """`gridlet-sheet check`, and the answers to what goes wrong silently."""
 from __future__ import annotations
 
-from .support import EXAMPLES, Folder, front, front_alone
+import os
+import subprocess
+import sys
+import unittest
+
+from .support import EXAMPLES, FRONT, Folder, environment, front, front_alone
 
 
 class Check(Folder):
@@ -162,11 +167,15 @@ class BadInput(Folder):
         self.assertEqual(front_alone("--version").status, 0)
         self.assertEqual(front_alone("show", "/nowhere").status, 2)
 
-    def test_output_that_nobody_reads(self) -> None:
-        import subprocess
-        import sys
+    @unittest.skipUnless(os.path.exists("/dev/full"), "there is no /dev/full")
+    def test_output_that_cannot_be_written(self) -> None:
+        file = self.file("s", "set A1 1")
+        line = f"'{sys.executable}' '{FRONT}' show '{file}' > /dev/full"
+        ran = subprocess.run(["sh", "-c", line], capture_output=True, env=environment())
+        self.assertEqual((ran.returncode, ran.stderr),
+                         (2, b"gridlet-sheet: standard output: No space left on device\n"))
 
-        from .support import FRONT, environment
+    def test_output_that_nobody_reads(self) -> None:
         file = self.file("s", "set A1 =SEQUENCE(5000,2)")
         line = f"'{sys.executable}' '{FRONT}' show '{file}' --csv | head -1"
         ran = subprocess.run(["sh", "-c", line], capture_output=True, env=environment())

@@ -1,6 +1,7 @@
 """The client: a sheet whose commands are methods."""
 from __future__ import annotations
 
+import random
 import sys
 import unittest
 from types import ModuleType
@@ -11,9 +12,10 @@ from gridlet import (
     Address, BadInput, CellError, Edit, Forecast, Note, ProgramFailed, ProgramNotFound, Range,
     Refused, Sheet, Spent)
 
+from gridlet.reasons import reasons
 from gridlet.replies import items
 
-from .support import EXAMPLES, Folder
+from .support import EXAMPLES, PROGRAM, Folder
 
 
 class Methods(unittest.TestCase):
@@ -29,6 +31,8 @@ class Methods(unittest.TestCase):
                          [2, True, "007", 6, CellError("#DIV/0!"), None])
         self.sheet.enter("A3", "007")
         self.assertEqual(self.sheet.show(Address(3, 1)), 7)
+        self.sheet.set("A1", None)
+        self.assertIsNone(self.sheet.show("A1"))
         self.sheet.clear("A1:A5")
         self.assertEqual(self.sheet.list(), {})
 
@@ -65,6 +69,31 @@ class Methods(unittest.TestCase):
         kinds = [(it.kind, it.place, it.outcome) for it in self.sheet.explain("C1").notes]
         self.assertEqual(kinds, [("copy", "B1", "36"), ("settle", "A1:B1", "0"),
                                  ("cell", "C1", "36")])
+
+    def tree(self, reason: Any) -> Any:
+        """A tree as its places."""
+        return (reason.note.place, *map(self.tree, reason.rests_on))
+
+    def test_reasons(self) -> None:
+        self.sheet.set_all({"A1": "=1+1", "B1": "=A1*2", "B2": "=A1*3", "C1": "=B1+B2+A1",
+                            "D1": "=SEQUENCE(2,1)*A1", "E1": "=D2", "F1": "=F2", "F2": "=F1"})
+        shared = ("A1",)
+        self.assertEqual(self.tree(self.sheet.reasons("C1")),
+                         ("C1", ("B1", shared), ("B2", shared)))
+        self.assertEqual(self.tree(self.sheet.reasons("E1")), ("E1", ("D1", shared)))
+        self.assertEqual(self.tree(self.sheet.reasons("D2")), ("D1", shared))
+        self.assertEqual(self.tree(self.sheet.reasons("F1")), ("F1", ("F2",)))
+        self.assertIsNone(self.sheet.reasons("Z1"))
+
+    def test_reasons_of_copies(self) -> None:
+        self.sheet.set_all({"A1": 3, "B1": "=A1*A1", "C1": "=VIEW(UPDATE(SHEET(A1:B1),A1,6),B1)",
+                            "D1": "=C1+B1"})
+        found = self.sheet.reasons("D1")
+        assert found
+        self.assertEqual([it.note.place for it in found.rests_on], ["C1", "B1"])
+        self.assertEqual([it.note.kind for it in found.rests_on[0].rests_on], ["copy", "settle"])
+        with self.assertRaisesRegex(BadInput, "rests on 3 cells, more than 2"):
+            reasons(self.sheet, "D1", 2)
 
     def test_import_undo_and_redo(self) -> None:
         self.sheet.import_csv("B2", "part,é\nnut,5\n")
@@ -187,6 +216,14 @@ class Faults(Folder):
         with Sheet(program=program) as sheet, self.assertRaisesRegex(ProgramFailed, "signal 9"):
             sheet.run(["list", *(f"set A{it} 1" for it in range(1, 9000))])
 
+    def test_a_program_within_a_script(self) -> None:
+        program = self.program("within", f"#!/bin/sh\n{PROGRAM} \"$@\"\n")
+        with Sheet(program=program) as sheet:
+            sheet.set("A1", 1)
+            self.assertEqual(sheet.show("A1"), 1)
+            with self.assertRaises(ProgramFailed):
+                sheet.run(["quit", *["view A1:B5000"] * 30, *["set A1 " + "x" * 900] * 900])
+
     def test_a_program_that_echoes(self) -> None:
         with Sheet(program="/bin/cat") as sheet, self.assertRaises(ProgramFailed):
             sheet.set("A1", 1)
@@ -209,6 +246,41 @@ class Much(unittest.TestCase):
             answers = sheet.run(["view A1:B5000"] * 20)
             self.assertEqual({len(reply.lines) for _, reply in answers}, {5000})
             self.assertEqual(sheet.view("A1:B5000")[-1], [9999, 10000])
+            rows = sheet.view("A1:T5001")
+            self.assertEqual((len(rows), rows[4999][:3], rows[5000][:1]),
+                             (5001, [9999, 10000, None], [None]))
+
+    def test_views_are_what_cells_show(self) -> None:
+        chance = random.Random(5)
+        pieces = ('"', "\\", " ", "~", "a", "é", "\n", "  ", "x" * 9, "#REF!", '" "', "日")
+        with Sheet() as sheet:
+            for _ in range(12):
+                for at in (f"{column}{row}" for column in "ABCD" for row in range(1, 6)):
+                    text = "".join(chance.choice(pieces) for _ in range(chance.randrange(24)))
+                    sheet.set(at, chance.choice((
+                        text, text, text, None, 7, -2 ** 63, False, "=1/0", "=SHEET(AA1000:AZ1200)")))
+                shown = [sheet.show(f"{column}{row}") for row in range(1, 6) for column in "ABCD"]
+                self.assertEqual([it for row in sheet.view("A1:D5") for it in row], shown)
+
+    def test_more_commands_than_one_program_takes(self) -> None:
+        with Sheet(version=2) as sheet:
+            sheet.set("A1", "=IF(SEQUENCE(1,2)=1,1,2)")
+            lines = ["set B9 " + "x" * 4000] * 2100
+            sheet.run(lines)
+            sheet.renew()
+            sheet.run(lines)
+            self.assertEqual((sheet.version, sheet.view("A1:B1")), (2, [[1, 2]]))
+            with self.assertRaisesRegex(ProgramFailed, "more than 16,777,216 bytes"):
+                sheet.run(lines)
+
+    def test_renewed_replicas(self) -> None:
+        with Sheet() as sheet:
+            sheet.site(3)
+            sheet.set_all({"A1": 1, "B1": "x"})
+            sheet.clear("A1")
+            before = sheet.export()
+            sheet.renew()
+            self.assertEqual((sheet.site_number, sheet.export()), (3, before))
 
     def test_many_pairs_one_by_one(self) -> None:
         with Sheet() as sheet:
@@ -224,14 +296,9 @@ def cells(count: int) -> Any:
 
 
 class Examples(unittest.TestCase):
-    """Each example opens, but the one that is meant to spend a budget."""
+    """Each example opens, also the one that is meant to spend a budget."""
 
     def test_all(self) -> None:
         for file in sorted(EXAMPLES.glob("*.gridlet")):
-            with self.subTest(file=file.name):
-                if file.stem == "recursion":
-                    with self.assertRaises(Spent):
-                        Sheet(file)
-                else:
-                    with Sheet(file) as sheet:
-                        self.assertTrue(sheet.list())
+            with self.subTest(file=file.name), Sheet(file) as sheet:
+                self.assertTrue(sheet.list())

@@ -31,7 +31,14 @@ class Import(Folder):
 
     def test_leading_zeros_stay(self) -> None:
         self.assertEqual(self.contents(self.script(b"007,0,-0,00\n")),
-                         ['A1 "007"', "B1 0", 'C1 "-0"', 'D1 "00"'])
+                         ['A1 "007"', "B1 0", "C1 -0", 'D1 "00"'])
+
+    def test_texts_that_look_like_numbers(self) -> None:
+        for field in ('"1,200"', "+5", " 12", "12 ", "5%", ".5", "5.", '"12,50"', "-007"):
+            ran = self.script(field.encode() + b"\n")
+            self.complains(ran, 1, "f.csv:1: column 1", "stays a text, which sums pass over")
+        ran = self.script(b"2024-01-31,1.2.3,12:30,A-7,5 kg,,-\n")
+        self.assertEqual((ran.status, ran.complaints), (0, ""))
 
     def test_decimals_are_named(self) -> None:
         ran = self.script(b"amount\n12.50\n3\n4.25\n7\n")
@@ -46,6 +53,12 @@ class Import(Folder):
         self.assertEqual((ran.status, ran.complaints), (0, ""))
         self.assertEqual([it.split(" ")[1] for it in self.contents(ran) if it[0] == "B"],
                          ['"amount"', "1250", "300", "-420", "120405", "50", "-5", "100", "500"])
+
+    def test_a_decimal_comma(self) -> None:
+        ran = self.script(b"amount\n12,50\n1.204,05\n3\n", "--cents", "amount",
+                          "--decimal-comma", "--delimiter", ";")
+        self.assertEqual((ran.status, [it.split(" ")[2] for it in ran.lines[1:]]),
+                         (0, ["1250", "120405", "300"]))
 
     def test_amounts_that_do_not_fit(self) -> None:
         ran = self.script(b'amount\n1.234\nn/a\n1,5\n".","-"\n92233720368547758.08\n1.2.3\n',

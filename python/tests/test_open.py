@@ -38,6 +38,12 @@ class Lines(Folder):
             "number isn't digits without a leading zero, or the site of site is above 65,535",
             "error name: an unknown function or variable"])
 
+    def test_a_budget_that_is_spent(self) -> None:
+        meaning = ("the number of formulas and 8 more rounds; A1 is the first cell at which the "
+                   "last two rounds differ")
+        self.assertEqual(self.told("set A1 =IF(C1=0,SEQUENCE(1,3),5)", "show A1", "view"), [
+            "ok", f"spent rounds A1: {meaning}", f"spent rounds A1: {meaning}"])
+
     def test_the_grid(self) -> None:
         self.assertEqual(self.told("set A1 rent", "set B1 =SEQUENCE(2,1)*900", "view", "view B2:C2",
                                    "view B2:A1")[2:], [
@@ -49,6 +55,14 @@ class Lines(Folder):
 
     def test_spaces_behind_a_text_stay(self) -> None:
         self.assertEqual(self.told("set A1 x  ", "get A1"), ["ok", '"x  "'])
+
+    def test_reasons(self) -> None:
+        lines = ("set A1 12", "set A2 twenty", "set B1 =A1*3", "set B2 =A2*4",
+                 "set B3 =IFERROR(B2,0)", "set B4 =B1+B3", "reasons B4", "reasons A1", "reasons A0")
+        self.assertEqual(self.told(*lines)[6:], [
+            "B4 36  =B1+B3", "├ B1 36  =A1*3", "└ B3 0  =IFERROR(B2,0)", "  └ B2 #VALUE!  =A2*4",
+            "A1 has no formula, and no array covers it",
+            "error address: an address is none"])
 
     def test_import_takes_a_file(self) -> None:
         file = self.file("f.csv", "1,2")
@@ -192,6 +206,12 @@ class Terminal(Folder):
         self.assertIn("\x1b[36m2\x1b[0m", lines[2])
         self.assertEqual(grid(found, rows, covers, False, 16)[-1],
                          "(1 more columns, up to C, are wider than this terminal)")
+
+    def test_wide_characters(self) -> None:
+        found = read_range("A1:B2")
+        assert found
+        self.assertEqual(grid(found, [["日本", 1], ["e\u0301x", 2]], {}, False, 80), [
+            "    A    B", "1  日本  1", "2  e\u0301x    2"])
 
     def test_watch(self) -> None:
         file = self.file("s", "set A1 1")

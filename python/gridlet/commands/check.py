@@ -2,7 +2,6 @@
 from __future__ import annotations
 
 import argparse
-import re
 from dataclasses import dataclass
 from typing import Any, Dict, Iterator, List
 
@@ -12,9 +11,8 @@ from ..program import Answer
 from ..replies import Item, is_edit, items, place_set
 from ..scripts import read_bytes
 from ..sheet import Sheet
+from ..tables import LOOKS_LIKE_A_NUMBER
 from ..values import CellError, read_value
-
-LOOKS_LIKE_A_NUMBER = re.compile(r"\s*[-+]?\d[\d,]*(\.\d+)?%?\s*")
 
 
 @dataclass(frozen=True)

@@ -26,6 +26,8 @@ def add_to(parts: Any) -> None:
     it.add_argument("--cents", metavar="COL", action="append", default=[],
                     help="a column of amounts with at most two decimals, made whole cents")
     it.add_argument("--delimiter", metavar="C", help="what parts the fields (default: a comma)")
+    it.add_argument("--decimal-comma", action="store_true",
+                    help="amounts are written as 1.204,50")
     it.add_argument("--at", metavar="ADDRESS", default="A1", help="where the first field goes")
     it.add_argument("--clear", action="store_true",
                     help="first clear the columns of the file down to the last row")
@@ -44,7 +46,8 @@ def run(arguments: argparse.Namespace) -> int:
     told = list(records)
     names = told[0][1] if told else []
     reader = Reader(*({column_number(it, names, at) for it in wanted}
-                      for wanted in (arguments.text, arguments.cents)), names, [])
+                      for wanted in (arguments.text, arguments.cents)), names, [],
+                    arguments.decimal_comma)
     lines = list(commands(told, reader, at))
     if arguments.clear and told:
         print(f"clear {room(at, max(len(fields) for _, fields in told) or 1)}")
