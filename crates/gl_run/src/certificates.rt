@@ -3,7 +3,7 @@ ghost use Rattle.std.specs.Prelude.{◌≡◌, ◌++◌, codes, map, IfOk, OnOk}
 ghost use Rattle.std.specs.{Fmt.decimal, String.string_bytes};
 ghost use Rattle.gl_calculus.specs.Evaluation.Key as K;
 ghost use Rattle.gl_language.specs.Texts.Text as text;
-ghost use Rattle.gl_protocol.specs.Replies.Explanations.{key_text, outcome_text, verdict_text};
+ghost use Rattle.gl_protocol.specs.Replies.Explanations.{key_text, outcome_text};
 ghost use Rattle.gl_protocol.specs.Replies.Explanations.{note_line};
 ghost use Rattle.gl_protocol.specs.Replies.Explanations.{loop_line, explanation_text};
 ghost use Rattle.gl_protocol.specs.Replies.Tables.{line};
@@ -11,7 +11,7 @@ ghost use Rattle.gl_cert.specs.{Claims.claim_trees, View.cert_tree, View.verdict
 ghost use Rattle.gl_demand.specs.View.{key_tree, outcome_tree};
 ghost use Rattle.gl_value.specs.View.{frame_tree, scalar_tree, sheet_tree, value_tree};
 ghost use Rattle.gl_value.specs.Made.{shown_tree};
-ghost use Rattle.gl_run.specs.Replies.{note_lines, loop_lines};
+ghost use Rattle.gl_run.specs.Replies.{note_lines, loop_lines, verdict_text};
 
 use gl_ast::{put, put_address, put_number, put_range};
 use gl_cert::{Cert, Verdict};
@@ -25,7 +25,7 @@ use std::alloc::Global;
 /// and the verdict.
 pub(crate) fn explanation(alloc: Global, cert: &Cert, verdict: Verdict) -> Result<Vec<u8>, NoMemory>
     ensures { IfOk result (λ reply.
-        reply.items ≡ explanation_text (verdict_tree verdict) (cert_tree cert.now)) }
+        reply.items ≡ explanation_text (verdict_text (verdict_tree verdict)) (cert_tree cert.now)) }
 {
     let mut out = String::new(alloc);
     put_counts(alloc, &mut out, cert.notes.len(), cert.loops.len())?;

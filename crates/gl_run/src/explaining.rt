@@ -13,7 +13,7 @@ ghost use Rattle.gl_calc.specs.View.{sheet_of};
 ghost use Rattle.gl_cells.specs.Sheet.{sheet};
 ghost use Rattle.gl_cert.specs.View.{cert_tree};
 ghost use Rattle.gl_demand.specs.Sound.{AreSoundKeys};
-ghost use Rattle.gl_run.specs.Replies.{Holds, RepliesBy, IsExplanation};
+ghost use Rattle.gl_run.specs.Replies.{Holds, RepliesBy, IsExplanation, verdict_text};
 ghost use Rattle.gl_protocol.specs.Run.Spends.{Explaining};
 
 use crate::certificates::explanation;
@@ -93,7 +93,8 @@ fn explain_checked<L: Watch>(
     ensures reply { IfOk result (λ reply.
         reply.items
         ≡ explanation_text
-        (verdict (world_of evaluator.now) a (cert_tree cert.now)) (cert_tree cert.now)) }
+        (verdict_text (verdict (world_of evaluator.now) a (cert_tree cert.now)))
+        (cert_tree cert.now)) }
     ensures later { steps.old ≤ steps.new }
     ensures steps { steps.new ≤ steps.old
         + length (cert_tree cert.now).notes + length (cert_tree cert.now).loops }

@@ -8,8 +8,7 @@ use Rattle.gl_calculus.specs.Evaluation.Key.{Key, Cell, Settle, Outcome}
 use Rattle.gl_calculus.specs.Calculation.Calculation.{Cycle}
 use Rattle.gl_calculus.specs.Grid.Notation.{address_text}
 use Rattle.gl_language.specs.Texts.Text.{Bytes, range_text, size_text, scalar_text, shown_text}
-use Rattle.gl_calculus.specs.Explanation.Certificate.{Certificate, Verdict, Accepted, Note, Loop}
-use Rattle.gl_calculus.specs.Explanation.Certificate.{Wrong}
+use Rattle.gl_calculus.specs.Explanation.Certificate.{Certificate}
 use Rattle.gl_calculus.specs.Forecast.{Forecast, Yes, Circle, Unknown}
 use Rattle.gl_protocol.specs.Replies.Tables.{line}
 
@@ -30,24 +29,18 @@ outcome_text (K.Outcome.Value (V.Array z xs)) = size_text z
 outcome_text (K.Outcome.Settled w) = decimal (length w)
 outcome_text (K.Outcome.Abort b) = []
 
-abbrev pub verdict_text : Verdict → Bytes
-verdict_text Accepted = codes "accepted"
-verdict_text (Note i) = codes "note " ++ decimal i
-verdict_text (Loop i) = codes "loop " ++ decimal i
-verdict_text Wrong = codes "wrong"
-
 abbrev pub note_line : Key → Outcome → Bytes
 note_line k o = line (key_text k ++ codes " " ++ outcome_text o)
 
 abbrev pub loop_line : Key → Bytes
 loop_line k = line (key_text k ++ codes " " ++ shown_text Cycle)
 
--- how many notes and loops there are, a line for each, what is shown, and the verdict
-abbrev pub explanation_text : Verdict → Certificate → Bytes
-explanation_text v c =
+-- how many notes and loops there are, a line for each, what is shown, and the word of a verdict
+abbrev pub explanation_text : Bytes → Certificate → Bytes
+explanation_text verdict c =
     line (codes "explain " ++ decimal (length c.notes) ++ codes " " ++ decimal (length c.loops)) ++
     flat_map (λ n. note_line n.0 n.1) c.notes ++ flat_map loop_line c.loops ++
-    line (codes "shown " ++ shown_text c.shown) ++ line (verdict_text v)
+    line (codes "shown " ++ shown_text c.shown) ++ line verdict
 
 -- ---- forecasts
 

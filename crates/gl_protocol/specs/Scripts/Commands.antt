@@ -16,11 +16,11 @@ use Rattle.gl_calculus.specs.Formulas.Formula.{formula_addresses}
 use Rattle.gl_calculus.specs.Grid.Notation.{address_text}
 use Rattle.gl_language.specs.Texts.Text.{Bytes, content_text, shown_text}
 use Rattle.gl_protocol.specs.Replies.Tables.{line, set_text, oracle_text, table_text}
-use Rattle.gl_language.specs.Reading.Token.{digits_value, Decodes, LexFault}
+use Rattle.gl_language.specs.Reading.Token.{digits_value, Decodes}
 use Rattle.gl_language.specs.Reading.Grammar.{Parses, IsParseFault, ParseFault}
 use Rattle.gl_calculus.specs.Edits.Limits.{max_site}
 use Rattle.gl_calculus.specs.Edits.Replicas.{Edit, stamp, is_stamp}
-use Rattle.gl_calculus.specs.Explanation.Certificate.{Certificate, Cert, Explains, verdict}
+use Rattle.gl_calculus.specs.Explanation.Certificate.{Certificate, Cert, Explains}
 use Rattle.gl_protocol.specs.Framing.Pieces.{cut_at, pieces, is_number}
 use Rattle.gl_protocol.specs.Replies.Explanations.{explanation_text}
 use Rattle.gl_calculus.specs.Calculation.Calculation.{SpentKind, Shown, IsShown}
@@ -332,8 +332,9 @@ module _ (records : Bytes → List (List Bytes)) (version : Version) (S : Cells)
     calc : SettledReply w rounds Calculate (line (codes "settled " ++ decimal rounds))
     oracle : SettledReply w rounds ShowOracle (oracle_text w)
     why_so : {a : Addr} → SettledReply w rounds (Why a) (line (why_text (A.why S w a)))
-    explain : {a : Addr} {c : Certificate} → Explains (world version S w) a (Cert c) →
-        SettledReply w rounds (Explain a) (explanation_text (verdict (world version S w) a c) c)
+    -- a check accepts each certificate that explains
+    explain : {a : Addr} {c : Certificate} → Explains (world version S w) a (Cert c)
+        → SettledReply w rounds (Explain a) (explanation_text (codes "accepted") c)
 
   abbrev pub asks_calculation : Request → Bool
   asks_calculation (Show a) = true

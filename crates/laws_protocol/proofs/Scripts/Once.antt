@@ -6,11 +6,11 @@ use Rattle.std.proofs.lemmas.Grind.{common_steps}
 use Rattle.gl_calculus.specs.Grid.Grid.{Addr, addr, Range, extents}
 use Rattle.gl_calculus.specs.Values.Value.{Oracle}
 use Rattle.gl_calculus.specs.Formulas.Formula.{Version, Cells}
-use Rattle.gl_calculus.specs.Calculation.Calculation.{Answer, SpentKind, IsAnswer, Shown, IsShown}
+use Rattle.gl_calculus.specs.Calculation.Calculation.{SpentKind, IsAnswer, Shown, IsShown}
 use Rattle.gl_calculus.specs.Calculation.Calculation as A
 use Rattle.laws_calculus.proofs.Calculus.Proved.{at_most_one_answer, at_most_one_shown}
 use Rattle.gl_language.specs.Texts.Text.{Bytes, shown_text}
-use Rattle.gl_calculus.specs.Explanation.Certificate.{Certificate, Cert, Explains, verdict}
+use Rattle.gl_calculus.specs.Explanation.Certificate.{Certificate, Cert, Explains}
 use Rattle.laws_calculus.proofs.Explanation.Once.{one_explanation}
 use Rattle.laws_calculus.proofs.Forecast.Once.{one_forecast}
 use Rattle.gl_protocol.specs.Framing.Framing.{Item, Line, Import, Long, Truncated}
@@ -89,17 +89,13 @@ module _ (records : Bytes → List (List Bytes)) (version : Version) (S : Cells)
   one_certificate : (w : Oracle) (a : Addr) (c d : Certificate) → Explains (world version S w) a (Cert c) → Explains (world version S w) a (Cert d) → c ≡ d
   one_certificate w a c d h k = same_certificate c d (one_explanation (world version S w) a (Cert c) (Cert d) h k)
 
-  -- the reply that gives a certificate
-  abbrev explanation : Oracle → Addr → Certificate → Bytes
-  explanation w a c = explanation_text (verdict (world version S w) a c) c
-
   one_settled : {w : Oracle} {n : ℕ} {x : Request} {r s : Bytes} → SettledReply records version S w n x r → SettledReply records version S w n x s → r ≡ s
   one_settled {w = w} (C.SettledReply.show {a = a} {x = x} h) (C.SettledReply.show {x = y} k) = ap (λ (z : Shown). line (shown_text z)) (at_most_one_shown (world version S w) a x y h k)
   one_settled (C.SettledReply.view {r = r} h) (C.SettledReply.view k) = ap (table_text (extents r).cols) (one_table h k)
   one_settled C.SettledReply.calc C.SettledReply.calc = refl
   one_settled C.SettledReply.oracle C.SettledReply.oracle = refl
   one_settled C.SettledReply.why_so C.SettledReply.why_so = refl
-  one_settled {w = w} (C.SettledReply.explain {a = a} {c = c} h) (C.SettledReply.explain {c = d} k) = ap (explanation w a) (one_certificate w a c d h k)
+  one_settled {w = w} (C.SettledReply.explain {a = a} {c = c} h) (C.SettledReply.explain {c = d} k) = ap (explanation_text (codes "accepted")) (one_certificate w a c d h k)
 
   same_oracle : (v w : Oracle) (m n : ℕ) → A.Answer.Settled v m ≡ A.Answer.Settled w n → v ≡ w
   same_oracle v w m n h = cc h

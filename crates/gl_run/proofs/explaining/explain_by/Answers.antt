@@ -7,7 +7,8 @@ use Rattle.gl_cert.specs.View.{cert_tree}
 use Rattle.gl_demand.specs.View.{budget_tree}
 use Rattle.gl_calculus.specs.Steps.Walk.{AllowsWalk}
 use Rattle.gl_explain.specs.View.{explained_tree}
-use Rattle.gl_run.specs.Replies.{IsExplanation}
+use Rattle.laws_calculus.proofs.Explanation.Explaining.{walk_accepted}
+use Rattle.gl_run.specs.Replies.{IsExplanation, verdict_text}
 use Rattle.gl_run.proofs.explaining.explain_by.Goals as goal
 use Rattle.gl_demand.specs.Evaluators.{world_of}
 
@@ -34,18 +35,19 @@ returns-in-Ok-Cert g c =
     let k = c.certificate.new.steps in
     let m = c.explain_checked.new.steps in
     let is : explained_tree c.in-Ok-Cert.field-0 ≡ E.Cert t = ap explained_tree c.in-Ok-Cert.field-0-is in
-    let P : Vec ℕ Global → Type 0 = λ reply. reply.items ≡ explanation_text (verdict W a t) t in
+    let P : Vec ℕ Global → Type 0 = λ reply. reply.items ≡ explanation_text (verdict_text (verdict W a t)) t in
     let Q : Vec ℕ Global → Type 0 = λ reply. IsExplanation W a n m reply.items in
+    let explains = subst (Explains W a) is c.in-Ok-Cert.ensures.explained in
     IfOk-weaker c.explain_checked.result P Q
     (λ reply e. (
       record {
         certificate = t;
-        explains = subst (Explains W a) is c.in-Ok-Cert.ensures.explained;
+        explains = explains;
         found = k;
         walk = subst (λ x. AllowsWalk W a x n k) is c.in-Ok-Cert.ensures.steps;
         check = c.explain_checked.ensures.steps;
         later = c.explain_checked.ensures.later;
       },
-      e,
+      e ∙ ap (λ v. explanation_text (verdict_text v) t) (walk_accepted W a t explains),
     ))
     c.explain_checked.ensures.reply
