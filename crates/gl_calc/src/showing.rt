@@ -33,7 +33,8 @@ pub fn shown_at(cells: &Cells, table: &Table, a: Addr) -> Result<Shown, NoMemory
     ensures shown { (version : Version)
         → IsTableOf (world version (sheet cells.now) table.now.oracle) table.now
         → IsUnspent (world version (sheet cells.now) table.now.oracle)
-        → IfOk result (λ x. IsShown (world version (sheet cells.now) table.now.oracle) a (shown_tree x)) }
+        → IfOk result (λ x.
+        IsShown (world version (sheet cells.now) table.now.oracle) a (shown_tree x)) }
     ensures sound { IfOk result (λ x. IsTrue (is_sound_shown (shown_tree x))) }
 {
     match cells.content(a) {

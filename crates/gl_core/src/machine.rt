@@ -139,7 +139,8 @@ impl Core {
             → Member k (map key_tree seeds.items)
             → IsProperKey (sheet cells.now) k }
         requires true_notes { AreTrue same_key
-            (program (world (version_tree version) (sheet cells.now) w.now)) (note_trees (notes_of kept)) }
+            (program (world (version_tree version) (sheet cells.now) w.now))
+            (note_trees (notes_of kept)) }
         requires sound_notes { HaveSoundParts (note_trees (notes_of kept)) }
         ensures state { IfOk result (λ core.
             state_of core ≡ Machine.start (map key_tree seeds.items)) }
@@ -286,16 +287,19 @@ impl Core {
             IsQuiet same_key (program (world (version_tree version) (sheet cells.now) w.now))
             (seeds_of self) (state_of q)) }
         ensures seeds { IfOk result (λ q. seeds_of q ≡ seeds_of self) }
-        ensures stays { IfOk result (λ q. IsFor (world (version_tree version) (sheet cells.now) w.now) q) }
+        ensures stays { IfOk result (λ q.
+            IsFor (world (version_tree version) (sheet cells.now) w.now) q) }
         ensures ordered { IfOk result (λ q.
             AreOrdered [] (notes_in self) → AreOrdered [] (notes_in q)) }
         ensures work { IfErr result (λ e.
             e ≡ CoreFault.Work
             → MoreThan max_demanded
-            (Demanded (program (world (version_tree version) (sheet cells.now) w.now)) (seeds_of self))) }
+            (Demanded (program (world (version_tree version) (sheet cells.now) w.now))
+            (seeds_of self))) }
         ensures no_work { IfOk result (λ q.
             MoreThan max_demanded
-            (Demanded (program (world (version_tree version) (sheet cells.now) w.now)) (seeds_of self))
+            (Demanded (program (world (version_tree version) (sheet cells.now) w.now))
+            (seeds_of self))
             → ⊥) }
         ensures most { IfOk result (λ q.
             let W = world (version_tree version) (sheet cells.now) w.now in

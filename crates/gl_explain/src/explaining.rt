@@ -139,7 +139,8 @@ pub fn certificate<L: Watch>(
     ensures sound { IfOk result (λ x. (c : E.Certificate) → explained_tree x ≡ E.Cert c
         → AreSoundKeys (map (λ n. n.0) c.notes) × AreSoundKeys c.loops) }
     ensures steps { IfOk result (λ x.
-        AllowsWalk (world (version_tree version) (sheet cells.now) w.now) a (explained_tree x) steps.old
+        AllowsWalk (world (version_tree version) (sheet cells.now) w.now) a (explained_tree x)
+        steps.old
         steps.new) }
     ensures later { steps.old ≤ steps.new }
 {

@@ -63,7 +63,8 @@ pub fn read_on<L: Watch>(
 ) -> Result<Reached, NoMemory>
     requires sound { IsTrue (is_sound_key (key_tree key.now)) }
     requires proper { IsProperKey (sheet evaluator.now.cells.now) (key_tree key.now) }
-    requires mark { IsMark (world_of evaluator.now) (claims notes.now) (key_tree key.now) (mark_tree mark) }
+    requires mark { IsMark (world_of evaluator.now) (claims notes.now) (key_tree key.now)
+        (mark_tree mark) }
     ensures found { IfOk result (λ x. reached_tree x ≡ found (noted same_key (claims notes.now))
         (program (world_of evaluator.now) (key_tree key.now))) }
     ensures mark { IfOk result (IsMarked (IsMark (world_of evaluator.now) (claims notes.now)

@@ -105,13 +105,15 @@ pub fn turn<L: Watch>(
 ) -> Result<Turned, NoMemory>
     requires walking { (root : K.Key)
         × (n : ℕ)
-        × IsWalking (world_of evaluator.now) root n steps.old (claims notes.old) (map key_tree stack.old.keys) }
+        × IsWalking (world_of evaluator.now) root n steps.old (claims notes.old) (map key_tree
+        stack.old.keys) }
     requires sound { AreSoundKeys (map key_tree stack.old.keys) }
     requires marks { AreMarks (world_of evaluator.now) (claims notes.old)
         (map key_tree stack.old.keys) (mark_trees marks.old.items) }
     ensures turned { IfOk result (λ t.
         (root : K.Key) (n : ℕ)
-        → IsWalking (world_of evaluator.now) root n steps.old (claims notes.old) (map key_tree stack.old.keys)
+        → IsWalking (world_of evaluator.now) root n steps.old (claims notes.old) (map key_tree
+        stack.old.keys)
         → IsTurned (world_of evaluator.now)
         root n steps.new (claims notes.new) (map key_tree stack.new.keys) t) }
     ensures falls { IfOk result (λ t. t ≡ On → left (claims notes.new) (map key_tree stack.new.keys)

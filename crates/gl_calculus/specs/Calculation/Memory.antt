@@ -63,8 +63,8 @@ IsKeptKey t touched w k = IsKept (differs_in touched t.oracle w) t.notes k
 abbrev pub no_table : Table
 no_table = record { oracle = []; notes = [] }
 
--- What a round begins with, and what was touched since: the table of the round, if there is one, else
--- the one that the round before it in the same calculation made.
+-- What a round begins with, and what was touched since: the table of the round, if there is one,
+-- else the one that the round before it in the same calculation made.
 abbrev pub base : Option Table → (touched : List Addr) → (before : Table) → Table × List Addr
 base (Some t) touched before = (t, touched)
 base None touched before = (before, [])

@@ -44,15 +44,9 @@ abbrev pub IsOutput : (Bytes → List (List Bytes)) → List Item → Bytes → 
 IsOutput records is out =
     (replies : List Bytes) × AreReplies records is replies × (out ≡ flat_map (λ r. r) replies)
 
-pub data End : Type 0 where
-  Done InputLimit : End
-
 -- the input ends or quits within the limit
 abbrev pub is_within_limit : Bytes → Bool
 is_within_limit t = nat_le (length t) max_script || has_quit (ended (take max_script t))
-
-abbrev pub end_of : Bytes → End
-end_of t = if is_within_limit t then Done else InputLimit
 
 -- the items that a run answers
 abbrev pub items_of : Bytes → List Item

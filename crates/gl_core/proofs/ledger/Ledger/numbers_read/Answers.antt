@@ -38,8 +38,8 @@ loop-read-preserved c =
     let s = c.number_read.ensures in
     let before = keys_of (map read_tree (take i rs)) in
     let taken : keys_of (map read_tree (take (i + 1) rs)) ≡ before ++ k ∷ [] =
-        ap (λ t. keys_of (map read_tree t)) (take_next rs i x (item_at rs i x c.read-item.is c.loop-read-test.true))
-        ∙ ap keys_of (map_push read_tree (take i rs) x) ∙ map_push (λ r. r.0) (map read_tree (take i rs)) (read_tree x) in
+    ap (λ t. keys_of (map read_tree t)) (take_next rs i x (item_at rs i x c.read-item.is c.loop-read-test.true))
+    ∙ ap keys_of (map_push read_tree (take i rs) x) ∙ map_push (λ r. r.0) (map read_tree (take i rs)) (read_tree x) in
     let more = numbers_more c.loop-read.self.book c.number_read.new.self.book c.loop-read.numbers.items before c.in_ok-n.n k inv.numbers s.grows c.in_ok-n.ensures.number in
     record {
       numbers = subst (λ (js : List K.Key). AreNumbers c.number_read.new.self.book c.push.new.self.items js) (sym taken) (subst (λ (ns : List ℕ). AreNumbers c.number_read.new.self.book ns (before ++ k ∷ [])) (sym c.in_ok-push.ensures.items) more);
