@@ -16,7 +16,7 @@ returns-in-Ok-clause-evaluated g c =
     }
 
 pub returns-in-Ok-clause-steps : goal.returns-in-Ok-clause-steps
-returns-in-Ok-clause-steps g c = finishes (world_of c.args.evaluator.now) c.args.core c.requires.started c.args.steps.now c.run_all.new.steps c.in-Ok.quiet c.in-Ok.ensures.quiet c.in-Ok.ensures.stays c.in-Ok.ensures.most c.in-Ok.ensures.least
+returns-in-Ok-clause-steps g c = finishes (world_of c.args.evaluator.now) c.args.core c.requires.started c.args.steps.now c.run_all.new.steps c.in-Ok.quiet c.in-Ok.ensures.quiet c.in-Ok.ensures.most c.in-Ok.ensures.least
 
 pub returns-in-Err-Work-clause-stops : goal.returns-in-Err-Work-clause-stops
 returns-in-Err-Work-clause-stops g c = stops_work (world_of c.args.evaluator.now) c.args.core c.requires.started c.args.steps.now c.run_all.new.steps (c.in-Err-Work.ensures.work c.in-Err-Work.field-0-is) (c.in-Err-Work.ensures.most_work c.in-Err-Work.field-0-is)
