@@ -314,7 +314,7 @@ const EXPLANATIONS: &[Row<'static>] = &[
     (b"gridlet 2\nset B1 =A1+1\nexplain B1\nset A1 4\nexplain B1\n", b"ok\nok\nexplain 1 0\nB1 1\nshown 1\naccepted\nok\nexplain 1 0\nB1 5\nshown 5\naccepted\n", DONE),
     // a calculation that is spent
     (b"set A1 =IF(C1=0,SEQUENCE(1,3),5)\nexplain A1\nexplain D1\n", b"ok\nspent rounds A1\nspent rounds A1\n", DONE),
-    // a note that none of the keys that wait needs
+    // a key that loops, and the notes that it read before
     (b"set A1 =B1+C1\nset B1 =D1+1\nset C1 =C1\nset D1 =2*3\nexplain A1\n", b"ok\nok\nok\nok\nexplain 2 2\nD1 6\nB1 7\nA1 #CYCLE!\nC1 #CYCLE!\nshown #CYCLE!\naccepted\n", DONE),
     // what is not chosen is not read
     (b"set A1 =IF(TRUE,1,B1)\nset B1 =A1\nexplain A1\nexplain B1\n", b"ok\nok\nexplain 1 0\nA1 1\nshown 1\naccepted\nexplain 2 0\nA1 1\nB1 1\nshown 1\naccepted\n", DONE),
