@@ -5,9 +5,7 @@ import re
 from pathlib import Path
 from typing import Dict, List, NamedTuple, Optional
 
-from .program import CHECKOUT
-
-PLACES = (Path(__file__).parent / "LANGUAGE.md", CHECKOUT / "docs" / "LANGUAGE.md")
+PAGE = Path(__file__).parent / "LANGUAGE.md"
 CODE = re.compile(r"`([^`]*)`")
 FUNCTION = re.compile(r"([A-Z]+)\(")
 
@@ -96,7 +94,4 @@ def _names(code: str, word: str) -> bool:
 
 def manual() -> Manual:
     """The page that came with this package, or an empty one."""
-    for place in PLACES:
-        if place.is_file():
-            return Manual(place.read_text("utf-8"))
-    return Manual("")
+    return Manual(PAGE.read_text("utf-8") if PAGE.is_file() else "")
