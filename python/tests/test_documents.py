@@ -124,6 +124,35 @@ for _name in DOCUMENTS:
         setattr(Documents, f"test_{_stem}_line_{_example.line}", of_example(_example))
 
 
+LINK = re.compile(r"\[[^\]]*\]\(([^()\s]+)\)")
+# a file of a crate, or a module as `gl_run/edits`
+NAMED = re.compile(r"`((?:gl_|laws_|tests_|gridlet)\w*/[\w/.+-]*)`")
+
+
+def linked_pages() -> List[Path]:
+    """The pages whose links are followed."""
+    names = ("README.md", "CONTRIBUTING.md", "examples/README.md", "editors/README.md")
+    return [*(ROOT / name for name in names), *sorted((ROOT / "docs").glob("*.md"))]
+
+
+def prose(text: str) -> str:
+    """A page without its blocks of code."""
+    fenced = re.sub(r"^```.*?^```$", "", text, flags=re.MULTILINE | re.DOTALL)
+    return re.sub(r"^    .*$", "", fenced, flags=re.MULTILINE)
+
+
+def links(text: str) -> List[str]:
+    """The links of a page within the repository, without what stands in code."""
+    found = LINK.findall(re.sub(r"`[^`\n]*`", "", prose(text)))
+    return [it for it in found if not re.match(r"[a-z]+:", it)]
+
+
+def anchors(page: Path) -> List[str]:
+    """What the headings of a page are called in links: lower case, a dash for each space."""
+    headings = re.findall(r"^#+ (.*)$", prose(page.read_text("utf-8")), re.MULTILINE)
+    return [re.sub(r"[^\w\- ]", "", it.lower()).replace(" ", "-") for it in headings]
+
+
 class Whole(unittest.TestCase):
     """The documents have what they should."""
 
@@ -158,3 +187,34 @@ class Whole(unittest.TestCase):
         words = [sys.executable, str(ROOT / "bench/belief.py"), "--page", str(ROOT / "docs/CALCULUS.md")]
         done = subprocess.run(words, stderr=subprocess.PIPE, universal_newlines=True)
         self.assertEqual((done.returncode, done.stderr), (0, ""))
+
+    def test_the_lines_of_crates(self) -> None:
+        """docs/ARCHITECTURE.md has a line for each crate, as bench/crates.py makes it."""
+        words = [sys.executable, str(ROOT / "bench/crates.py"), "--check",
+                 str(ROOT / "docs/ARCHITECTURE.md")]
+        done = subprocess.run(words, stderr=subprocess.PIPE, universal_newlines=True)
+        self.assertEqual((done.returncode, done.stderr), (0, ""))
+
+    def test_links_lead_somewhere(self) -> None:
+        """Each link leads to a file or a folder, and to a heading where it has an anchor."""
+        wrong, count = [], 0
+        for page in linked_pages():
+            for link in links(page.read_text("utf-8")):
+                name, _, anchor = link.partition("#")
+                target = (page.parent / name).resolve() if name else page
+                count += 1
+                if not target.exists() or anchor and anchor not in anchors(target):
+                    wrong.append(f"{page.relative_to(ROOT)}: {link}")
+        self.assertEqual(wrong, [])
+        self.assertGreaterEqual(count, 20)
+
+    def test_files_that_are_named(self) -> None:
+        """CONTRIBUTING and ARCHITECTURE name files of crates that exist."""
+        wrong = []
+        for name in ("CONTRIBUTING.md", "docs/ARCHITECTURE.md"):
+            for path in set(NAMED.findall((ROOT / name).read_text("utf-8"))):
+                crate, _, inside = path.partition("/")
+                places = (path, f"{crate}/src/{inside}.rt")
+                if not any((ROOT / "crates" / place).exists() for place in places):
+                    wrong.append(f"{name}: {path}")
+        self.assertEqual(wrong, [])
