@@ -10,7 +10,7 @@ use Rattle.gl_undo.specs.View.{changes_tree, AreProperChanges}
 use Rattle.gl_calculus.specs.Edits.Sheets.{and_content, coming}
 use Rattle.gl_run.specs.Going.{and_address}
 use Rattle.gl_protocol.specs.Run.Touched.{going}
-use Rattle.gl_run.proofs.Stepping.{coming_first, going_first}
+use Rattle.gl_run.proofs.Stepping.{coming_first, going_first, going_step}
 use Rattle.gl_run.proofs.undoing.parted.Goals as goal
 
 pub loop-a-preserved : goal.loop-a-preserved
@@ -31,7 +31,7 @@ loop-a-preserved c =
             ∙ ap (λ (vs : List (Addr × Option Content)). old ++ coming (changes_tree vs)) (sym e) ∙ inv.comes;
         goes =
             ap (λ (ps : List Addr). ps ++ left) c.in-Ok.ensures.going ∙ append_assoc gone (and_address a o []) left ∙ ap (λ (ps : List Addr). gone ++ ps) (sym (going_first a o left))
-            ∙ ap (λ (vs : List (Addr × Option Content)). gone ++ going (changes_tree vs)) (sym e) ∙ inv.goes;
+            ∙ ap (λ (ps : List Addr). gone ++ ps) (sym (going_step a o (changes_tree rest))) ∙ ap (λ (vs : List (Addr × Option Content)). gone ++ going (changes_tree vs)) (sym e) ∙ inv.goes;
         proper = c.in-Ok.ensures.proper;
         rest = (subst AreProperChanges e inv.rest).1;
       },
