@@ -16,7 +16,7 @@ abbrev pub Fits : ℕ → List Item → Type 0
 Fits n is = (replies : List (List ℕ)) × AreReplies csv_records is replies × (length (concat replies) ≤ n)
 
 -- the first of the first items are first items
-pub front_within : {a b : List Item} → Front a → IsPrefix a b → Front b
+abbrev pub front_within : {a b : List Item} → Front a → IsPrefix a b → Front b
 front_within {a = a} {b = b} f p = record { items = f.items; are_first = IsPrefix-trans f.items a b f.are_first p; replies = f.replies; are_replies = f.are_replies }
 
 shorter : (rs qs : List (List ℕ)) → length (concat rs) ≤ length (concat (rs ++ qs))

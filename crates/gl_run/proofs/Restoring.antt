@@ -57,9 +57,15 @@ swapped b a cs o n = by (same_addr b a) refl
         let same : (p : Option Content) → found b a None p ≡ p = λ p. ap (λ (t : Bool). cond t None p) e in
         same (after_changes (settings (coming cs)) b o) ∙ sym (ap (after_changes (settings (coming cs)) b) (same o))
 
+pub going_step : (a : Addr) (o : Option Content) (cs : Changes) → going ((a, o) ∷ cs) ≡ and_address a o (going cs)
+going_step a (Some c) cs = refl
+going_step a None cs = refl
+
 apart_changes : (cs : Changes) (b : Addr) (o : Option Content) → AreDistinct (plain_places cs) → after_changes (removing (going cs)) b (after_changes (settings (coming cs)) b o) ≡ after_changes cs b o
 apart_changes [] b o d = refl
-apart_changes (c ∷ cs) b o d = by c.1 (λ p. apart_changes cs b p d.1)
+apart_changes (c ∷ cs) b o d =
+    let left : List Addr → Type 0 = λ ps. after_changes (removing ps) b (after_changes (settings (coming (c ∷ cs))) b o) ≡ after_changes (c ∷ cs) b o in
+    subst left (sym (going_step c.0 c.1 cs)) (by c.1 (λ p. apart_changes cs b p d.1))
   where
     by : (k : Option Content) → ((p : Option Content) → after_changes (removing (going cs)) b (after_changes (settings (coming cs)) b p) ≡ after_changes cs b p)
         → after_changes (removing (and_address c.0 k (going cs))) b (after_changes (settings (and_content c.0 k (coming cs))) b o) ≡ after_changes cs b (found b c.0 k o)

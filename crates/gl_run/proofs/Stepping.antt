@@ -81,10 +81,6 @@ pub going_first : (a : Addr) (o : Option Content) (ps : List Addr) → and_addre
 going_first a (Some c) ps = refl
 going_first a None ps = refl
 
-pub going_step : (a : Addr) (o : Option Content) (cs : Changes) → going ((a, o) ∷ cs) ≡ and_address a o (going cs)
-going_step a (Some c) cs = refl
-going_step a None cs = refl
-
 -- ---- the others are cleared one by one
 
 -- so many are cleared, and the others are left

@@ -10,7 +10,8 @@ use Rattle.gl_undo.specs.View.{changes_tree, AreProperChanges}
 use Rattle.gl_calculus.specs.Edits.Sheets.{and_content, coming}
 use Rattle.gl_run.specs.Going.{and_address}
 use Rattle.gl_protocol.specs.Run.Touched.{going}
-use Rattle.gl_run.proofs.Stepping.{coming_first, going_first, going_step}
+use Rattle.gl_run.proofs.Restoring.{going_step}
+use Rattle.gl_run.proofs.Stepping.{coming_first, going_first}
 use Rattle.gl_run.proofs.undoing.parted.Goals as goal
 
 pub loop-a-preserved : goal.loop-a-preserved
