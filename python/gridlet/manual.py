@@ -5,7 +5,9 @@ import re
 from pathlib import Path
 from typing import Dict, List, NamedTuple, Optional
 
-PAGE = Path(__file__).parent / "LANGUAGE.md"
+from .program import CHECKOUT
+
+PLACES = (Path(__file__).parent / "LANGUAGE.md", CHECKOUT / "docs" / "LANGUAGE.md")
 CODE = re.compile(r"`([^`]*)`")
 FUNCTION = re.compile(r"([A-Z]+)\(")
 
@@ -94,4 +96,7 @@ def _names(code: str, word: str) -> bool:
 
 def manual() -> Manual:
     """The page that came with this package, or an empty one."""
-    return Manual(PAGE.read_text("utf-8") if PAGE.is_file() else "")
+    for place in PLACES:
+        if place.is_file():
+            return Manual(place.read_text("utf-8"))
+    return Manual("")
