@@ -1,7 +1,7 @@
 -- How an address, a range and a spilled array are read in a frame.
 use Rattle.std.specs.Prelude.{ℕ, Bool, true, false, List, [], ◌∷◌, Option, Some, None}
 use Rattle.std.specs.Prelude.{if◌then◌else◌}
-use Rattle.gl_calculus.specs.Computation.Evaluation.{LookAt, Demand}
+use Rattle.gl_calculus.specs.Computation.Evaluation.{Done, LookAt, Demand}
 use Rattle.gl_calculus.specs.Grid.Grid.{Addr, Range, single, extents, covers}
 use Rattle.gl_calculus.specs.Values.ErrKind.{ErrKind}
 use Rattle.gl_calculus.specs.Values.Value.{Permit, Permitted, Refused, Scalar, Blank, Value, One}
@@ -93,49 +93,45 @@ abbrev pub spilling : Option Value → Value
 spilling (Some (Array s xs)) = Array s xs
 spilling v = One (Scalar.Err ErrKind.Ref)
 
--- In one reference a root is looked at once: its fact is seen already, or it is looked at now.
-abbrev pub seen_or_looked : Addr → Option Fact → Eval Fact
-seen_or_looked a (Some x) = give x
-seen_or_looked a None = LookAt (single a) (λ xs. give (fact_at xs a))
-
--- a scalar that was read, and the roots that the reference has looked at
-abbrev pub Reading : Type 0
-Reading = Scalar × List Fact
-
 -- what a covering root shows at an address
-abbrev pub covered : Frame → List Fact → Option Cover → Eval Reading
-covered e seen None = give (Blank, seen)
-covered e seen (Some c) = do
-  x ← seen_or_looked c.root (find_fact seen c.root)
-  v ← own e x
-  give (spilled v c.rows c.cols, x ∷ seen)
+abbrev pub covered : Frame → Option Cover → Eval Scalar
+covered e None = give Blank
+covered e (Some c) = LookAt (single c.root) (λ xs.
+    own e (fact_at xs c.root) >>= λ v. give (spilled v c.rows c.cols))
 
 -- what an address shows, by its own value
-abbrev pub shown_by : Frame → List Fact → Fact → Option Value → Eval Reading
-shown_by e seen x (Some v) = give (shown (status_in x e) v, seen)
-shown_by e seen x None = covered e seen (cover_in x e)
+abbrev pub shown_by : Frame → Fact → Option Value → Eval Scalar
+shown_by e x (Some v) = give (shown (status_in x e) v)
+shown_by e x None = covered e (cover_in x e)
 
 -- the scalar at an address, read in its home frame
-abbrev pub deref : Frame → List Fact → Fact → Eval Reading
-deref e seen x = let h = home e x.address in own h x >>= shown_by h seen x
+abbrev pub deref : Frame → Fact → Eval Scalar
+deref e x = let h = home e x.address in own h x >>= shown_by h x
 
-abbrev pub deref_all : Frame → List Fact → List Fact → Eval (List Scalar)
-deref_all e seen [] = give []
-deref_all e seen (x ∷ xs) = do
-  y ← deref e seen x
-  ys ← deref_all e y.1 xs
-  give (y.0 ∷ ys)
+abbrev pub deref_all : Frame → List Fact → Eval (List Scalar)
+deref_all e [] = give []
+deref_all e (x ∷ xs) = do
+  y ← deref e x
+  ys ← deref_all e xs
+  give (y ∷ ys)
 
--- `a`, `a:b` and `a#`: each looks at its address or range as written, and then reads it
+-- the same evaluation, where what was looked at alone is not looked at again
+abbrev pub once : {R : Type 0} → List Fact → Eval R → Eval R
+once seen (Done r) = Done r
+once seen (Demand k c) = Demand k (λ o. once seen (c o))
+once seen (LookAt r c) = elim (find_fact seen r.first) [
+  | Some x ↦ once seen (c (x ∷ []))
+  | None ↦ LookAt r (λ xs. once (fact_at xs r.first ∷ seen) (c xs))
+]
+
+-- `a`, `a:b` and `a#`: each looks at its address or range as written, and then reads it; one
+-- reference to a range looks at a root once
 abbrev pub at_address : Frame → Addr → Eval Value
-at_address e a = LookAt (single a) (λ xs. do
-  y ← deref e [] (fact_at xs a)
-  give (One y.0))
+at_address e a = LookAt (single a) (λ xs. deref e (fact_at xs a) >>= λ y. give (One y))
 
 abbrev pub at_range : Frame → Range → Eval Value
-at_range e r = LookAt r (λ xs. do
-  ys ← deref_all e [] xs
-  give (Array (extents r) (scalars ys)))
+at_range e r = LookAt r (λ xs.
+    once [] (deref_all e xs >>= λ ys. give (Array (extents r) (scalars ys))))
 
 -- a whole array, where the address has content and its frame's oracle permits it
 abbrev pub whole : Frame → Fact → Option Held → Option Permit → Eval Value
