@@ -27,6 +27,7 @@ mutual
     Neg : Raw → Raw
     Chain : Level → Raw → RawOperands → Raw
     Compare : Op → Raw → Raw → Raw
+    Let : Bytes → Raw → Raw → Raw
     Apply : (word : Bytes) → Raws → Raw
 
   pub data Raws : Type 0 where
@@ -59,6 +60,16 @@ operator level s = None
 abbrev pub chained : Level → Raw → RawOperands → Raw
 chained level f no_operand = f
 chained level f (operand_and op g rest) = Chain level f (operand_and op g rest)
+
+abbrev pub is_let : Bytes → Bool
+is_let word = bytes_eq word (codes "LET")
+
+-- LET of a variable, its value and a body binds the variable; all else is a call
+abbrev pub applied : Bytes → Raws → Raw
+applied word (raw_and (Var v) (raw_and f (raw_and body no_raw))) =
+    if is_let word then Let v f body
+    else Apply word (raw_and (Var v) (raw_and f (raw_and body no_raw)))
+applied word xs = Apply word xs
 
 abbrev pub Tokens : Type 0
 Tokens = List Token
@@ -105,7 +116,7 @@ mutual
         → IsAtom (Address a ∷ Signed Colon ∷ Address b ∷ ts) (Corners a b) ts
     variable : {v : Bytes} {ts : Tokens} → IsAtom (Variable v ∷ ts) (Var v) ts
     apply : {word : Bytes} {ts us : Tokens} {xs : Raws} → IsArguments ts xs us
-        → IsAtom (Word word ∷ Signed LeftParen ∷ ts) (Apply word xs) us
+        → IsAtom (Word word ∷ Signed LeftParen ∷ ts) (applied word xs) us
     parens : {ts us : Tokens} {f : Raw} → IsExpr ts f (Signed RightParen ∷ us)
         → IsAtom (Signed LeftParen ∷ ts) f us
 
@@ -134,22 +145,11 @@ all_functions =
 abbrev pub function_of : Bytes → Option Fun
 function_of word = find (λ f. bytes_eq (fun_text f) word) all_functions
 
-abbrev pub is_let : Bytes → Bool
-is_let word = bytes_eq word (codes "LET")
-
--- the tree of a call of a word that is no LET
+-- the tree of a call
 abbrev pub call_of : Option Fun → Formulas → Formula
 call_of (Some f) xs = F.Formula.Call f xs
 -- no such word passes
 call_of None xs = F.Formula.Call F.Fun.Na xs
-
-abbrev pub let_or_call : Bytes → Formulas → Formula
-let_or_call word (F.Formulas.formula_and (F.Formula.Var v) (F.Formulas.formula_and f
-    (F.Formulas.formula_and body F.Formulas.no_formula))) =
-    if is_let word then F.Formula.Let v f body
-    else call_of (function_of word) (F.Formulas.formula_and (F.Formula.Var v)
-    (F.Formulas.formula_and f (F.Formulas.formula_and body F.Formulas.no_formula)))
-let_or_call word xs = call_of (function_of word) xs
 
 abbrev mutual
   pub tree : Raw → Formula
@@ -163,7 +163,8 @@ abbrev mutual
   tree (Neg f) = F.Formula.Neg (tree f)
   tree (Chain level f rest) = F.Formula.Chain level (tree f) (operand_trees rest)
   tree (Compare op f g) = F.Formula.Compare op (tree f) (tree g)
-  tree (Apply word xs) = let_or_call word (trees xs)
+  tree (Let v f body) = F.Formula.Let v (tree f) (tree body)
+  tree (Apply word xs) = call_of (function_of word) (trees xs)
 
   pub operand_trees : RawOperands → Operands
   operand_trees no_operand = F.Operands.no_operand
@@ -182,6 +183,7 @@ abbrev mutual
   some_form test (Chain level f rest) =
       test (Chain level f rest) || some_form test f || some_operand test rest
   some_form test (Compare op f g) = test (Compare op f g) || some_form test f || some_form test g
+  some_form test (Let v f body) = test (Let v f body) || some_form test f || some_form test body
   some_form test (Apply word xs) = test (Apply word xs) || some_argument test xs
   some_form test f = test f
 
@@ -211,20 +213,15 @@ is_bad_range (Corners a b) =
     || nat_lt max_cells ((extents (range a b)).rows * (extents (range a b)).cols)
 is_bad_range f = false
 
--- a called word that is no function, or a variable that isn't bound; LET binds its variable in its
--- third argument
+-- a called word that is no function, or a variable that isn't bound; a LET binds its variable in
+-- its body
 abbrev mutual
   pub has_bad_name : List Bytes → Raw → Bool
   has_bad_name vs (Var v) = not (list_any (bytes_eq v) vs)
   has_bad_name vs (Neg f) = has_bad_name vs f
   has_bad_name vs (Chain level f rest) = has_bad_name vs f || bad_name_in_operands vs rest
   has_bad_name vs (Compare op f g) = has_bad_name vs f || has_bad_name vs g
-  has_bad_name vs (Apply word (raw_and (Var v) (raw_and f (raw_and body no_raw)))) =
-      elim (is_let word) [
-        | true ↦ has_bad_name vs f || has_bad_name (v ∷ vs) body
-        | false ↦ not (is_some (function_of word)) || not (list_any (bytes_eq v) vs)
-            || has_bad_name vs f || has_bad_name vs body
-      ]
+  has_bad_name vs (Let v f body) = has_bad_name vs f || has_bad_name (v ∷ vs) body
   has_bad_name vs (Apply word xs) =
       not (is_let word || is_some (function_of word)) || bad_name_in vs xs
   has_bad_name vs f = false
@@ -251,10 +248,6 @@ is_place f = false
 abbrev pub is_address : Raw → Bool
 is_address (At a) = true
 is_address f = false
-
-abbrev pub is_variable : Raw → Bool
-is_variable (Var v) = true
-is_variable f = false
 
 -- pairs of an address and a formula
 abbrev pub are_pairs : List Raw → Bool
@@ -298,15 +291,9 @@ allows F.Fun.G (r ∷ pairs) = is_place r && are_pairs pairs
 allows F.Fun.G [] = false
 allows f xs = between 1 1 xs
 
-abbrev pub allows_let : List Raw → Bool
-allows_let (v ∷ f ∷ body ∷ []) = is_variable v
-allows_let xs = false
-
-abbrev pub allows_word : Option Fun → List Raw → Bool
-allows_word o xs = option_map_or (λ f. allows f xs) o (allows_let xs)
-
+-- a call with other arguments than its function takes, or of LET with others than it binds
 abbrev pub is_bad_call : Raw → Bool
-is_bad_call (Apply word xs) = not (allows_word (function_of word) (raws xs))
+is_bad_call (Apply word xs) = not (option_map_or (λ f. allows f (raws xs)) (function_of word) false)
 is_bad_call f = false
 
 pub data ParseFault : Type 0 where
