@@ -315,19 +315,20 @@ without_mark bs = bs
 
 -- the csv records of a payload, which the crate `csv` says
 module _ (records : Bytes → List (List Bytes)) (version : Version) (S : Cells) where
-  -- the shown values of so many last rows of a range
+  -- what the addresses of a range show, row by row from this row on
   pub data AreShown (w : Oracle) (r : Range) : ℕ → List (List Shown) → Type 0 where
-    none : AreShown w r 0 []
-    row : {i : ℕ} {xs : List Shown} {rest : List (List Shown)} → length xs ≡ (extents r).cols
+    none : {i : ℕ} → r.last.row < i → AreShown w r i []
+    row : {i : ℕ} {xs : List Shown} {rest : List (List Shown)} → i ≤ r.last.row
+        → length xs ≡ (extents r).cols
         → ((j : ℕ) (d : Shown) → j < length xs
-        → IsShown (world version S w) (addr (r.first.col + j) (r.last.row - i)) (get_or xs j d))
-        → AreShown w r i rest → AreShown w r (suc i) (xs ∷ rest)
+        → IsShown (world version S w) (addr (r.first.col + j) i) (get_or xs j d))
+        → AreShown w r (i + 1) rest → AreShown w r i (xs ∷ rest)
 
   -- the replies to what asks for the calculation, where it settled
   pub data SettledReply (w : Oracle) (rounds : ℕ) : Request → Bytes → Type 0 where
     show : {a : Addr} {x : Shown} → IsShown (world version S w) a x
         → SettledReply w rounds (Show a) (line (shown_text x))
-    view : {r : Range} {rows : List (List Shown)} → AreShown w r (extents r).rows rows
+    view : {r : Range} {rows : List (List Shown)} → AreShown w r r.first.row rows
         → SettledReply w rounds (View r) (table_text (extents r).cols rows)
     calc : SettledReply w rounds Calculate (line (codes "settled " ++ decimal rounds))
     oracle : SettledReply w rounds ShowOracle (oracle_text w)
