@@ -65,39 +65,39 @@ module _ (c : View) (r : Range) (i : ℕ) where
 -- ---- rows
 
 module _ (c : View) (r : Range) where
-  abbrev Rows : Version → Oracle → ℕ → List Shown → Type 0
-  Rows version w n xs = AreShown csv_records version (sheet_of c) w r n (in_rows n (extents r).cols xs)
+  -- so many rows from this one on
+  abbrev Rows : Version → Oracle → (row n : ℕ) → List Shown → Type 0
+  Rows version w row n xs = AreShown csv_records version (sheet_of c) w r row (in_rows n (extents r).cols xs)
 
   -- the rows before this one are told: where the rest is told behind them, all is
   pub record Begun (row : ℕ) (items : List Shown) : Type 0 where
     pub counted : length items ≡ (row - r.first.row) * (extents r).cols
-    pub shown : (version : Version) (w : Oracle) → c.held ≡ Some (version, w) → (rest : List Shown) → Rows version w (r.last.row + 1 - row) rest → Rows version w (extents r).rows (items ++ rest)
+    pub shown : (version : Version) (w : Oracle) → c.held ≡ Some (version, w) → (rest : List Shown) → Rows version w row (r.last.row + 1 - row) rest → Rows version w r.first.row (extents r).rows (items ++ rest)
 
   pub begins : Begun r.first.row []
   begins =
       let none : r.first.row - r.first.row ≡ 0 = omega arith in
       record { counted = omega (arith, ap (λ n. n * (extents r).cols) none); shown = λ version w e rest h. h }
 
-  one_row : (version : Version) (w : Oracle) (n i : ℕ) (xs rest : List Shown) → r.last.row ≡ i + n → length xs ≡ (extents r).cols
+  one_row : (version : Version) (w : Oracle) (n i : ℕ) (xs rest : List Shown) → i ≤ r.last.row → length xs ≡ (extents r).cols
       → ((j : ℕ) (d : Shown) → j < length xs → IsShown (world version (sheet_of c) w) (addr (r.first.col + j) i) (get_or xs j d))
-      → Rows version w n rest → Rows version w (suc n) (xs ++ rest)
-  one_row version w n i xs rest at long h more =
+      → Rows version w (i + 1) n rest → Rows version w i (suc n) (xs ++ rest)
+  one_row version w n i xs rest low long h more =
       let cols = (extents r).cols in
-      let here : r.last.row - n ≡ i = omega (arith, at) in
       let front : take cols (xs ++ rest) ≡ xs = subst (λ (k : ℕ). take k (xs ++ rest) ≡ xs) long (take-append_seam xs rest) in
       let back : drop cols (xs ++ rest) ≡ rest = subst (λ (k : ℕ). drop k (xs ++ rest) ≡ rest) long (drop-append_seam xs rest) in
-      subst (λ (ys : List Shown). AreShown csv_records version (sheet_of c) w r (suc n) (ys ∷ in_rows n cols (drop cols (xs ++ rest)))) (sym front)
-      (subst (λ (ys : List Shown). AreShown csv_records version (sheet_of c) w r (suc n) (xs ∷ in_rows n cols ys)) (sym back)
-      (C.AreShown.row long (λ j d p. subst (λ (k : ℕ). IsShown (world version (sheet_of c) w) (addr (r.first.col + j) k) (get_or xs j d)) (sym here) (h j d p)) more))
+      subst (λ (ys : List Shown). AreShown csv_records version (sheet_of c) w r i (ys ∷ in_rows n cols (drop cols (xs ++ rest)))) (sym front)
+      (subst (λ (ys : List Shown). AreShown csv_records version (sheet_of c) w r i (xs ∷ in_rows n cols ys)) (sym back)
+      (C.AreShown.row low long h more))
 
   pub goes_on : (row : ℕ) (items items' : List Shown) → r.first.row ≤ row → row ≤ r.last.row → Begun row items → IsRowShown c r row items items' → Begun (row + 1) items'
   goes_on row items items' top bottom h k = record {
     counted = long;
     shown = λ version w e rest more.
         let left : r.last.row + 1 - row ≡ suc (r.last.row + 1 - (row + 1)) = omega (arith, bottom) in
-        let one = one_row version w (r.last.row + 1 - (row + 1)) row k.0 rest (omega (arith, bottom)) k.2 (λ j d p. k.3 j d p version w e) more in
-        let all = h.shown version w e (k.0 ++ rest) (subst (λ (n : ℕ). Rows version w n (k.0 ++ rest)) (sym left) one) in
-        subst (λ (ys : List Shown). Rows version w (extents r).rows ys) (sym (append_assoc items k.0 rest) ∙ ap (λ ys. ys ++ rest) (sym k.1)) all;
+        let one = one_row version w (r.last.row + 1 - (row + 1)) row k.0 rest bottom k.2 (λ j d p. k.3 j d p version w e) more in
+        let all = h.shown version w e (k.0 ++ rest) (subst (λ (n : ℕ). Rows version w row n (k.0 ++ rest)) (sym left) one) in
+        subst (λ (ys : List Shown). Rows version w r.first.row (extents r).rows ys) (sym (append_assoc items k.0 rest) ∙ ap (λ ys. ys ++ rest) (sym k.1)) all;
   }
     where
       cols : ℕ
@@ -115,8 +115,8 @@ module _ (c : View) (r : Range) where
     h.counted ∙ ap (λ n. (n - r.first.row) * (extents r).cols) e,
     λ version w k.
         let none : r.last.row + 1 - row ≡ 0 = omega (arith, e) in
-        subst (λ (ys : List Shown). Rows version w (extents r).rows ys) (append-nil items)
-        (h.shown version w k [] (subst (λ (n : ℕ). Rows version w n []) (sym none) C.AreShown.none)),
+        subst (λ (ys : List Shown). Rows version w r.first.row (extents r).rows ys) (append-nil items)
+        (h.shown version w k [] (subst (λ (n : ℕ). Rows version w row n []) (sym none) (C.AreShown.none (omega (arith, e))))),
   )
 
   pub view_replies : (items : List Shown) (reply : Bytes) → AreShownIn c r items → reply ≡ table_text (extents r).cols (in_rows (extents r).rows (extents r).cols items)

@@ -142,7 +142,7 @@ IsShownIn c a x = (version : Version) (w : Oracle) → c.held ≡ Some (version,
 -- the addresses of the range show these, in row-major order
 abbrev pub AreShownIn : View → Range → List A.Shown → Type 0
 AreShownIn c r xs =
-    (version : Version) (w : Oracle) → c.held ≡ Some (version, w) → AreShown csv_records version (sheet_of c) w r (extents r).rows (in_rows (extents r).rows (extents r).cols xs)
+    (version : Version) (w : Oracle) → c.held ≡ Some (version, w) → AreShown csv_records version (sheet_of c) w r r.first.row (in_rows (extents r).rows (extents r).cols xs)
 
 -- what the addresses of a row of the range show is appended
 abbrev pub IsRowShown : View → Range → ℕ → List A.Shown → List A.Shown → Type 0

@@ -73,14 +73,16 @@ module _ (records : Bytes → List (List Bytes)) (version : Version) (S : Cells)
   -- ---- what is shown
 
   one_row : (w : Oracle) (r : Range) (i n : ℕ) (xs ys : List Shown) → length xs ≡ n → length ys ≡ n
-      → ((j : ℕ) (d : Shown) → j < length xs → IsShown (world version S w) (addr (r.first.col + j) (r.last.row - i)) (get_or xs j d))
-      → ((j : ℕ) (d : Shown) → j < length ys → IsShown (world version S w) (addr (r.first.col + j) (r.last.row - i)) (get_or ys j d)) → xs ≡ ys
+      → ((j : ℕ) (d : Shown) → j < length xs → IsShown (world version S w) (addr (r.first.col + j) i) (get_or xs j d))
+      → ((j : ℕ) (d : Shown) → j < length ys → IsShown (world version S w) (addr (r.first.col + j) i) (get_or ys j d)) → xs ≡ ys
   one_row w r i n xs ys h k f g =
-      ext_get_or A.Cycle xs ys (h ∙ sym k) (λ j l. at_most_one_shown (world version S w) (addr (r.first.col + j) (r.last.row - i)) (get_or xs j A.Cycle) (get_or ys j A.Cycle) (f j A.Cycle l) (g j A.Cycle (subst (λ m. j < m) (h ∙ sym k) l)))
+      ext_get_or A.Cycle xs ys (h ∙ sym k) (λ j l. at_most_one_shown (world version S w) (addr (r.first.col + j) i) (get_or xs j A.Cycle) (get_or ys j A.Cycle) (f j A.Cycle l) (g j A.Cycle (subst (λ m. j < m) (h ∙ sym k) l)))
 
   one_table : {w : Oracle} {r : Range} {i : ℕ} {xs ys : List (List Shown)} → AreShown records version S w r i xs → AreShown records version S w r i ys → xs ≡ ys
-  one_table C.AreShown.none C.AreShown.none = refl
-  one_table {w = w} {r = r} (C.AreShown.row {i = i} {xs = xs} {rest = us} h f p) (C.AreShown.row {xs = ys} {rest = vs} k g q) =
+  one_table (C.AreShown.none h) (C.AreShown.none k) = refl
+  one_table (C.AreShown.none h) (C.AreShown.row l k g q) = absurd (omega (arith, h, l))
+  one_table (C.AreShown.row l h f p) (C.AreShown.none k) = absurd (omega (arith, l, k))
+  one_table {w = w} {r = r} (C.AreShown.row {i = i} {xs = xs} {rest = us} l h f p) (C.AreShown.row {xs = ys} {rest = vs} m k g q) =
       ap (λ (x : List Shown). x ∷ us) (one_row w r i (extents r).cols xs ys h k f g) ∙ ap (λ (x : List (List Shown)). ys ∷ x) (one_table p q)
 
   same_certificate : (c d : Certificate) → Cert c ≡ Cert d → c ≡ d
