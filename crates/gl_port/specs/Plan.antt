@@ -1,25 +1,6 @@
--- The calls to come, where it is known beforehand which of them fail.
-use Rattle.std.specs.Prelude.{◌≡◌, ℕ, ◌+◌, ◌-◌, ◌^◌, ◌≤◌, ◌==◌, nat_lt, Bool, false, ◌||◌, List, IsTrue, IsFalse, Option, None, Some, IfSome, Result, MatchResult, if◌then◌else◌}
-use Rattle.std.specs.Option.{option_map_or}
-use Rattle.std.specs.List.{list_any}
-
--- the number of the next call, the numbers of the calls that fail, and the most bytes of one call
-pub record Plan : Type 0 where
-  -- there is none behind the last that a list can name
-  pub next : Option ℕ
-  pub failing : List ℕ
-  pub step : ℕ
-
-abbrev pub is_listed : Plan → Bool
-is_listed p = option_map_or (λ n. list_any (λ m. m == n) p.failing) p.next false
-
-abbrev pub number_behind : Option ℕ → Option ℕ
-number_behind None = None
-number_behind (Some n) = if nat_lt (n + 1) (2 ^ 64) then Some (n + 1) else None
-
--- the plan behind one call
-abbrev pub behind : Plan → Plan
-behind p = record p { next = number_behind p.next }
+-- What a read and a write do, where it is known beforehand which of them fail.
+use Rattle.std.specs.Prelude.{◌≡◌, ℕ, ◌-◌, ◌≤◌, ◌==◌, Bool, ◌||◌, IsTrue, IsFalse, Option, Some, IfSome, Result, MatchResult}
+use Rattle.gl_protocol.specs.Run.Plans.{Plan, is_listed, behind}
 
 -- a read fails exactly where it is listed, and gives at most `step` bytes
 abbrev pub ReadsBy : {E : Type 0} → Option Plan → Option Plan → Result ℕ E → Type 0

@@ -13,7 +13,8 @@ pub struct Calls {
 
 impl Calls {
     ghost use Rattle.std.specs.Prelude.{◌≡◌};
-    ghost use Rattle.gl_port.specs.{Plan.is_listed, Plan.behind, CallsView.plan_of};
+    ghost use Rattle.gl_protocol.specs.Run.Plans.{is_listed, behind};
+    ghost use Rattle.gl_port.specs.CallsView.{plan_of};
 
     /// From number 0 on.
     pub fn new(step: usize, failing: Vec<u64>) -> Calls

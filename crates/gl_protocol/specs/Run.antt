@@ -2,6 +2,7 @@
 pub mod Words
 pub mod Call
 pub mod Causes
+pub mod Plans
 pub mod Records
 pub mod Out
 pub mod Known

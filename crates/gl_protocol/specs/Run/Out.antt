@@ -1,6 +1,6 @@
 -- What a whole run writes. Of a sink `old` and `new` are the bytes that it has taken before and
 -- after, and of a source `left` and `left'` those that it has left, where they tell them.
-use Rattle.std.specs.Prelude.{◌≡◌, ℕ, Bool, false, ◌<◌, ◌≤◌, List, ◌++◌, length, take, IfSome}
+use Rattle.std.specs.Prelude.{◌≡◌, ◌⊎◌, ℕ, Bool, true, false, ◌<◌, ◌≤◌, List, ◌++◌, length, take, IfSome}
 use Rattle.std.specs.declared.option.Option.{Option}
 use Rattle.std.specs.List.{concat, list_any}
 use Rattle.std.specs.Io.KnownBytes.{Appends, Consumes}
@@ -68,6 +68,16 @@ pub record BreaksOff (left left' old new : Option Bytes) : Type 0 where
   pub consumed : Consumes left left' read
   pub no_quit : has_quit (ended read) ≡ false
   pub wrote : WroteAll old new (ended read)
+
+-- The input was read to its end; or a `quit` line ended in the last bytes that were read, at most
+-- n, and none before.
+pub record ReadsOut (n : ℕ) (left left' : Option Bytes) : Type 0 where
+  pub read : Bytes
+  pub last : Bytes
+  pub consumed : Consumes left left' (read ++ last)
+  pub few : length last ≤ n
+  pub no_quit : has_quit (ended read) ≡ false
+  pub ends : IfSome left (λ t. t ≡ read ++ last) ⊎ (has_quit (ended (read ++ last)) ≡ true)
 
 -- no more bytes were read than this
 abbrev pub ReadsNoMoreThan : ℕ → Option Bytes → Option Bytes → Type 0
