@@ -1,6 +1,7 @@
 -- What a whole run writes. Of a sink `old` and `new` are the bytes that it has taken before and
 -- after, and of a source `left` and `left'` those that it has left, where they tell them.
-use Rattle.std.specs.Prelude.{◌≡◌, ◌⊎◌, ℕ, Bool, true, false, ◌<◌, ◌≤◌, List, ◌++◌, length, take, IfSome}
+use Rattle.std.specs.Prelude.{◌≡◌, ◌⊎◌, ℕ, Bool, true, false, ◌<◌, ◌≤◌, List, ◌++◌}
+use Rattle.std.specs.Prelude.{length, take, IfSome}
 use Rattle.std.specs.declared.option.Option.{Option}
 use Rattle.std.specs.List.{concat, list_any}
 use Rattle.std.specs.Io.KnownBytes.{Appends, Consumes}
