@@ -27,5 +27,6 @@ pub mod Sizes
 pub mod Sources
 pub mod Spelled
 pub mod States
+pub mod Taking
 pub mod Texts
 pub mod Undone

@@ -115,6 +115,22 @@ UndoTakesBack =
     Runs records version t (replicate n (Line (codes "undo"))) u rs → Runs records version u (replicate n (Line (codes "redo"))) v qs →
     (u.sheet ≡ s.sheet) × (v.sheet ≡ t.sheet) × (rs ≡ replicate n ok_line) × (qs ≡ replicate n ok_line)
 
+-- Behind them so many undos, and then so many redos, run through, and none is refused.
+abbrev pub UndosRun : Type 0
+UndosRun =
+    (records : Bytes → List (List Bytes)) (version : Version) (n : ℕ) (s t : Script) →
+    IsState s → s.replica ≡ None → n ≤ max_steps → Edits records version n s t →
+    (u v : Script) ×
+    Runs records version t (replicate n (Line (codes "undo"))) u (replicate n ok_line) ×
+    Runs records version u (replicate n (Line (codes "redo"))) v (replicate n ok_line)
+
+-- Each run takes some edits.
+abbrev pub EveryRunTook : Type 0
+EveryRunTook =
+    (records : Bytes → List (List Bytes)) (version : Version) (is : List Item) (s t : Script)
+    (rs : List Bytes) → Runs records version s is t rs →
+    (es : List Edit) × Took records version s is t es
+
 -- The registers of a replica are the join of the edits that it took, and its clock is their greatest time.
 abbrev pub ReplicasJoin : Type 0
 ReplicasJoin =

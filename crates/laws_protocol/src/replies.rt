@@ -3,6 +3,7 @@ ghost use Rattle.laws_protocol.specs.Acts.{OneAct, OneOutput, RefusalsLeave};
 ghost use Rattle.laws_protocol.specs.Replies.{OneText, FirstRepliesFirst, ErrorsAreRefusals};
 ghost use Rattle.laws_protocol.specs.Replies.{RefusalsAreErrors, ScriptsKeepSheets};
 ghost use Rattle.laws_protocol.specs.States.{ActsKeepStates, ScriptsKeepStates, UndoTakesBack};
+ghost use Rattle.laws_protocol.specs.States.{UndosRun, EveryRunTook};
 ghost use Rattle.laws_protocol.specs.States.{ReplicasJoin, ReplicasAgree, SameSheetsReply};
 ghost use Rattle.laws_protocol.specs.Lists.{ListsReadBack};
 ghost use Rattle.laws_protocol.specs.Fixed.{FixedByContents};
@@ -47,13 +48,17 @@ pub fn undo_passes_no_limit()
     ensures { ActsKeepRooms }
 {}
 
-/// What is undone is as if it was never done, and what is done again as if it was never undone.
+/// What is undone is as if it was never done, and what is done again as if it was never undone; and
+/// as many edits as are kept can be undone and done again.
 pub fn undo_takes_back()
-    ensures { UndoTakesBack }
+    ensures back { UndoTakesBack }
+    ensures runs { UndosRun }
 {}
 
-/// Replicas that took the same edits have the same sheet, and give the same replies.
+/// Replicas that took the same edits have the same sheet, and give the same replies; and each script
+/// takes some edits.
 pub fn replicas_agree()
+    ensures took { EveryRunTook }
     ensures join { ReplicasJoin }
     ensures agree { ReplicasAgree }
     ensures reply { SameSheetsReply }

@@ -21,7 +21,7 @@ use Rattle.gl_protocol.specs.Scripts.Output.{Runs, is_refusal}
 use Rattle.laws_protocol.proofs.Scripts.Edited.{is_script, alone_done, edited_sheet}
 use Rattle.laws_calculus.proofs.SheetEdits.TakenBack.{taken_back, contents_are_changes, cleared_by_removals}
 use Rattle.gl_script.proofs.Once.{one_line}
-use Rattle.laws_protocol.specs.States.{IsState, LeadBack, IsEditItem, Edits, is_edit, UndoTakesBack}
+use Rattle.laws_protocol.specs.States.{IsState, LeadBack, IsEditItem, Edits, is_edit, UndoTakesBack, UndosRun}
 use Rattle.laws_protocol.specs.States as S
 use Rattle.laws_protocol.proofs.Scripts.Outputs.{one_act}
 use Rattle.laws_protocol.proofs.Scripts.Sizes.{allowed_is}
@@ -245,6 +245,45 @@ module _ (records : Bytes → List (List Bytes)) (version : Version) where
           let rest : Runs records version made (replicate n (Line (codes "redo"))) v qs = subst (λ (z : Script). Runs records version z (replicate n (Line (codes "redo"))) v qs) one.0 more in
           let q = ih made none k rest in
           (q.0, ap (λ (z : Bytes). z ∷ qs) one.1 ∙ ap (λ (zs : List Bytes). ok_line ∷ zs) q.1)
+
+  -- ---- the runs themselves
+
+  undos_are : (n : ℕ) (s : Script) (A : Cells) → s.replica ≡ None → BackBy n s.sheet s.history.done A → (u : Script) × Runs records version s (replicate n (Line (codes "undo"))) u (replicate n ok_line)
+  undos_are zero s A none b = (s, O.Runs.no_more)
+  undos_are (suc n) s A none b = by s.history.done refl b (λ z i j. undos_are n z A i j)
+    where
+      by : (ds : List Step) → s.history.done ≡ ds → BackBy (suc n) s.sheet ds A
+          → ((z : Script) → z.replica ≡ None → BackBy n z.sheet z.history.done A → (u : Script) × Runs records version z (replicate n (Line (codes "undo"))) u (replicate n ok_line))
+          → (u : Script) × Runs records version s (replicate (suc n) (Line (codes "undo"))) u (replicate (suc n) ok_line)
+      by [] e k ih = absurd k
+      by (d ∷ ds) e k ih =
+          let yes : undone s ≡ Is (after_undo s d ds) = rw (none, e) refl in
+          let q = ih (after_undo s d ds) none k in
+          (q.0, O.Runs.item (T.Acts.request undo_reads (T.Does.changed refl (T.Leaves.left yes))) q.1)
+
+  redos_are : (n : ℕ) (s : Script) (B : Cells) → s.replica ≡ None → OnBy n s.sheet s.history.undone B → (v : Script) × Runs records version s (replicate n (Line (codes "redo"))) v (replicate n ok_line)
+  redos_are zero s B none o = (s, O.Runs.no_more)
+  redos_are (suc n) s B none o = by s.history.undone refl o (λ z i j. redos_are n z B i j)
+    where
+      by : (us : List Step) → s.history.undone ≡ us → OnBy (suc n) s.sheet us B
+          → ((z : Script) → z.replica ≡ None → OnBy n z.sheet z.history.undone B → (v : Script) × Runs records version z (replicate n (Line (codes "redo"))) v (replicate n ok_line))
+          → (v : Script) × Runs records version s (replicate (suc n) (Line (codes "redo"))) v (replicate (suc n) ok_line)
+      by [] e k ih = absurd k
+      by (u ∷ us) e k ih =
+          let yes : redone s ≡ Is (after_redo s u us) = rw (none, e) refl in
+          let q = ih (after_redo s u us) none k in
+          (q.0, O.Runs.item (T.Acts.request redo_reads (T.Does.changed refl (T.Leaves.left yes))) q.1)
+
+pub undos_run : UndosRun
+undos_run records version n s t h none few edits =
+    let zero_n : 0 + n ≡ n = omega arith in
+    let behind = edits_back records version zero n {t = s} {u = t} s.sheet (omega (arith, few)) h none refl edits in
+    let back : BackBy n t.sheet t.history.done s.sheet = subst (λ (k : ℕ). BackBy k t.sheet t.history.done s.sheet) zero_n behind.back in
+    let p = undos_are records version n t s.sheet behind.alone back in
+    let q = undo_runs records version n zero {s = t} {u = p.0} {rs = replicate n ok_line} s.sheet t.sheet behind.state behind.alone back refl p.1 in
+    let on : OnBy n (p.0).sheet (p.0).history.undone t.sheet = subst (λ (k : ℕ). OnBy k (p.0).sheet (p.0).history.undone t.sheet) zero_n q.on in
+    let r = redos_are records version n p.0 t.sheet q.alone on in
+    (p.0, r.0, p.1, r.1)
 
 pub undo_takes_back : UndoTakesBack
 undo_takes_back records version n s t u v rs qs h none few edits undos redos =
