@@ -13,16 +13,18 @@ const NARROW: &[u8] =
 
 #[rattlefmt::skip]
 const EDITS: &[Long] = &[
-    // of 257 steps the latest 256 are taken back, and done again
+    // of 257 steps the latest 256 are taken back, and done again, until an edit drops them
     (
         &[
             Part::Lines("set A1 ", 257, ""),
             Part::Times(b"", b"undo\n", 257, b"get A1\n"),
             Part::Times(b"", b"redo\n", 257, b"get A1\n"),
+            Part::Times(b"", b"undo\n", 2, b"set A1 9\nredo\n"),
         ],
         &[
             Part::Times(b"", b"ok\n", 513, b"error undo\n1\n"),
             Part::Times(b"", b"ok\n", 256, b"error redo\n257\n"),
+            Part::Times(b"", b"ok\n", 3, b"error redo\n"),
         ],
         REFUSED,
     ),

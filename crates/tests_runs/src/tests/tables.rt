@@ -264,6 +264,11 @@ const REPLICAS: &[Row<'static>] = &[
     (b"site 4\nedit 3 2 B1 =A1\nedit 2 1 A1 6\nedit 3 2 B1 =A1\nshow B1\nexport\n", b"ok\nok\nok\nok\n6\nexport 2\nedit 2 1 A1 6\nedit 3 2 B1 =A1\n", DONE),
     (b"site 4\nedit 4 3 A1\nedit 3 2 B1 =A1\nget B1\nexport\n", b"ok\nok\nok\n=A1\nexport 2\nedit 4 3 A1\nedit 3 2 B1 =A1\n", DONE),
     (b"site 4\nedit 3 2 B1 =A1\nedit 4 3 A1\nedit 2 1 A1 6\nget B1\nexport\n", b"ok\nok\nok\nok\n=A1\nexport 2\nedit 4 3 A1\nedit 3 2 B1 =A1\n", DONE),
+    // all edits of both, in either order
+    (b"site 4\nedit 2 1 A1 6\nedit 3 2 B1 =A1\nedit 4 3 A1\nedit 3 2 B1 =A1\nlist\n", b"ok\nok\nok\nok\nok\nlist 1\nset B1 =A1\n", DONE),
+    (b"site 4\nedit 3 2 B1 =A1\nedit 4 3 A1\nedit 3 2 B1 =A1\nedit 2 1 A1 6\nlist\n", b"ok\nok\nok\nok\nok\nlist 1\nset B1 =A1\n", DONE),
+    // a replica takes no edit of time 0
+    (b"site 1\nedit 0 1 A1 5\nlist\n", b"ok\nerror stamp\nlist 0\n", REFUSED),
     // at the last time there is no next stamp
     (b"site 1\nedit 1000000000000 2 A1 5\nset B1 1\nclear Z9\nimport C1 1\n0\nset B1 =(\nedit 1000000000000 1 A1 6\nedit 1000000000000 3 A1 7\nexport\n", b"ok\nok\nerror stamp\nerror stamp\nerror stamp\nerror syntax\nok\nok\nexport 1\nedit 1000000000000 3 A1 7\n", REFUSED),
     // which fault comes first
@@ -278,6 +283,7 @@ const REPLICAS: &[Row<'static>] = &[
     (b"set A1 1\nset A1 =B1\nclear A1\nundo\nget A1\nundo\nget A1\nredo\nget A1\nundo\nundo\nundo\n", b"ok\nok\nok\nok\n=B1\nok\n1\nok\n=B1\nok\nok\nerror undo\n", REFUSED),
     // an import is one step
     (b"set A1 =1+1\nimport A1 7\n5,6\n,7\nundo\nlist\nredo\nlist\nset A1 =(\nundo\nundo\nundo\n", b"ok\nok\nok\nlist 1\nset A1 =1+1\nok\nlist 3\nset A1 5\nset B1 6\nset B2 7\nerror syntax\nok\nok\nerror undo\n", REFUSED),
+    (b"import A1 14\n-7,\"a\nb\"\n,=A9\nundo\nlist\n", b"ok\nok\nlist 0\n", DONE),
     // a new edit drops what was undone
     (b"set A1 1\nundo\nset B1 2\nredo\nlist\n", b"ok\nok\nok\nerror redo\nlist 1\nset B1 2\n", REFUSED),
 ];
