@@ -5,7 +5,7 @@ use Rattle.std.proofs.lemmas.List.Folds.{list_any-append}
 use Rattle.gl_calculus.specs.Computation.Query.{Ready}
 use Rattle.gl_calculus.specs.Grid.Grid.{Addr, same_addr, single}
 use Rattle.gl_calculus.specs.Evaluation.Facts.{Fact, fact, find_fact}
-use Rattle.gl_calculus.specs.Evaluation.Reference.{seen_or_looked}
+use Rattle.gl_machine.specs.Seen.{seen_or_looked}
 use Rattle.gl_calculus.proofs.Tests.{addr_exact, addr_same}
 use Rattle.laws_calculus.proofs.Calculus.Proper.{fact_at_single}
 use Rattle.gl_demand.specs.Walk.{Inputs, Trail, walk, looking}

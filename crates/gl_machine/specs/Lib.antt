@@ -6,3 +6,4 @@ pub mod Costs
 pub mod Ahead
 pub mod Reads
 pub mod Quiet
+pub mod Seen

@@ -6,6 +6,7 @@ pub mod Keeps
 pub mod OutcomeTests
 pub mod Proper
 pub mod Proved
+pub mod ReadsOnce
 pub mod Settles
 pub mod Shows
 pub mod Single

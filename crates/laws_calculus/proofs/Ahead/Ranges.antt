@@ -9,7 +9,9 @@ use Rattle.gl_calculus.specs.Values.Value.{Oracle, Value, One, Array, Scalar, Bl
 use Rattle.gl_calculus.specs.Evaluation.Oracle.{Sizes, Cover}
 use Rattle.gl_calculus.specs.Evaluation.Facts.{Fact, fact, facts, find_fact}
 use Rattle.gl_calculus.specs.Evaluation.Key.{Key, Cell, Outcome, Eval, give, on_result, own_value, ◌>>=◌}
-use Rattle.gl_calculus.specs.Evaluation.Reference.{Held, Given, Computed, home, own_content, status_in, cover_in, value_of, own, Reading, seen_or_looked, covered, shown, spilled, shown_by, deref, deref_all, at_address, at_range}
+use Rattle.gl_calculus.specs.Evaluation.Reference.{Held, Given, Computed, home, own_content, status_in, cover_in, value_of, own, shown, spilled, at_address, at_range}
+use Rattle.gl_machine.specs.Seen.{seen_or_looked, Reading, covered_seen, shown_seen, deref_seen, deref_all_seen}
+use Rattle.laws_calculus.proofs.Calculus.ReadsOnce.{reads_once, reads_alone}
 use Rattle.gl_calculus.specs.Evaluation.Evaluation.{array_at, arrays}
 use Rattle.laws_calculus.proofs.Calculus.Proper.{fact_at_single}
 use Rattle.gl_calculus.proofs.Tests.{addr_exact}
@@ -86,7 +88,7 @@ module _ (S : Cells) (w : Oracle) (g : Key → Option Outcome) where
   abbrev Reads : Reading → Type 0
   Reads y = IsTrueSeen y.1
 
-  covered_follows : (e : Frame) (seen : List Fact) (c : Option Cover) → IsTrueSeen seen → Follows (cover_keys (fact S w) e c) (covered e seen c) Reads
+  covered_follows : (e : Frame) (seen : List Fact) (c : Option Cover) → IsTrueSeen seen → Follows (cover_keys (fact S w) e c) (covered_seen e seen c) Reads
   covered_follows e seen None s = follows_give (Blank, seen) s
   covered_follows e seen (Some c) s = by (find_fact seen c.root) refl
     where
@@ -100,22 +102,22 @@ module _ (S : Cells) (w : Oracle) (g : Key → Option Outcome) where
       by (Some x) d = subst (λ y. Follows (own_keys e (fact S w c.root)) (own e y >>= λ v. give (spilled v c.rows c.cols, y ∷ seen)) Reads) (sym (s c.root x d)) root
       by None d = subst (λ y. Follows (own_keys e (fact S w c.root)) (LookAt (single c.root) (λ xs. own e y >>= λ v. give (spilled v c.rows c.cols, y ∷ seen))) Reads) (sym (fact_at_single S w c.root)) root
 
-  deref_follows : (e : Frame) (seen : List Fact) (x : Fact) → IsTrueSeen seen → Follows (address_keys (fact S w) e x) (deref e seen x) Reads
+  deref_follows : (e : Frame) (seen : List Fact) (x : Fact) → IsTrueSeen seen → Follows (address_keys (fact S w) e x) (deref_seen e seen x) Reads
   deref_follows e seen x s = by (own_content x.content (home e x.address) x.address)
     where
       h : Frame
       h = home e x.address
 
-      by : (c : Option Held) → Follows (shown_keys (fact S w) (home e x.address) x c) (value_of (home e x.address) x.address c >>= shown_by (home e x.address) seen x) Reads
+      by : (c : Option Held) → Follows (shown_keys (fact S w) (home e x.address) x c) (value_of (home e x.address) x.address c >>= shown_seen (home e x.address) seen x) Reads
       by None = covered_follows h seen (cover_in x h) s
       by (Some (Given v)) = follows_give (shown (status_in x h) v, seen) s
-      by (Some (Computed f)) = follows_key (Cell h x.address) (shown_by h seen x) (λ v. ((shown (status_in x h) v, seen), refl, s))
+      by (Some (Computed f)) = follows_key (Cell h x.address) (shown_seen h seen x) (λ v. ((shown (status_in x h) v, seen), refl, s))
 
-  range_follows : (e : Frame) (seen xs : List Fact) → IsTrueSeen seen → Follows {R = List Scalar} (range_keys (fact S w) e xs) (deref_all e seen xs) Any
+  range_follows : (e : Frame) (seen xs : List Fact) → IsTrueSeen seen → Follows {R = List Scalar} (range_keys (fact S w) e xs) (deref_all_seen e seen xs) Any
   range_follows e seen [] s = follows_give [] tt
   range_follows e seen (x ∷ xs) s =
-      follows_then {P = Reads} (address_keys (fact S w) e x) (range_keys (fact S w) e xs) (deref e seen x) (λ y. deref_all e y.1 xs >>= λ ys. give (y.0 ∷ ys)) (deref_follows e seen x s)
-      (λ y t. follows_end {P = Any} (range_keys (fact S w) e xs) (deref_all e y.1 xs) (λ ys. y.0 ∷ ys) (range_follows e y.1 xs t) (λ ys u. tt))
+      follows_then {P = Reads} (address_keys (fact S w) e x) (range_keys (fact S w) e xs) (deref_seen e seen x) (λ y. deref_all_seen e y.1 xs >>= λ ys. give (y.0 ∷ ys)) (deref_follows e seen x s)
+      (λ y t. follows_end {P = Any} (range_keys (fact S w) e xs) (deref_all_seen e y.1 xs) (λ ys. y.0 ∷ ys) (range_follows e y.1 xs t) (λ ys u. tt))
 
   round_follows : (e : Frame) (xs : List Fact) → Follows {R = Sizes} (round_keys e xs) (arrays e xs) Any
   round_follows e [] = follows_give [] tt
@@ -149,26 +151,20 @@ module _ (S : Cells) (w : Oracle) (g : Key → Option Outcome) where
 
   pub address_follows : (e : Frame) (a : Addr) → Follows {R = Value} (address_keys (fact S w) e (fact S w a)) (at_address e a) Any
   address_follows e a =
-      subst (λ y. Follows {R = Value} (address_keys (fact S w) e (fact S w a)) (LookAt (single a) (λ xs. deref e [] y >>= λ y. give (One y.0))) Any) (sym (fact_at_single S w a))
-      (follows_end {P = Reads} (address_keys (fact S w) e (fact S w a)) (deref e [] (fact S w a)) (λ y. One y.0) (deref_follows e [] (fact S w a) (λ b x d. absurd (cc d))) (λ y u. tt))
+      subst (λ p. Follows {R = Value} (address_keys (fact S w) e (fact S w a)) p Any) (sym (reads_alone e a))
+      (subst (λ y. Follows {R = Value} (address_keys (fact S w) e (fact S w a)) (LookAt (single a) (λ xs. deref_seen e [] y >>= λ y. give (One y.0))) Any) (sym (fact_at_single S w a))
+      (follows_end {P = Reads} (address_keys (fact S w) e (fact S w a)) (deref_seen e [] (fact S w a)) (λ y. One y.0) (deref_follows e [] (fact S w a) (λ b x d. absurd (cc d))) (λ y u. tt)))
 
   pub area_follows : (e : Frame) (r : Range) → Follows {R = Value} (range_keys (fact S w) e (facts S w r)) (at_range e r) Any
   area_follows e r =
-      let f : Follows {R = Value} (range_keys (fact S w) e (facts S w r)) (deref_all e [] (facts S w r) >>= λ ys. give (Array (extents r) (scalars ys))) Any =
-      follows_end {P = Any} (range_keys (fact S w) e (facts S w r)) (deref_all e [] (facts S w r)) (λ ys. Array (extents r) (scalars ys)) (range_follows e [] (facts S w r) (λ b x d. absurd (cc d))) (λ ys u. tt) in
-      f
+      let f : Follows {R = Value} (range_keys (fact S w) e (facts S w r)) (deref_all_seen e [] (facts S w r) >>= λ ys. give (Array (extents r) (scalars ys))) Any =
+      follows_end {P = Any} (range_keys (fact S w) e (facts S w r)) (deref_all_seen e [] (facts S w r)) (λ ys. Array (extents r) (scalars ys)) (range_follows e [] (facts S w r) (λ b x d. absurd (cc d))) (λ ys u. tt) in
+      subst (λ p. Follows {R = Value} (range_keys (fact S w) e (facts S w r)) p Any) (sym (reads_once e r)) f
 
 pub range_demands : RangeDemands
-range_demands S w e r g = (
-  λ i d. (whole.0 i d),
-  λ t. let (v, d, u) = whole.1 t in (v, d),
-)
-  where
-    read : (((i : Key) → first_lacked is_value g (range_keys (fact S w) e (facts S w r)) ≡ Some i → found g (given (facts S w) (deref_all e [] (facts S w r))) ≡ Need i) × (AreThrough is_value g (range_keys (fact S w) e (facts S w r)) → (ys : List Scalar) × (found g (given (facts S w) (deref_all e [] (facts S w r))) ≡ Ready (Ok ys)) × Unit {0}))
-    read = range_follows S w g e [] (facts S w r) (λ a x d. absurd (cc d))
-
-    whole : (((i : Key) → first_lacked is_value g (range_keys (fact S w) e (facts S w r)) ≡ Some i → found g (given (facts S w) (deref_all e [] (facts S w r) >>= λ ys. give (Array (extents r) (scalars ys)))) ≡ Need i) × (AreThrough is_value g (range_keys (fact S w) e (facts S w r)) → (v : Value) × (found g (given (facts S w) (deref_all e [] (facts S w r) >>= λ ys. give (Array (extents r) (scalars ys)))) ≡ Ready (Ok v)) × Unit {0}))
-    whole = follows_end S w g {P = λ ys. Unit {0}} (range_keys (fact S w) e (facts S w r)) (deref_all e [] (facts S w r)) (λ ys. Array (extents r) (scalars ys)) read (λ ys u. tt)
+range_demands S w e r g =
+    let a = area_follows S w g e r in
+    (a.0, λ t. let (v, d, u) = a.1 t in (v, d))
 
 pub round_demands : RoundDemands
 round_demands S w e xs g =

@@ -14,7 +14,9 @@ use Rattle.gl_calculus.specs.Evaluation.Oracle.{Cover}
 use Rattle.gl_calculus.specs.Evaluation.Facts.{Fact, fact, facts, find_fact, fact_at}
 use Rattle.gl_calculus.specs.Evaluation.Key.{Key, Cell, Settle, Outcome, Settled, Abort, Budget, Eval, give, on_result, ◌>>=◌, own_value, as_value, as_settled}
 use Rattle.gl_calculus.specs.Evaluation.Reference as R
-use Rattle.gl_calculus.specs.Evaluation.Reference.{Held, Given, Computed, own_content, home, own, value_of, Reading, covered, deref, deref_all, seen_or_looked, at_address, at_range, spill_of}
+use Rattle.gl_calculus.specs.Evaluation.Reference.{Held, Given, Computed, own_content, home, own, value_of, at_address, at_range, spill_of}
+use Rattle.gl_machine.specs.Seen.{seen_or_looked, Reading, covered_seen, shown_seen, deref_seen, deref_all_seen}
+use Rattle.laws_calculus.proofs.Calculus.ReadsOnce.{reads_once, reads_alone}
 use Rattle.gl_calculus.specs.Evaluation.World.{world}
 use Rattle.gl_calculus.specs.Evaluation.Evaluation as E
 use Rattle.gl_calculus.specs.Evaluation.Evaluation.{Argument, program, evaluation, cell_value}
@@ -105,28 +107,28 @@ module _ (S : Cells) (w : Oracle) where
   good_root a (Some x) t = keeps_return t
   good_root a None t = keeps_look (keeps_return (fits_single a))
 
-  good_covered : (e : Frame) (seen : List Fact) (c : Option Cover) → AllFit seen → GoodWith SeenFit (covered e seen c)
+  good_covered : (e : Frame) (seen : List Fact) (c : Option Cover) → AllFit seen → GoodWith SeenFit (covered_seen e seen c)
   good_covered e seen None t = keeps_return t
   good_covered e seen (Some c) t =
       good_with Fits SeenFit _ _ (good_root c.root (find_fact seen c.root) (found_fits seen c.root t))
       (λ x f. good_with (λ v. Unit {0}) SeenFit _ _ (good_own e x f) (λ v u. keeps_return (f, t)))
 
-  good_shown : (e : Frame) (seen : List Fact) (x : Fact) (v : Option Value) → AllFit seen → GoodWith SeenFit (R.shown_by e seen x v)
+  good_shown : (e : Frame) (seen : List Fact) (x : Fact) (v : Option Value) → AllFit seen → GoodWith SeenFit (shown_seen e seen x v)
   good_shown e seen x (Some v) t = keeps_return t
   good_shown e seen x None t = good_covered e seen (R.cover_in x e) t
 
-  good_deref : (e : Frame) (seen : List Fact) (x : Fact) → Fits x → AllFit seen → GoodWith SeenFit (deref e seen x)
+  good_deref : (e : Frame) (seen : List Fact) (x : Fact) → Fits x → AllFit seen → GoodWith SeenFit (deref_seen e seen x)
   good_deref e seen x f t = good_with (λ v. Unit {0}) SeenFit _ _ (good_own (home e x.address) x f) (λ v u. good_shown (home e x.address) seen x v t)
 
-  good_deref_all : (e : Frame) (seen rest : List Fact) → AllFit seen → AllFit rest → Good (deref_all e seen rest)
+  good_deref_all : (e : Frame) (seen rest : List Fact) → AllFit seen → AllFit rest → Good (deref_all_seen e seen rest)
   good_deref_all e seen [] t u = gives
   good_deref_all e seen (x ∷ rest) t (f, u) = good_with SeenFit (λ v. Unit {0}) _ _ (good_deref e seen x f t) (λ y s. good_then _ _ (good_deref_all e y.1 rest s u) (λ ys. gives))
 
   good_address : (e : Frame) (a : Addr) → Good (at_address e a)
-  good_address e a = keeps_look (good_with SeenFit (λ v. Unit {0}) _ _ (good_deref e [] (fact_at (facts S w (single a)) a) (fits_single a) tt) (λ y s. gives))
+  good_address e a = subst Good (sym (reads_alone e a)) (keeps_look (good_with SeenFit (λ v. Unit {0}) _ _ (good_deref e [] (fact_at (facts S w (single a)) a) (fits_single a) tt) (λ y s. gives)))
 
   good_range : (e : Frame) (r : Range) → Good (at_range e r)
-  good_range e r = keeps_look (good_then _ _ (good_deref_all e [] (facts S w r) tt (facts_fit r)) (λ ys. gives))
+  good_range e r = subst Good (sym (reads_once e r)) (keeps_look (good_then _ _ (good_deref_all e [] (facts S w r) tt (facts_fit r)) (λ ys. gives)))
 
   good_whole : (e : Frame) (x : Fact) (h : Option Held) (p : Option V.Permit) → Fits x → Good (R.whole e x h p)
   good_whole e x (Some h) (Some V.Permit.Permitted) f = good_then _ _ (good_own e x f) (λ v. gives)

@@ -1,5 +1,5 @@
 -- What an address shows by what formula cells come to.
-use Rattle.std.proofs.Common.{◌≡◌, ℕ, zero, suc, [], ◌∷◌, Option, Some, None, Result, Ok, refl, sym, subst}
+use Rattle.std.proofs.Common.{◌≡◌, ℕ, zero, suc, Option, Some, None, Result, Ok, refl, sym, subst}
 use Rattle.gl_calculus.specs.Computation.Query.{run, val}
 use Rattle.gl_calculus.specs.Computation.Evaluation.{given}
 use Rattle.gl_calculus.specs.Grid.Grid.{Addr}
@@ -10,7 +10,7 @@ use Rattle.gl_calculus.specs.Evaluation.Oracle.{status, Cover, cover}
 use Rattle.gl_calculus.specs.Evaluation.Facts.{Fact, fact, facts}
 use Rattle.gl_calculus.specs.Evaluation.Key as K
 use Rattle.gl_calculus.specs.Evaluation.Key.{Outcome, Eval, give, ◌>>=◌}
-use Rattle.gl_calculus.specs.Evaluation.Reference.{Reading, own, shown, spilled, deref}
+use Rattle.gl_calculus.specs.Evaluation.Reference.{own, shown, spilled, deref}
 use Rattle.gl_calculus.specs.Evaluation.World.{World}
 use Rattle.gl_calculus.specs.Evaluation.Evaluation.{program, evaluation, cell_value}
 use Rattle.gl_calculus.specs.Calculation.Calculation as C
@@ -19,10 +19,10 @@ use Rattle.laws_calculus.proofs.Calculus.Proper.{fact_at_single}
 
 -- an address is read, by its fact; and a covering root, by its own
 abbrev read : Fact → Eval Value
-read x = deref Top [] x >>= λ (y : Reading). give {R = Value} (V.One y.0)
+read x = deref Top x >>= λ y. give {R = Value} (V.One y)
 
 abbrev read_root : Cover → Fact → Eval Value
-read_root c x = (own Top x >>= λ (v : Option Value). give {R = Reading} (spilled v c.rows c.cols, x ∷ [])) >>= λ (y : Reading). give {R = Value} (V.One y.0)
+read_root c x = (own Top x >>= λ (v : Option Value). give {R = Scalar} (spilled v c.rows c.cols)) >>= λ y. give {R = Value} (V.One y)
 
 module _ (W : World) where
   abbrev reads : ℕ → Eval Value → Option (Result Value K.Budget)

@@ -11,7 +11,7 @@ use Rattle.gl_calculus.specs.Formulas.Formula.{Version, Formula, Content, Const,
 use Rattle.gl_calculus.specs.Evaluation.Oracle.{Sizes, grant, first_difference, Cover, cover}
 use Rattle.gl_calculus.specs.Evaluation.Key.{Cell, Budget, Outcome, Abort, give, ◌>>=◌}
 use Rattle.gl_calculus.specs.Evaluation.Facts.{Fact, fact, facts, fact_at}
-use Rattle.gl_calculus.specs.Evaluation.Reference.{Reading, own, spilled, deref, at_address}
+use Rattle.gl_calculus.specs.Evaluation.Reference.{own, spilled, deref, at_address}
 use Rattle.gl_calculus.specs.Evaluation.World.{World, world}
 use Rattle.gl_calculus.specs.Evaluation.Evaluation.{program, evaluation, cell_value}
 use Rattle.gl_calculus.specs.Calculation.Calculation as C
@@ -141,7 +141,7 @@ one_result program (Ask k c) r s (n, e) (m, f) =
 
 module _ (W : World) (a : Addr) where
   abbrev reading : ℕ → Fact → Option (Result Value Budget)
-  reading n x = run (val (program W) n) (given (facts W.sheet W.oracle) (deref Top [] x >>= λ y. give (One y.0)))
+  reading n x = run (val (program W) n) (given (facts W.sheet W.oracle) (deref Top x >>= λ y. give (One y)))
 
   loops_at : (n : ℕ) (f : Formula) → content W.sheet a ≡ Some (Form f) → val (program W) n (Cell Top a) ≡ None → reading n (fact W.sheet W.oracle a) ≡ None
   loops_at n f c l = rw (c, l) refl
@@ -162,7 +162,7 @@ module _ (W : World) (a : Addr) where
   nothing_ends r u e = absurd (cc (rw (fact_at_single W.sheet W.oracle r, u) at e))
 
   covered_reading : ℕ → Cover → Fact → Option (Result Value Budget)
-  covered_reading n c x = run (val (program W) n) (given (facts W.sheet W.oracle) ((own Top x >>= λ (v : Option Value). give {R = Reading} (spilled v c.rows c.cols, x ∷ [])) >>= λ (y : Reading). give {R = Value} (One y.0)))
+  covered_reading n c x = run (val (program W) n) (given (facts W.sheet W.oracle) ((own Top x >>= λ (v : Option Value). give {R = Scalar} (spilled v c.rows c.cols)) >>= λ y. give {R = Value} (One y)))
 
   -- no more does an address under a root that loops
   under_loop_shows_none : (c : Cover) (x : Scalar) → content W.sheet a ≡ None → cover W.oracle a ≡ Some c → TopLoops W c.root → Gives (program W) (given (facts W.sheet W.oracle) (at_address Top a)) (Ok (One x)) → ⊥

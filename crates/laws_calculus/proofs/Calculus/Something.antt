@@ -11,7 +11,7 @@ use Rattle.gl_calculus.specs.Formulas.Formula.{Version, Formula, Content, Const,
 use Rattle.gl_calculus.specs.Evaluation.Oracle.{Cover, cover, spills_over}
 use Rattle.gl_calculus.specs.Evaluation.Facts.{Fact, fact, facts, fact_at}
 use Rattle.gl_calculus.specs.Evaluation.Key.{Cell, Budget, Outcome, Settled, Abort, Eval, on_result, give, ◌>>=◌}
-use Rattle.gl_calculus.specs.Evaluation.Reference.{Reading, own, value_of, held_top, covered, shown, shown_by, spilled, deref}
+use Rattle.gl_calculus.specs.Evaluation.Reference.{own, value_of, held_top, covered, shown, shown_by, spilled, deref}
 use Rattle.gl_calculus.specs.Evaluation.World.{World, world}
 use Rattle.gl_calculus.specs.Evaluation.Evaluation.{program}
 use Rattle.gl_calculus.specs.Calculation.Calculation as C
@@ -54,25 +54,25 @@ covering (x ∷ xs) a c e =
     ]) e
 
 module _ (W : World) (sheet : IsSheet W.sheet) (unspent : IsUnspent W) (fixed : IsNext W W.oracle) where
-  abbrev reads : ℕ → Eval Reading → Option (Result Reading Budget)
+  abbrev reads : ℕ → Eval Scalar → Option (Result Scalar Budget)
   reads n p = run (val (program W) n) (given (facts W.sheet W.oracle) p)
 
-  abbrev Reads : Eval Reading → Type 0
-  Reads p = (n : ℕ) × (y : Reading) × (reads n p ≡ Some (Ok y))
+  abbrev Reads : Eval Scalar → Type 0
+  Reads p = (n : ℕ) × (y : Scalar) × (reads n p ≡ Some (Ok y))
 
-  by_root : (c : Cover) (x : Fact) (n : ℕ) (v : Option Value) → run (val (program W) n) (given (facts W.sheet W.oracle) (own Top x)) ≡ Some (Ok v) → reads n (own Top x >>= λ u. give (spilled u c.rows c.cols, x ∷ [])) ≡ Some (Ok (spilled v c.rows c.cols, x ∷ []))
-  by_root c x n v h = run_bind (val (program W) n) (facts W.sheet W.oracle) (own Top x) (on_result (λ (u : Option Value). give {R = Reading} (spilled u c.rows c.cols, x ∷ []))) (Ok v) h
+  by_root : (c : Cover) (x : Fact) (n : ℕ) (v : Option Value) → run (val (program W) n) (given (facts W.sheet W.oracle) (own Top x)) ≡ Some (Ok v) → reads n (own Top x >>= λ u. give (spilled u c.rows c.cols)) ≡ Some (Ok (spilled v c.rows c.cols))
+  by_root c x n v h = run_bind (val (program W) n) (facts W.sheet W.oracle) (own Top x) (on_result (λ (u : Option Value). give {R = Scalar} (spilled u c.rows c.cols))) (Ok v) h
 
   -- what a root shows that may cover an address
-  covered_reads : (a : Addr) (o : Option Cover) → cover W.oracle a ≡ o → Reads (covered Top [] o)
-  covered_reads a None e = (0, (Blank, []), refl)
+  covered_reads : (a : Addr) (o : Option Cover) → cover W.oracle a ≡ o → Reads (covered Top o)
+  covered_reads a None e = (0, Blank, refl)
   covered_reads a (Some c) e =
       let (z, p, m) = covering W.oracle a c e in
       let o : (xs : Scalars) × Owns W c.root (Array z xs) = ((fixed_consistent W sheet fixed).entries c.root z).0 (p, m) in
       let v : Option Value = Some (Array z o.0) in
       let x : Fact = fact_at (facts W.sheet W.oracle (single c.root)) c.root in
       let h : run (val (program W) o.1.0) (given (facts W.sheet W.oracle) (own Top x)) ≡ Some (Ok v) = subst (λ u. run (val (program W) o.1.0) (given (facts W.sheet W.oracle) (own Top u)) ≡ Some (Ok v)) (sym (fact_at_single W.sheet W.oracle c.root)) o.1.1 in
-      (o.1.0, (spilled v c.rows c.cols, x ∷ []), by_root c x o.1.0 v h)
+      (o.1.0, spilled v c.rows c.cols, by_root c x o.1.0 v h)
 
   abort_fails : (rest : List Addr) (a : Addr) → Member a rest → AllByRecursion (TopFails W is_abort) rest → TopFails W is_abort a
   abort_fails [] a m fs = absurd m
@@ -81,20 +81,20 @@ module _ (W : World) (sheet : IsSheet W.sheet) (unspent : IsUnspent W) (fixed : 
 
   -- what an address shows by its content, or that it loops
   abbrev Shows : Addr → Option Content → Type 0
-  Shows a c = ((f : Formula) × (content W.sheet a ≡ Some (Form f)) × TopLoops W a) ⊎ Reads (value_of Top a (held_top c) >>= shown_by Top [] (fact W.sheet W.oracle a))
+  Shows a c = ((f : Formula) × (content W.sheet a ≡ Some (Form f)) × TopLoops W a) ⊎ Reads (value_of Top a (held_top c) >>= shown_by Top (fact W.sheet W.oracle a))
 
-  by_outcome : (a : Addr) (f : Formula) (o : Outcome) (n : ℕ) → val (program W) n (Cell Top a) ≡ Some o → is_abort o ≡ false → Reads (value_of Top a (held_top (Some (Form f))) >>= shown_by Top [] (fact W.sheet W.oracle a))
-  by_outcome a f (Outcome.Value v) n h t = (n, (shown (fact W.sheet W.oracle a).status v, []), rw h refl)
+  by_outcome : (a : Addr) (f : Formula) (o : Outcome) (n : ℕ) → val (program W) n (Cell Top a) ≡ Some o → is_abort o ≡ false → Reads (value_of Top a (held_top (Some (Form f))) >>= shown_by Top (fact W.sheet W.oracle a))
+  by_outcome a f (Outcome.Value v) n h t = (n, shown (fact W.sheet W.oracle a).status v, rw h refl)
   by_outcome a f (Settled o) n h t =
-      let c : Reads (covered Top [] (cover W.oracle a)) = covered_reads a (cover W.oracle a) refl in
+      let c : Reads (covered Top (cover W.oracle a)) = covered_reads a (cover W.oracle a) refl in
       let e : val (program W) (n + c.0) (Cell Top a) ≡ Some (Settled o) = val-add (program W) n c.0 (Cell Top a) (Settled o) h in
-      let g : reads (n + c.0) (covered Top [] (cover W.oracle a)) ≡ Some (Ok c.1) = subst (λ m. reads m (covered Top [] (cover W.oracle a)) ≡ Some (Ok c.1)) (add_comm c.0 n) (grow (program W) c.0 n (given (facts W.sheet W.oracle) (covered Top [] (cover W.oracle a))) (Ok c.1) c.2) in
+      let g : reads (n + c.0) (covered Top (cover W.oracle a)) ≡ Some (Ok c.1) = subst (λ m. reads m (covered Top (cover W.oracle a)) ≡ Some (Ok c.1)) (add_comm c.0 n) (grow (program W) c.0 n (given (facts W.sheet W.oracle) (covered Top (cover W.oracle a))) (Ok c.1) c.2) in
       (n + c.0, c.1, rw e g)
   by_outcome a f (Abort b) n h t = absurd (cc t)
 
   shows_by : (a : Addr) (c : Option Content) → content W.sheet a ≡ c → Shows a c
   shows_by a None e = inr (covered_reads a (cover W.oracle a) refl)
-  shows_by a (Some (Const x)) e = inr (0, (x, []), refl)
+  shows_by a (Some (Const x)) e = inr (0, x, refl)
   shows_by a (Some (Form f)) e = by_end (abort_fails (formula_addresses W.sheet) a (formula_listed W.sheet a f e) unspent.no_abort)
     where
       by_end : TopFails W is_abort a → Shows a (Some (Form f))
@@ -110,9 +110,9 @@ module _ (W : World) (sheet : IsSheet W.sheet) (unspent : IsUnspent W) (fixed : 
       by : Shows a (content W.sheet a) → (x : Shown) × IsShown W a x
       by (inl (f, e, l)) = (Shown.Cycle, cycle f e l)
       by (inr r) =
-          let y : Scalar = r.1.0 in
-          let h : reads r.0 (deref Top [] (fact_at (facts W.sheet W.oracle (single a)) a)) ≡ Some (Ok r.1) = subst (λ u. reads r.0 (deref Top [] u) ≡ Some (Ok r.1)) (sym (fact_at_single W.sheet W.oracle a)) r.2 in
-          (Shown.Value y, value (r.0, run_bind (val (program W) r.0) (facts W.sheet W.oracle) (deref Top [] (fact_at (facts W.sheet W.oracle (single a)) a)) (on_result (λ (u : Reading). give {R = Value} (One u.0))) (Ok r.1) h))
+          let y : Scalar = r.1 in
+          let h : reads r.0 (deref Top (fact_at (facts W.sheet W.oracle (single a)) a)) ≡ Some (Ok r.1) = subst (λ u. reads r.0 (deref Top u) ≡ Some (Ok r.1)) (sym (fact_at_single W.sheet W.oracle a)) r.2 in
+          (Shown.Value y, value (r.0, run_bind (val (program W) r.0) (facts W.sheet W.oracle) (deref Top (fact_at (facts W.sheet W.oracle (single a)) a)) (on_result (λ (u : Scalar). give {R = Value} (One u))) (Ok r.1) h))
 
 settled_unspent : (version : Version) (S : Cells) (i : ℕ) (v w : Oracle) (n : ℕ) → Ends version S i v (C.Answer.Settled w n) → IsUnspent (world version S w) × IsNext (world version S w) w
 settled_unspent version S i v w n (settled u next) = (u, next)

@@ -11,7 +11,9 @@ use Rattle.gl_calculus.specs.Formulas.Formula.{Formula, Content, Const, Form, Ce
 use Rattle.gl_calculus.specs.Evaluation.Oracle.{entry_at, Cover, cover, status}
 use Rattle.gl_calculus.specs.Evaluation.Facts.{Fact, fact, facts, find_fact, fact_at}
 use Rattle.gl_calculus.specs.Evaluation.Key.{Key, Cell, Budget, Outcome, Settled, Abort, Eval, give, on_result, ◌>>=◌, own_value}
-use Rattle.gl_calculus.specs.Evaluation.Reference.{held_top, value_of, own, spilling, Reading, covered, seen_or_looked, shown_by, deref, deref_all, at_address, at_range, whole, spill_of}
+use Rattle.gl_calculus.specs.Evaluation.Reference.{held_top, value_of, own, spilling, at_address, at_range, whole, spill_of}
+use Rattle.gl_machine.specs.Seen.{seen_or_looked, Reading, covered_seen, shown_seen, deref_seen, deref_all_seen}
+use Rattle.laws_calculus.proofs.Calculus.ReadsOnce.{reads_once, reads_alone}
 use Rattle.laws_calculus.proofs.Calculus.Proper.{fact_at_single}
 use Rattle.gl_calculus.specs.Formulas.Fit.{AreFit}
 use Rattle.laws_calculus.proofs.Sound.Values.{IsSound, AllSound, IsSoundValue, array_sound, extents_of}
@@ -156,12 +158,12 @@ module _ (S : Cells) (fit : AreFit S) (w w' : Oracle) (fits : IsFit S w) (fits' 
       subst (λ u. Good IsSoundOwn (own Top u) (own Top u)) (sym e)
       (alike_weaken (Gets (IsOwn r (content S r))) (Gets IsSoundOwn) (elim [ Ok o ↦ λ k. own_sound r (content S r) o refl k | Err b ↦ λ k. absurd k ]) (own_good r (content S r) (λ f u. h (Fo.Node.Value r) (inl refl))))
 
-  covered_good : (seen : List Fact) (c : Cover) (f : Formula) → content S c.root ≡ Some (Form f) → ((n : Node) → Member n (cell_nodes S c.root) → Member n needs) → AreRoots seen → Good IsReading (covered Top seen (Some c)) (covered Top seen (Some c))
+  covered_good : (seen : List Fact) (c : Cover) (f : Formula) → content S c.root ≡ Some (Form f) → ((n : Node) → Member n (cell_nodes S c.root) → Member n needs) → AreRoots seen → Good IsReading (covered_seen Top seen (Some c)) (covered_seen Top seen (Some c))
   covered_good seen c f e h t =
       good_then IsRoot IsReading _ _ _ _ (root_good c.root (find_fact seen c.root) h f e (found_root seen c.root t))
       (λ y k. good_then IsSoundOwn IsReading _ _ _ _ (root_own y k) (λ v u. both_return (spilled_sound v c.rows c.cols u, (k, t))))
 
-  blank_good : (a : Addr) (seen : List Fact) (o : Option Cover) → content S a ≡ None → cover w a ≡ o → Needed a None → AreRoots seen → Good IsReading (covered Top seen o) (covered Top seen o)
+  blank_good : (a : Addr) (seen : List Fact) (o : Option Cover) → content S a ≡ None → cover w a ≡ o → Needed a None → AreRoots seen → Good IsReading (covered_seen Top seen o) (covered_seen Top seen o)
   blank_good a seen None d e h t = both_return (refl, t)
   blank_good a seen (Some c) d e h t =
       let (x, m, s, q) = cover_entry w a c e in
@@ -172,7 +174,7 @@ module _ (S : Cells) (fit : AreFit S) (w w' : Oracle) (fits : IsFit S w) (fits' 
       let r : x.root ≡ c.root = ap (λ y. y.root) (sym q) in
       covered_good seen c f (subst (λ y. content S y ≡ Some (Form f)) r u) (λ n j. h n (member_flat (cell_nodes S) (covering S a) c.root n (subst (λ y. Member y (covering S a)) r i) j)) t
 
-  shown_good : (a : Addr) (seen : List Fact) (c : Option Content) (o : Option Value) → content S a ≡ c → Needed a c → AreRoots seen → IsOwn a c o → Good IsReading (shown_by Top seen (fact S w a) o) (shown_by Top seen (fact S w a) o)
+  shown_good : (a : Addr) (seen : List Fact) (c : Option Content) (o : Option Value) → content S a ≡ c → Needed a c → AreRoots seen → IsOwn a c o → Good IsReading (shown_seen Top seen (fact S w a) o) (shown_seen Top seen (fact S w a) o)
   shown_good a seen (Some (Form f)) (Some v) e h t k = both_return (shown_sound (fact S w a).status v k.0, t)
   shown_good a seen (Some (Const x)) (Some v) e h t k = both_return (shown_sound (fact S w a).status v (own_sound a (Some (Const x)) (Some v) e k), t)
   shown_good a seen None None e h t k = blank_good a seen (cover w a) e refl h t
@@ -183,7 +185,7 @@ module _ (S : Cells) (fit : AreFit S) (w w' : Oracle) (fits : IsFit S w) (fits' 
   value_needed : (a : Addr) (c : Option Content) → Needed a c → (f : Formula) → c ≡ Some (Form f) → Member (Fo.Node.Value a) needs
   value_needed a c h f e = (subst (Needed a) e h) (Fo.Node.Value a) (inl refl)
 
-  deref_good : (a : Addr) (seen : List Fact) → Needed a (content S a) → AreRoots seen → Good IsReading (deref Top seen (fact S w a)) (deref Top seen (fact S w a))
+  deref_good : (a : Addr) (seen : List Fact) → Needed a (content S a) → AreRoots seen → Good IsReading (deref_seen Top seen (fact S w a)) (deref_seen Top seen (fact S w a))
   deref_good a seen h t =
       good_then (IsOwn a (content S a)) IsReading _ _ _ _ (own_good a (content S a) (value_needed a (content S a) h)) (λ o k. shown_good a seen (content S a) o refl h t k)
 
@@ -194,14 +196,15 @@ module _ (S : Cells) (fit : AreFit S) (w w' : Oracle) (fits : IsFit S w) (fits' 
   address_good a h =
       let p : fact_at (facts S w (single a)) a ≡ fact S w a = fact_at_single S w a in
       let p' : fact_at (facts S w' (single a)) a ≡ fact S w a = fact_at_single S w' a ∙ sym (same_fact a h) in
-      both_look (subst (λ u. Good IsSoundScalar (deref Top [] u >>= λ y. give (One y.0)) (deref Top [] (fact_at (facts S w' (single a)) a) >>= λ y. give (One y.0))) (sym p)
-      (subst (λ u. Good IsSoundScalar (deref Top [] (fact S w a) >>= λ y. give (One y.0)) (deref Top [] u >>= λ y. give (One y.0))) (sym p')
-      (good_then IsReading IsSoundScalar _ _ _ _ (deref_good a [] h tt) (λ y k. both_return (k.0, tt)))))
+      subst (λ p. Good IsSoundScalar p p) (sym (reads_alone Top a))
+      (both_look (subst (λ u. Good IsSoundScalar (deref_seen Top [] u >>= λ y. give (One y.0)) (deref_seen Top [] (fact_at (facts S w' (single a)) a) >>= λ y. give (One y.0))) (sym p)
+      (subst (λ u. Good IsSoundScalar (deref_seen Top [] (fact S w a) >>= λ y. give (One y.0)) (deref_seen Top [] u >>= λ y. give (One y.0))) (sym p')
+      (good_then IsReading IsSoundScalar _ _ _ _ (deref_good a [] h tt) (λ y k. both_return (k.0, tt))))))
 
   abbrev IsList : ℕ → List Scalar → Type 0
   IsList n ys = (length ys ≡ n) × AllSound ys
 
-  all_good : (places : List Addr) (seen : List Fact) → ((a : Addr) → Member a places → Needed a (content S a)) → AreRoots seen → Good (IsList (length (map (fact S w) places))) (deref_all Top seen (map (fact S w) places)) (deref_all Top seen (map (fact S w) places))
+  all_good : (places : List Addr) (seen : List Fact) → ((a : Addr) → Member a places → Needed a (content S a)) → AreRoots seen → Good (IsList (length (map (fact S w) places))) (deref_all_seen Top seen (map (fact S w) places)) (deref_all_seen Top seen (map (fact S w) places))
   all_good [] seen h t = both_return (refl, tt)
   all_good (a ∷ places) seen h t =
       good_then IsReading (IsList (suc (length (map (fact S w) places)))) _ _ _ _ (deref_good a seen (h a (inl refl)) t)
@@ -210,9 +213,10 @@ module _ (S : Cells) (fit : AreFit S) (w w' : Oracle) (fits : IsFit S w) (fits' 
   pub range_good : (r : Range) → IsTrue (is_size (extents r)) → ((a : Addr) → Member a (addresses r) → Needed a (content S a)) → Good (λ v. IsSoundValue v × ((xs : _) × (v ≡ Array (extents r) xs))) (at_range Top r) (at_range Top r)
   range_good r z h =
       let e : facts S w r ≡ facts S w' r = same_facts (addresses r) h in
-      both_look (subst (λ u. Good (λ v. IsSoundValue v × ((xs : _) × (v ≡ Array (extents r) xs))) (deref_all Top [] (facts S w r) >>= λ ys. give (Array (extents r) (scalars ys))) (deref_all Top [] u >>= λ ys. give (Array (extents r) (scalars ys)))) e
+      subst (λ p. Good (λ v. IsSoundValue v × ((xs : _) × (v ≡ Array (extents r) xs))) p p) (sym (reads_once Top r))
+      (both_look (subst (λ u. Good (λ v. IsSoundValue v × ((xs : _) × (v ≡ Array (extents r) xs))) (deref_all_seen Top [] (facts S w r) >>= λ ys. give (Array (extents r) (scalars ys))) (deref_all_seen Top [] u >>= λ ys. give (Array (extents r) (scalars ys)))) e
       (good_then (IsList (length (facts S w r))) (λ v. IsSoundValue v × ((xs : _) × (v ≡ Array (extents r) xs))) _ _ _ _ (all_good (addresses r) [] h tt)
-      (λ ys k. both_return (array_sound (extents r) ys (extents_of (extents r) z) (k.0 ∙ facts_count S w r) k.1, (scalars ys, refl)))))
+      (λ ys k. both_return (array_sound (extents r) ys (extents_of (extents r) z) (k.0 ∙ facts_count S w r) k.1, (scalars ys, refl))))))
 
   -- ---- `a#`
 

@@ -1,5 +1,5 @@
 -- References ask for sound keys, and what they read is sound.
-use Rattle.std.proofs.Common.{◌≡◌, ℕ, suc, ◌*◌, List, [], ◌∷◌, length, map, Bool, true, false, IsTrue, if◌then◌else◌, Option, Some, None, Result, Ok, Err, refl, ap, ◌∙◌}
+use Rattle.std.proofs.Common.{◌≡◌, ℕ, suc, ◌*◌, List, [], ◌∷◌, length, map, Bool, true, false, IsTrue, if◌then◌else◌, Option, Some, None, Result, Ok, Err, refl, ap, sym, subst, ◌∙◌}
 use Rattle.std.specs.List.{AllByRecursion, range_with_len}
 use Rattle.std.proofs.lemmas.List.{length-map}
 use Rattle.std.proofs.lemmas.List.FromFn.{length-range_with_len}
@@ -14,7 +14,9 @@ use Rattle.gl_calculus.specs.Evaluation.Oracle.{Cover}
 use Rattle.gl_calculus.specs.Evaluation.Facts.{Fact, fact, facts, find_fact, fact_at}
 use Rattle.gl_calculus.specs.Evaluation.Key.{Outcome, Settled, Abort, Budget, Eval, on_result, ◌>>=◌, own_value}
 use Rattle.gl_calculus.specs.Evaluation.Reference as R
-use Rattle.gl_calculus.specs.Evaluation.Reference.{Held, Given, Computed, held_top, override_or, content_in, in_region, own_content, home, own, value_of, shown, spilled, spilling, Reading, covered, deref, deref_all, seen_or_looked, at_address, at_range, spill_of}
+use Rattle.gl_calculus.specs.Evaluation.Reference.{Held, Given, Computed, held_top, override_or, content_in, in_region, own_content, home, own, value_of, shown, spilled, spilling, at_address, at_range, spill_of}
+use Rattle.gl_machine.specs.Seen.{seen_or_looked, Reading, covered_seen, shown_seen, deref_seen, deref_all_seen}
+use Rattle.laws_calculus.proofs.Calculus.ReadsOnce.{reads_once, reads_alone}
 use Rattle.gl_calculus.specs.Evaluation.Sound.{is_size, is_sound_frame, is_sound_key}
 use Rattle.gl_calculus.specs.Formulas.Fit.{is_fit, is_fit_content, AreFit}
 use Rattle.laws_calculus.specs.Sound.{IsSoundOutcome}
@@ -164,17 +166,17 @@ module _ (S : Cells) (w : Oracle) where
     good_root a (Some x) t = keeps_return t
     good_root a None t = keeps_look (keeps_return (at_fit (facts S w (single a)) a (facts_fit fit (single a))))
 
-    good_covered : (e : Frame) (seen : List Fact) (c : Option Cover) → SoundFrame e → FitFacts seen → Good SoundReading (covered e seen c)
+    good_covered : (e : Frame) (seen : List Fact) (c : Option Cover) → SoundFrame e → FitFacts seen → Good SoundReading (covered_seen e seen c)
     good_covered e seen None s t = keeps_return (refl, t)
     good_covered e seen (Some c) s t =
         good_then FitFact SoundReading _ _ (good_root c.root (find_fact seen c.root) (found_fit seen c.root t))
         (λ x f. good_then SoundIf SoundReading _ _ (good_own e x s f) (λ v u. keeps_return (spilled_sound v c.rows c.cols u, (f, t))))
 
-    good_shown : (e : Frame) (seen : List Fact) (x : Fact) (v : Option Value) → SoundFrame e → FitFacts seen → SoundIf v → Good SoundReading (R.shown_by e seen x v)
+    good_shown : (e : Frame) (seen : List Fact) (x : Fact) (v : Option Value) → SoundFrame e → FitFacts seen → SoundIf v → Good SoundReading (shown_seen e seen x v)
     good_shown e seen x (Some v) s t u = keeps_return (shown_sound (R.status_in x e) v u, t)
     good_shown e seen x None s t u = good_covered e seen (R.cover_in x e) s t
 
-    pub good_deref : (e : Frame) (seen : List Fact) (x : Fact) → SoundFrame e → FitFact x → FitFacts seen → Good SoundReading (deref e seen x)
+    pub good_deref : (e : Frame) (seen : List Fact) (x : Fact) → SoundFrame e → FitFact x → FitFacts seen → Good SoundReading (deref_seen e seen x)
     good_deref e seen x s f t =
         let h = home_sound e x.address s in
         good_then SoundIf SoundReading _ _ (good_own (home e x.address) x h f) (λ v u. good_shown (home e x.address) seen x v h t u)
@@ -183,7 +185,7 @@ module _ (S : Cells) (w : Oracle) where
     abbrev pub SoundList : ℕ → List Scalar → Type 0
     SoundList n ys = (length ys ≡ n) × AllSound ys
 
-    pub good_deref_all : (e : Frame) (seen rest : List Fact) → SoundFrame e → FitFacts seen → FitFacts rest → Good (SoundList (length rest)) (deref_all e seen rest)
+    pub good_deref_all : (e : Frame) (seen rest : List Fact) → SoundFrame e → FitFacts seen → FitFacts rest → Good (SoundList (length rest)) (deref_all_seen e seen rest)
     good_deref_all e seen [] s t u = keeps_return (refl, tt)
     good_deref_all e seen (x ∷ rest) s t (f, u) =
         good_then SoundReading (SoundList (length (x ∷ rest))) _ _ (good_deref e seen x s f t)
@@ -191,12 +193,14 @@ module _ (S : Cells) (w : Oracle) where
 
     pub good_address : (e : Frame) (a : Addr) → SoundFrame e → Good IsSoundValue (at_address e a)
     good_address e a s =
-        keeps_look (good_then SoundReading IsSoundValue _ _ (good_deref e [] (fact_at (facts S w (single a)) a) s (at_fit (facts S w (single a)) a (facts_fit fit (single a))) tt) (λ y q. keeps_return q.0))
+        subst (Good IsSoundValue) (sym (reads_alone e a))
+        (keeps_look (good_then SoundReading IsSoundValue _ _ (good_deref e [] (fact_at (facts S w (single a)) a) s (at_fit (facts S w (single a)) a (facts_fit fit (single a))) tt) (λ y q. keeps_return q.0)))
 
     pub good_range : (e : Frame) (r : Range) → SoundFrame e → IsTrue (is_size (extents r)) → Good IsSoundValue (at_range e r)
     good_range e r s z =
-        keeps_look (good_then (SoundList (length (facts S w r))) IsSoundValue _ _ (good_deref_all e [] (facts S w r) s tt (facts_fit fit r))
-        (λ ys q. keeps_return (array_sound (extents r) ys (extents_of (extents r) z) (q.0 ∙ facts_count r) q.1)))
+        subst (Good IsSoundValue) (sym (reads_once e r))
+        (keeps_look (good_then (SoundList (length (facts S w r))) IsSoundValue _ _ (good_deref_all e [] (facts S w r) s tt (facts_fit fit r))
+        (λ ys q. keeps_return (array_sound (extents r) ys (extents_of (extents r) z) (q.0 ∙ facts_count r) q.1))))
 
     good_whole : (e : Frame) (x : Fact) (h : Option Held) (p : Option Permit) → SoundFrame e → FitFact x → Good IsSoundValue (R.whole e x h p)
     good_whole e x (Some h) (Some V.Permit.Permitted) s f = good_then SoundIf IsSoundValue _ _ (good_own e x s f) (λ v u. keeps_return (spilling_sound v u))

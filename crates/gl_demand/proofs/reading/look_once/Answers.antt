@@ -1,6 +1,6 @@
 use Rattle.std.proofs.Common.{◌≡◌, ap, sym, subst, ◌∙◌, ◌++◌, ◌∷◌, [], cond}
 use Rattle.gl_calculus.specs.Evaluation.Facts.{fact, find_fact}
-use Rattle.gl_calculus.specs.Evaluation.Reference.{seen_or_looked}
+use Rattle.gl_machine.specs.Seen.{seen_or_looked}
 use Rattle.gl_demand.specs.Seen.{AreSeen}
 use Rattle.gl_demand.specs.Walks.{trail_tree}
 use Rattle.gl_demand.proofs.Seeing.{seen_again, seen_more, walk_again, walk_first}
