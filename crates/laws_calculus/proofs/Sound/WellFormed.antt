@@ -1,6 +1,7 @@
 -- Well formed formulas are fit: their texts are those of tokens, and they have no bad range and no bad call.
 use Rattle.std.proofs.Common.{◌≡◌, ◌*◌, nat_lt, nat_le, Bool, true, false, ◌&&◌, not, IsTrue, [], ◌∷◌, length, Option, Some, None, refl, sym, subst, arith, if◌then◌else◌}
 use Rattle.std.specs.List.{AllByRecursion}
+use Rattle.std.specs.Option.{option_map_or}
 use Rattle.std.specs.Str.{is_utf8}
 use Rattle.std.proofs.lemmas.Bool.{and_parts, and_from, or_parts, not-false, leb-true, le-leb, ltb-false}
 use Rattle.gl_calculus.specs.Grid.Limits.{max_text, max_cells}
@@ -12,7 +13,7 @@ use Rattle.gl_calculus.specs.Evaluation.Sound.{is_size}
 use Rattle.gl_language.specs.Texts.Text.{Bytes}
 use Rattle.gl_language.specs.Reading.Token.{IsToken, Quoted, quoted}
 use Rattle.gl_language.specs.Reading.Grammar as G
-use Rattle.gl_language.specs.Reading.Grammar.{Raw, Raws, no_raw, raw_and, RawOperands, Tokens, chained, IsExpr, alone, compare, IsChain, chain, IsLinks, no_link, link, IsOperand, sum, prod, unary, IsUnary, neg, atom, IsAtom, number, text, truth, address, spill, corners, variable, apply, parens, IsArguments, no_argument, argument, IsMore, close, comma, function_of, is_let, call_of, let_or_call, tree, operand_trees, trees, some_form, some_operand, some_argument, is_bad_range, is_bad_call, has_bad_name, raws, allows, allows_word, ParseFault}
+use Rattle.gl_language.specs.Reading.Grammar.{Raw, Raws, no_raw, raw_and, RawOperands, Tokens, chained, applied, IsExpr, alone, compare, IsChain, chain, IsLinks, no_link, link, IsOperand, sum, prod, unary, IsUnary, neg, atom, IsAtom, number, text, truth, address, spill, corners, variable, apply, parens, IsArguments, no_argument, argument, IsMore, close, comma, function_of, is_let, call_of, tree, operand_trees, trees, some_form, some_operand, some_argument, is_bad_range, is_bad_call, has_bad_name, raws, allows, ParseFault}
 use Rattle.gl_language.specs.Reading.Content.{IsProperContent}
 use Rattle.gl_calculus.specs.Formulas.Fit.{takes, is_fit, are_fit, are_fit_operands, is_fit_content}
 use Rattle.laws_calculus.specs.Sound.{WellFormedIsFit, ProperIsFit}
@@ -30,6 +31,7 @@ abbrev mutual
   HasTexts (Raw.Neg f) = HasTexts f
   HasTexts (Raw.Chain level f rest) = HasTexts f × HaveTexts rest
   HasTexts (Raw.Compare op f g) = HasTexts f × HasTexts g
+  HasTexts (Raw.Let v f body) = HasTexts f × HasTexts body
   HasTexts (Raw.Apply word xs) = AllHaveTexts xs
   HasTexts f = Unit {0}
 
@@ -50,6 +52,15 @@ quoted_short t (bs, quoted d u l) = and_from (is_utf8 t) (nat_le (length t) max_
 chained_texts : (level : Level) (f : Raw) (rest : RawOperands) → HasTexts f → HaveTexts rest → HasTexts (chained level f rest)
 chained_texts level f G.RawOperands.no_operand h k = h
 chained_texts level f (G.RawOperands.operand_and op g rest) h k = (h, k)
+
+let_texts : (l : Bool) (word : Bytes) (v : Bytes) (f body : Raw) → AllHaveTexts (raw_and (Raw.Var v) (raw_and f (raw_and body no_raw))) →
+    HasTexts (if l then Raw.Let v f body else Raw.Apply word (raw_and (Raw.Var v) (raw_and f (raw_and body no_raw))))
+let_texts true word v f body h = (h.1.0, h.1.1.0)
+let_texts false word v f body h = h
+
+applied_texts : (word : Bytes) (xs : Raws) → AllHaveTexts xs → HasTexts (applied word xs)
+applied_texts word (raw_and (Raw.Var v) (raw_and f (raw_and body no_raw))) h = let_texts (is_let word) word v f body h
+applied_texts word xs h = h
 
 -- the texts of a form are those of tokens, and what follows it are tokens
 mutual
@@ -81,7 +92,7 @@ mutual
   atom_texts spill h = (tt, h.1.1)
   atom_texts corners h = (tt, h.1.1.1)
   atom_texts variable h = (tt, h.1)
-  atom_texts (apply a) h = arguments_texts a h.1.1
+  atom_texts (apply {word = word} {xs = xs} a) h = let p = arguments_texts a h.1.1 in (applied_texts word xs p.0, p.1)
   atom_texts (parens e) h = let p = expr_texts e h.1 in (p.0, p.1.1)
 
   arguments_texts : {ts us : Tokens} {xs : Raws} → IsArguments ts xs us → AreTokens ts → AllHaveTexts xs × AreTokens us
@@ -111,20 +122,9 @@ takes_from F.Fun.VStack no_raw h = absurd (cc h)
 takes_from F.Fun.VStack (raw_and x xs) h = refl
 takes_from f xs h = refl
 
-call_fit : (o : Option Fun) (xs : Raws) → allows_word o (raws xs) ≡ true → IsTrue (are_fit (trees xs)) → IsTrue (is_fit (call_of o (trees xs)))
+call_fit : (o : Option Fun) (xs : Raws) → option_map_or (λ f. allows f (raws xs)) o false ≡ true → IsTrue (are_fit (trees xs)) → IsTrue (is_fit (call_of o (trees xs)))
 call_fit (Some f) xs h k = and_from (takes f (trees xs)) (are_fit (trees xs)) (takes_from f xs h) k
-call_fit None xs h k = k
-
-choice_fit : (b : Bool) (f g : Formula) → IsTrue (is_fit f) → IsTrue (is_fit g) → IsTrue (is_fit (if b then f else g))
-choice_fit true f g h k = h
-choice_fit false f g h k = k
-
-let_fit : (word : Bytes) (fs : Formulas) → IsTrue (are_fit fs) → IsTrue (is_fit (call_of (function_of word) fs)) → IsTrue (is_fit (let_or_call word fs))
-let_fit word (F.Formulas.formula_and (F.Formula.Var v) (F.Formulas.formula_and f (F.Formulas.formula_and body F.Formulas.no_formula))) h k =
-    let p = and_parts (is_fit f) (is_fit body && true) h in
-    let q = and_parts (is_fit body) true p.1 in
-    choice_fit (is_let word) (F.Formula.Let v f body) _ (and_from (is_fit f) (is_fit body) p.0 q.0) k
-let_fit word fs h k = k
+call_fit None xs h k = absurd (cc h)
 
 -- ---- trees
 
@@ -146,10 +146,14 @@ mutual
       let p = or_parts (some_form is_bad_range f) (some_form is_bad_range g) r in
       let q = or_parts (some_form is_bad_call f) (some_form is_bad_call g) c in
       and_from (is_fit (tree f)) (is_fit (tree g)) (tree_fit f t.0 p.0 q.0) (tree_fit g t.1 p.1 q.1)
+  tree_fit (Raw.Let v f body) t r c =
+      let p = or_parts (some_form is_bad_range f) (some_form is_bad_range body) r in
+      let q = or_parts (some_form is_bad_call f) (some_form is_bad_call body) c in
+      and_from (is_fit (tree f)) (is_fit (tree body)) (tree_fit f t.0 p.0 q.0) (tree_fit body t.1 p.1 q.1)
   tree_fit (Raw.Apply word xs) t r c =
-      let q = or_parts (not (allows_word (function_of word) (raws xs))) (some_argument is_bad_call xs) c in
-      let k = arguments_fit xs t r q.1 in
-      let_fit word (trees xs) k (call_fit (function_of word) xs (not-false (allows_word (function_of word) (raws xs)) q.0) k)
+      let fits = option_map_or (λ f. allows f (raws xs)) (function_of word) false in
+      let q = or_parts (not fits) (some_argument is_bad_call xs) c in
+      call_fit (function_of word) xs (not-false fits q.0) (arguments_fit xs t r q.1)
 
   operands_fit : (rest : RawOperands) → HaveTexts rest → some_operand is_bad_range rest ≡ false → some_operand is_bad_call rest ≡ false → IsTrue (are_fit_operands (operand_trees rest))
   operands_fit G.RawOperands.no_operand t r c = refl

@@ -1,6 +1,6 @@
 -- The canonical tokens of a form are read as this form, in each place and whatever follows.
-use Rattle.std.proofs.Common.{◌&&◌, ◌≡◌, ℕ, ◌+◌, ◌≤◌, Bool, true, false, [], ◌∷◌, ◌++◌, append_assoc, refl, sym, subst, arith}
-use Rattle.std.specs.Prelude.{nat_lt, nat_le}
+use Rattle.std.proofs.Common.{◌&&◌, ◌≡◌, ℕ, ◌+◌, ◌≤◌, Bool, true, false, [], ◌∷◌, ◌++◌, append_assoc, ap, refl, sym, subst, ◌∙◌, arith}
+use Rattle.std.specs.Prelude.{nat_lt, nat_le, codes}
 use Rattle.std.proofs.lemmas.Bool.{or_parts, ltb-false}
 use Rattle.gl_calculus.specs.Grid.Limits.{max_minus}
 use Rattle.gl_calculus.specs.Formulas.Formula.{Level, Formula}
@@ -9,9 +9,9 @@ use Rattle.gl_language.specs.Texts.Text.{level_place, place_of, is_neg, needs_pa
 use Rattle.gl_language.specs.Reading.Token.{Signed}
 use Rattle.gl_language.specs.Reading.Token as T
 use Rattle.gl_language.specs.Texts.Canonical.{op_sign, tokens_in_place, tokens_behind, operands_tokens, arguments_tokens, more_tokens}
-use Rattle.gl_language.specs.Reading.Grammar.{Raw, Raws, no_raw, raw_and, RawOperands, Tokens, chained, IsExpr, alone, compare, IsChain, chain, IsLinks, no_link, link, IsOperand, sum, prod, unary, IsUnary, neg, atom, IsAtom, number, text, truth, address, spill, corners, variable, apply, parens, IsArguments, no_argument, argument, IsMore, close, comma, tree, operand_trees, trees}
+use Rattle.gl_language.specs.Reading.Grammar.{Raw, Raws, no_raw, raw_and, RawOperands, Tokens, chained, applied, IsExpr, alone, compare, IsChain, chain, IsLinks, no_link, link, IsOperand, sum, prod, unary, IsUnary, neg, atom, IsAtom, number, text, truth, address, spill, corners, variable, apply, parens, IsArguments, no_argument, argument, IsMore, close, comma, tree, operand_trees, trees}
 use Rattle.gl_language.specs.Reading.Grammar as G
-use Rattle.laws_language.proofs.Grammar.Named.{IsNamed, AreNamed, AllNamed}
+use Rattle.laws_language.proofs.Grammar.Named.{IsNamed, AreNamed, AllNamed, call_stands, is_call}
 use Rattle.laws_language.proofs.Grammar.Made.{HasOperand, IsMade, AreMade, AllMade}
 
 -- ---- places
@@ -106,7 +106,7 @@ place_width : (f : Raw) → IsNamed f → width (place_in f) ≡ place_of (tree 
 place_width (Raw.Compare op f g) n = refl
 place_width (Raw.Chain level f rest) n = level_width level
 place_width (Raw.Neg f) n = refl
-place_width (Raw.Apply word xs) n = sym n.0.at_place
+place_width (Raw.Apply word xs) n = sym (call_stands word xs n.0).at_place
 place_width f n = refl
 
 -- the canonical tokens of a formula in a place, behind so many `-`
@@ -184,12 +184,24 @@ mutual
       let s : T.Token = Signed (op_sign op) in
       let r : IsExpr (xs ++ (s ∷ (ys ++ rest))) (Raw.Compare op f g) rest = compare (placed_at f k.0 (is_read f h.1.0 k.0) CatPlace minus (s ∷ (ys ++ rest))) h.0 (placed_at g k.1 (is_read g h.1.1 k.1) CatPlace 0 rest) in
       subst (λ z. IsExpr z (Raw.Compare op f g) rest) (sym (append_assoc xs (s ∷ ys) rest)) r
+  is_read (Raw.Let v f body) h k minus rest =
+      let close : T.Token = Signed T.Sign.RightParen in
+      let x : T.Token = Signed T.Sign.Comma in
+      let fs = tokens_behind 0 (tree f) in
+      let bs = tokens_behind 0 (tree body) in
+      let e : (fs ++ (x ∷ (bs ++ close ∷ []))) ++ rest ≡ fs ++ (x ∷ (bs ++ close ∷ rest)) = append_assoc fs (x ∷ (bs ++ close ∷ [])) rest ∙ ap (λ z. fs ++ (x ∷ z)) (append_assoc bs (close ∷ []) rest) in
+      let v_read : IsExpr (T.Variable v ∷ x ∷ (fs ++ (x ∷ (bs ++ close ∷ rest)))) (Raw.Var v) (x ∷ (fs ++ (x ∷ (bs ++ close ∷ rest)))) = alone (as_cat (as_sum (as_prod (atom variable)))) in
+      let f_read = expr_at f (is_read f h.1.0 k.0) (x ∷ (bs ++ close ∷ rest)) in
+      let body_read = expr_at body (is_read body h.1.1 k.1) (close ∷ rest) in
+      let r : IsAtom (T.Word (codes "LET") ∷ Signed T.Sign.LeftParen ∷ T.Variable v ∷ x ∷ (fs ++ (x ∷ (bs ++ close ∷ rest)))) (Raw.Let v f body) rest = apply (argument v_read (comma f_read (comma body_read G.close))) in
+      subst (λ z. IsAtom (T.Word (codes "LET") ∷ Signed T.Sign.LeftParen ∷ T.Variable v ∷ x ∷ z) (Raw.Let v f body) rest) (sym e) r
   is_read (Raw.Apply word xs) h k minus rest =
       let close : T.Token = Signed T.Sign.RightParen in
       let ys = arguments_tokens (trees xs) in
       let e : (ys ++ close ∷ []) ++ rest ≡ ys ++ close ∷ rest = append_assoc ys (close ∷ []) rest in
-      let r : IsAtom (T.Word word ∷ Signed T.Sign.LeftParen ∷ (ys ++ close ∷ rest)) (Raw.Apply word xs) rest = apply (arguments_read xs h k.1 rest) in
-      subst (λ z. IsAtom (z ++ rest) (Raw.Apply word xs) rest) (sym (k.0.tokens minus)) (subst (λ z. IsAtom (T.Word word ∷ Signed T.Sign.LeftParen ∷ z) (Raw.Apply word xs) rest) (sym e) r)
+      let a : IsAtom (T.Word word ∷ Signed T.Sign.LeftParen ∷ (ys ++ close ∷ rest)) (applied word xs) rest = apply (arguments_read xs h k.1 rest) in
+      let r : IsAtom (T.Word word ∷ Signed T.Sign.LeftParen ∷ (ys ++ close ∷ rest)) (Raw.Apply word xs) rest = subst (λ z. IsAtom (T.Word word ∷ Signed T.Sign.LeftParen ∷ (ys ++ close ∷ rest)) z rest) (is_call word xs k.0) a in
+      subst (λ z. IsAtom (z ++ rest) (Raw.Apply word xs) rest) (sym ((call_stands word xs k.0).tokens minus)) (subst (λ z. IsAtom (T.Word word ∷ Signed T.Sign.LeftParen ∷ z) (Raw.Apply word xs) rest) (sym e) r)
 
   links_read : (level : Level) (os : RawOperands) → AreMade level os → AreNamed os → (rest : Tokens) → IsLinks level (operands_tokens (level_place level + 1) (operand_trees os) ++ rest) os rest
   links_read level G.RawOperands.no_operand h k rest = no_link

@@ -12,9 +12,9 @@ use Rattle.gl_language.specs.Texts.Text.{level_place, place_of, is_neg, needs_pa
 use Rattle.gl_language.specs.Reading.Token.{Token, Sign, Signed}
 use Rattle.gl_language.specs.Reading.Token as T
 use Rattle.gl_language.specs.Texts.Canonical.{op_sign, tokens_in_place, tokens_behind, operands_tokens, arguments_tokens, more_tokens}
-use Rattle.gl_language.specs.Reading.Grammar.{Raw, Raws, RawOperands, Tokens, comparison, chained, IsExpr, alone, compare, IsChain, chain, IsLinks, no_link, link, IsOperand, sum, prod, unary, IsUnary, neg, atom, IsAtom, number, text, truth, address, spill, corners, variable, apply, parens, IsArguments, no_argument, argument, IsMore, close, comma, is_deep_from, tree, operand_trees, trees}
+use Rattle.gl_language.specs.Reading.Grammar.{Raw, Raws, RawOperands, Tokens, comparison, chained, applied, IsExpr, alone, compare, IsChain, chain, IsLinks, no_link, link, IsOperand, sum, prod, unary, IsUnary, neg, atom, IsAtom, number, text, truth, address, spill, corners, variable, apply, parens, IsArguments, no_argument, argument, IsMore, close, comma, is_deep_from, tree, operand_trees, trees}
 use Rattle.gl_language.specs.Reading.Grammar as G
-use Rattle.laws_language.proofs.Grammar.Named.{IsNamed, AreNamed, AllNamed}
+use Rattle.laws_language.proofs.Grammar.Named.{IsNamed, AreNamed, AllNamed, applied_stands}
 use Rattle.laws_language.proofs.Grammar.Made.{same_some, comparison_sign, operator_sign}
 use Rattle.laws_language.proofs.Grammar.Back.{placed}
 use Rattle.laws_language.proofs.Grammar.Sizes.{size, size-append}
@@ -258,10 +258,11 @@ mutual
   atom_kept {f = f} variable w n m o k d q small s h = moved (wide k q (tree f) small refl) (record { behind = h; shallow = λ rest r. r; no_longer = omega arith })
   atom_kept {us = us} (apply {word = word} {ts = ts} {xs = xs} a) w n m o k d q small s h =
       let p = opens n 0 ts h in
-      let r = arguments_kept a w.1 n o (omega (arith, s.opened)) (omega (arith, p.0)) p.1 in
+      let t = applied_stands word xs w in
+      let r = arguments_kept a t.1 n o (omega (arith, s.opened)) (omega (arith, p.0)) p.1 in
       let ys = arguments_tokens (trees xs) in
       let close = Signed T.Sign.RightParen ∷ [] in
-      moved (wide k q (tree (Raw.Apply word xs)) (omega (arith, small, w.0.at_place)) w.0.no_neg ∙ w.0.tokens k) (record {
+      moved (wide k q (tree (applied word xs)) (omega (arith, small, t.0.at_place)) t.0.no_neg ∙ t.0.tokens k) (record {
         behind = r.behind;
         shallow = λ rest i. opening o 0 ((ys ++ close) ++ rest) (omega (arith, s.opened, p.0)) (subst (λ z. IsShallow (o + 1) 0 z) (sym (append_assoc ys close rest)) (r.shallow rest i));
         no_longer = omega (arith, size-append ys close, r.no_longer);

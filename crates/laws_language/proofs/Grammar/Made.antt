@@ -1,6 +1,6 @@
 -- What the grammar makes of tokens: operators of their levels, and numbers, texts, names and addresses of tokens.
-use Rattle.std.proofs.Common.{◌≡◌, ℕ, ◌<◌, ◌≤◌, ◌^◌, IsTrue, length, ap, subst}
-use Rattle.std.specs.Prelude.{Some}
+use Rattle.std.proofs.Common.{◌≡◌, ℕ, ◌<◌, ◌≤◌, ◌^◌, Bool, true, false, IsTrue, length, ap, subst}
+use Rattle.std.specs.Prelude.{Some, if◌then◌else◌}
 use Rattle.std.specs.List.{AllByRecursion}
 use Rattle.std.specs.Str.{is_utf8}
 use Rattle.gl_calculus.specs.Grid.Limits.{max_text}
@@ -11,9 +11,9 @@ use Rattle.gl_language.specs.Texts.Text.{Bytes}
 use Rattle.gl_language.specs.Reading.Token.{Sign, Integer, Quoted, Address, Variable, IsToken, IsRow, is_lower, integer, quoted}
 use Rattle.gl_language.specs.Reading.Token as T
 use Rattle.gl_language.specs.Texts.Canonical.{op_sign, HasTokens, HaveTokens, AllHaveTokens}
-use Rattle.gl_language.specs.Reading.Grammar.{Raw, Raws, no_raw, raw_and, RawOperands, Tokens, comparison, operator, chained, IsExpr, alone, compare, IsChain, chain, IsLinks, no_link, link, IsOperand, sum, prod, unary, IsUnary, neg, atom, IsAtom, number, text, truth, address, spill, corners, variable, apply, parens, IsArguments, no_argument, argument, IsMore, close, comma, tree, operand_trees, trees}
+use Rattle.gl_language.specs.Reading.Grammar.{Raw, Raws, no_raw, raw_and, RawOperands, Tokens, comparison, operator, chained, applied, is_let, IsExpr, alone, compare, IsChain, chain, IsLinks, no_link, link, IsOperand, sum, prod, unary, IsUnary, neg, atom, IsAtom, number, text, truth, address, spill, corners, variable, apply, parens, IsArguments, no_argument, argument, IsMore, close, comma, tree, operand_trees, trees}
 use Rattle.gl_language.specs.Reading.Grammar as G
-use Rattle.laws_language.proofs.Grammar.Named.{IsNamed, AreNamed, AllNamed}
+use Rattle.laws_language.proofs.Grammar.Named.{IsNamed, AreNamed, AllNamed, bound, call_stands}
 
 abbrev pub HasOperand : RawOperands → Type 0
 HasOperand G.RawOperands.no_operand = ⊥
@@ -31,6 +31,7 @@ abbrev mutual
   IsMade (Raw.Neg f) = IsMade f
   IsMade (Raw.Chain level f rest) = HasOperand rest × (IsMade f × AreMade level rest)
   IsMade (Raw.Compare op f g) = (comparison (op_sign op) ≡ Some op) × (IsMade f × IsMade g)
+  IsMade (Raw.Let v f body) = IsRow is_lower v × (IsMade f × IsMade body)
   IsMade (Raw.Apply word xs) = AllMade xs
 
   pub AreMade : Level → RawOperands → Type 0
@@ -86,6 +87,14 @@ chained_made : (level : Level) (f : Raw) (rest : RawOperands) → IsMade f → A
 chained_made level f G.RawOperands.no_operand h k = h
 chained_made level f (G.RawOperands.operand_and op g rest) h k = (tt, (h, k))
 
+let_made : (l : Bool) (word : Bytes) (v : Bytes) (f body : Raw) → AllMade (bound v f body) → IsMade (if l then Raw.Let v f body else Raw.Apply word (bound v f body))
+let_made true word v f body h = (h.0, (h.1.0, h.1.1.0))
+let_made false word v f body h = h
+
+applied_made : (word : Bytes) (xs : Raws) → AllMade xs → IsMade (applied word xs)
+applied_made word (raw_and (Raw.Var v) (raw_and f (raw_and body no_raw))) h = let_made (is_let word) word v f body h
+applied_made word xs h = h
+
 mutual
   pub expr_made : {ts us : Tokens} {f : Raw} → IsExpr ts f us → AreTokens ts → IsMade f × AreTokens us
   expr_made (alone c) h = chain_made c h
@@ -124,7 +133,7 @@ mutual
   atom_made (spill {a = a}) h = (address_made a h.0, h.1.1)
   atom_made (corners {a = a} {b = b}) h = ((address_made a h.0, address_made b h.1.1.0), h.1.1.1)
   atom_made (variable {v = v}) h = (variable_made v h.0, h.1)
-  atom_made (apply a) h = arguments_made a h.1.1
+  atom_made (apply {word = word} {xs = xs} a) h = let p = arguments_made a h.1.1 in (applied_made word xs p.0, p.1)
   atom_made (parens e) h = let p = expr_made e h.1 in (p.0, p.1.1)
 
   arguments_made : {ts us : Tokens} {xs : Raws} → IsArguments ts xs us → AreTokens ts → AllMade xs × AreTokens us
@@ -149,7 +158,8 @@ mutual
   has_tokens (Raw.Neg f) h k = has_tokens f h k
   has_tokens (Raw.Chain level f rest) h k = (has_tokens f h.1.0 k.0, have_tokens level rest h.1.1 k.1)
   has_tokens (Raw.Compare op f g) h k = (has_tokens f h.1.0 k.0, has_tokens g h.1.1 k.1)
-  has_tokens (Raw.Apply word xs) h k = k.0.has (all_have_tokens xs h k.1)
+  has_tokens (Raw.Let v f body) h k = (h.0, (has_tokens f h.1.0 k.0, has_tokens body h.1.1 k.1))
+  has_tokens (Raw.Apply word xs) h k = (call_stands word xs k.0).has (all_have_tokens xs h k.1)
 
   have_tokens : (level : Level) (rest : RawOperands) → AreMade level rest → AreNamed rest → HaveTokens (operand_trees rest)
   have_tokens level G.RawOperands.no_operand h k = tt

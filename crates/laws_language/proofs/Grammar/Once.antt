@@ -5,7 +5,7 @@ use Rattle.gl_calculus.specs.Formulas.Formula.{Op, Level}
 use Rattle.gl_calculus.specs.Formulas.Formula as F
 use Rattle.gl_language.specs.Reading.Token.{Sign, Signed}
 use Rattle.gl_language.specs.Reading.Token as T
-use Rattle.gl_language.specs.Reading.Grammar.{Raw, Raws, raw_and, RawOperands, Tokens, comparison, operator, chained, IsExpr, alone, compare, IsChain, chain, IsLinks, no_link, link, IsOperand, sum, prod, unary, IsUnary, neg, atom, IsAtom, number, text, truth, address, spill, corners, variable, apply, parens, IsArguments, no_argument, argument, IsMore, close, comma}
+use Rattle.gl_language.specs.Reading.Grammar.{Raw, Raws, raw_and, RawOperands, Tokens, comparison, operator, chained, applied, IsExpr, alone, compare, IsChain, chain, IsLinks, no_link, link, IsOperand, sum, prod, unary, IsUnary, neg, atom, IsAtom, number, text, truth, address, spill, corners, variable, apply, parens, IsArguments, no_argument, argument, IsMore, close, comma}
 use Rattle.gl_language.specs.Reading.Grammar as G
 use Rattle.laws_language.proofs.Grammar.Ends.{Ends, chain_end, operand_end, later, compares, operates, links_end, more_ends}
 
@@ -106,7 +106,7 @@ mutual
   one_atom corners e address k = absurd (omega (arith, k))
   one_atom corners e corners k = (refl, refl)
   one_atom variable e variable k = (refl, refl)
-  one_atom (apply {word = word} a) e (apply b) k = let p = one_arguments a b in (ap (Raw.Apply word) p.0, p.1)
+  one_atom (apply {word = word} a) e (apply b) k = let p = one_arguments a b in (ap (applied word) p.0, p.1)
   one_atom (parens a) e (parens b) k = let p = one_expr a (lit< tt) b (lit< tt) in (p.0, cc)
 
   one_arguments : {ts us vs : Tokens} {xs ys : Raws} → IsArguments ts xs us → IsArguments ts ys vs → Same xs ys us vs
