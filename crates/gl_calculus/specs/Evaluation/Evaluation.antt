@@ -118,10 +118,7 @@ bound (b ∷ bs) name = if bytes_eq b.0 name then b.1 else bound bs name
 
 abbrev pub all_values : List Argument → Eval (List Value)
 all_values [] = give []
-all_values (x ∷ xs) = do
-  v ← x.eval
-  vs ← all_values xs
-  give (v ∷ vs)
+all_values (x ∷ xs) = x.eval >>= λ v. all_values xs >>= λ vs. give (v ∷ vs)
 
 -- the updates by pairs of an address and a formula
 abbrev pub updates : Frame → Eval Value → List Argument → Eval Value

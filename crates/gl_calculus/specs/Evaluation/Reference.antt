@@ -110,10 +110,7 @@ deref e x = let h = home e x.address in own h x >>= shown_by h x
 
 abbrev pub deref_all : Frame → List Fact → Eval (List Scalar)
 deref_all e [] = give []
-deref_all e (x ∷ xs) = do
-  y ← deref e x
-  ys ← deref_all e xs
-  give (y ∷ ys)
+deref_all e (x ∷ xs) = deref e x >>= λ y. deref_all e xs >>= λ ys. give (y ∷ ys)
 
 -- the same evaluation, where what was looked at alone is not looked at again
 abbrev pub once : {R : Type 0} → List Fact → Eval R → Eval R
