@@ -44,7 +44,7 @@ fn put_edits(alloc: Global, out: &mut String, replica: &Replica) -> Result<(), N
 {
     for i in 0..replica.len() {
         let Some(e) = replica.register(i) else {
-            return Err(NoMemory); // there are so many
+            unreachable!()
         };
         put_edit(alloc, out, e)?;
     }

@@ -8,7 +8,6 @@ ghost use Rattle.gl_protocol.specs.Framing.Header.{payload_len};
 ghost use Rattle.gl_calculus.specs.Edits.Sheets.{settings};
 ghost use Rattle.gl_cells.specs.Sheet.{sheet, AreProper};
 ghost use Rattle.gl_protocol.specs.Run.Records.{csv_records};
-ghost use Rattle.gl_script.specs.Command.{Asks};
 ghost use Rattle.gl_run.specs.Replies.{HasPlace, IsRefusal, csv_word};
 ghost use Rattle.gl_run.specs.{Kept.IsKept, Ready.IsReady, Script.known_of, Script.script_of};
 ghost use Rattle.gl_run.specs.{Answering.StaysOnErr, Answering.Imports};
@@ -22,7 +21,7 @@ use crate::script::Script;
 use gl_cells::Content;
 use gl_csvin::{CsvFault, contents};
 use gl_plane::{Addr, NoMemory};
-use gl_script::{Request, command};
+use gl_script::header_place;
 use std::alloc::Global;
 
 /// Answers an import: a header with the payload that follows it, which is taken also where the
@@ -45,31 +44,18 @@ pub fn answer_import(
     ensures err { StaysOnErr script.old result script.new }
     ensures kept { IsKept (script_of script.new) }
 {
-    match place(alloc, header) {
-        Ok(Some(at)) => import_at(alloc, script, at, payload),
-        Ok(None) => error_line(alloc, "address"),
-        Err(NoMemory) => Err(NoMemory),
+    match place(header) {
+        Some(at) => import_at(alloc, script, at, payload),
+        None => error_line(alloc, "address"),
     }
 }
 
 /// The address of the header of an import: `None` where its place is none.
-fn place(alloc: Global, header: &[u8]) -> Result<Option<Addr>, NoMemory>
-    ensures { IfOk result (λ at. HasPlace header.now at) }
+fn place(header: &[u8]) -> Option<Addr>
+    requires { IsSome (payload_len header.now) }
+    ensures { HasPlace header.now result }
 {
-    match command(alloc, header) {
-        Ok(request) => import_place(&request),
-        Err(_) => Err(NoMemory),
-    }
-}
-
-// A header asks nothing else, so that only memory can be short.
-fn import_place(request: &Request) -> Result<Option<Addr>, NoMemory>
-    ensures { IfOk result (λ at. (l : Bytes) → Asks l request.now → HasPlace l at) }
-{
-    match request {
-        Request::Import { at, .. } => Ok(*at),
-        _ => Err(NoMemory),
-    }
+    header_place(header)
 }
 
 /// Imports a payload at an address.

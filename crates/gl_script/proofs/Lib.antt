@@ -10,3 +10,4 @@ pub mod Lines
 pub mod Once
 pub mod Alone
 pub mod ReadsBack
+pub mod HeaderWords

@@ -15,17 +15,17 @@ use Rattle.gl_protocol.specs.Run.Spends.{Spends}
 use Rattle.gl_run.proofs.Spending.{refused_spends}
 use Rattle.gl_run.proofs.imports.answer_import.Goals as goal
 
-pub returns-in-Ok-None-clause-acts : goal.returns-in-Ok-None-clause-acts
-returns-in-Ok-None-clause-acts c =
+pub returns-in-None-clause-acts : goal.returns-in-None-clause-acts
+returns-in-None-clause-acts c =
     let s = script_of c.args.script.now in
     let l = c.args.header.now in
     let p = c.args.payload.now in
     let P : Vec ℕ Global → Type 0 = λ reply. reply.items ≡ error_line (codes "address") in
     let Q : Vec ℕ Global → Type 0 = λ reply. (version : Version) → Acts csv_records version s (Import l p) s reply.items in
-    IfOk-weaker c.error_line.result P Q (λ reply e version. import_nowhere version s l p reply.items (rw c.in-Ok-None.field-0-is at c.in-Ok-None.ensures) e) c.error_line.ensures
+    IfOk-weaker c.error_line.result P Q (λ reply e version. import_nowhere version s l p reply.items (rw c.in-None.is at c.place.ensures) e) c.error_line.ensures
 
-pub returns-in-Ok-None-clause-spends : goal.returns-in-Ok-None-clause-spends
-returns-in-Ok-None-clause-spends c =
+pub returns-in-None-clause-spends : goal.returns-in-None-clause-spends
+returns-in-None-clause-spends c =
     let K = known_of c.args.script.now in
     let l = c.args.header.now in
     let p = c.args.payload.now in
@@ -33,14 +33,14 @@ returns-in-Ok-None-clause-spends c =
     let Q : Vec ℕ Global → Type 0 = λ reply. (version : Version) (n : ℕ) → Spends version K (Import l p) reply.items K n n in
     IfOk-weaker c.error_line.result P Q (λ reply e version n. refused_spends version K n (Import l p) (codes "address") reply.items e) c.error_line.ensures
 
-pub returns-in-Ok-Some-clause-kept : goal.returns-in-Ok-Some-clause-kept
-returns-in-Ok-Some-clause-kept c =
+pub returns-in-Some-clause-kept : goal.returns-in-Some-clause-kept
+returns-in-Some-clause-kept c =
     let s = script_of c.args.script.now in
     let s' = script_of c.import_at.new.script in
     let l = c.args.header.now in
     let p = c.args.payload.now in
-    let at_place = rw c.in-Ok-Some.field-0-is at c.in-Ok-Some.ensures in
-    let P : Vec ℕ Global → Type 0 = λ reply. (version : Version) (l : Bytes) → HasPlace l (Some c.in-Ok-Some.at) → Acts csv_records version s (Import l p) s' reply.items in
+    let at_place = rw c.in-Some.is at c.place.ensures in
+    let P : Vec ℕ Global → Type 0 = λ reply. (version : Version) (l : Bytes) → HasPlace l (Some c.in-Some.at) → Acts csv_records version s (Import l p) s' reply.items in
     let Q : Vec ℕ Global → Type 0 = λ reply. Acts csv_records One s (Import l p) s' reply.items in
     let acts = IfOk-weaker c.import_at.result P Q (λ reply a. a One l at_place) c.import_at.ensures.acts in
     kept_by (λ (v : Vec ℕ Global). v.items) One s s' (Import l p) c.import_at.result c.requires.kept acts c.import_at.ensures.err
