@@ -32,7 +32,7 @@ fn place_in(line: &str) -> Option<Addr>
 
 // The address that the words of an import name.
 fn place_of(words: Words<'_>) -> Option<Addr>
-    ensures { (place count : Bytes) → words_tree words ≡ ImportWords place count
+    ensures { (place count : Bytes) → words_tree words.entry ≡ ImportWords place count
         → MatchOption result (NoAddress place) (IsAddress place) }
 {
     match words {
