@@ -12,54 +12,16 @@ use Rattle.gl_parse.specs.Reading.{is_variable, bound_by}
 -- ---- the variable that is bound
 
 pub other_word_binds : (word : Bytes) (fs : List G.Raw) → is_let word ≡ false → bound_by word fs ≡ None
-other_word_binds word [] h = refl
-other_word_binds word (G.Raw.Var v ∷ []) h = refl
-other_word_binds word (G.Raw.Var v ∷ f ∷ []) h = refl
 other_word_binds word (G.Raw.Var v ∷ f ∷ body ∷ []) h = ap (λ z. if z then Some v else None) h
-other_word_binds word (G.Raw.Var v ∷ f ∷ body ∷ g ∷ fs) h = refl
-other_word_binds word (G.Raw.Number n ∷ fs) h = refl
-other_word_binds word (G.Raw.Text t ∷ fs) h = refl
-other_word_binds word (G.Raw.Boolean b ∷ fs) h = refl
-other_word_binds word (G.Raw.At a ∷ fs) h = refl
-other_word_binds word (G.Raw.Spill a ∷ fs) h = refl
-other_word_binds word (G.Raw.Corners a b ∷ fs) h = refl
-other_word_binds word (G.Raw.Neg f ∷ fs) h = refl
-other_word_binds word (G.Raw.Chain l f rest ∷ fs) h = refl
-other_word_binds word (G.Raw.Compare o f g ∷ fs) h = refl
-other_word_binds word (G.Raw.Let v f body ∷ fs) h = refl
-other_word_binds word (G.Raw.Apply w xs ∷ fs) h = refl
+other_word_binds word fs h = refl
 
-pub other_length_binds : (word : Bytes) (fs : List G.Raw) → length fs ≢ 3 → bound_by word fs ≡ None
-other_length_binds word [] h = refl
-other_length_binds word (G.Raw.Var v ∷ []) h = refl
-other_length_binds word (G.Raw.Var v ∷ f ∷ []) h = refl
+other_length_binds : (word : Bytes) (fs : List G.Raw) → length fs ≢ 3 → bound_by word fs ≡ None
 other_length_binds word (G.Raw.Var v ∷ f ∷ body ∷ []) h = absurd (h refl)
-other_length_binds word (G.Raw.Var v ∷ f ∷ body ∷ g ∷ fs) h = refl
-other_length_binds word (G.Raw.Number n ∷ fs) h = refl
-other_length_binds word (G.Raw.Text t ∷ fs) h = refl
-other_length_binds word (G.Raw.Boolean b ∷ fs) h = refl
-other_length_binds word (G.Raw.At a ∷ fs) h = refl
-other_length_binds word (G.Raw.Spill a ∷ fs) h = refl
-other_length_binds word (G.Raw.Corners a b ∷ fs) h = refl
-other_length_binds word (G.Raw.Neg f ∷ fs) h = refl
-other_length_binds word (G.Raw.Chain l f rest ∷ fs) h = refl
-other_length_binds word (G.Raw.Compare o f g ∷ fs) h = refl
-other_length_binds word (G.Raw.Let v f body ∷ fs) h = refl
-other_length_binds word (G.Raw.Apply w xs ∷ fs) h = refl
+other_length_binds word fs h = refl
 
 other_first_binds : (word : Bytes) (f : G.Raw) (fs : List G.Raw) → is_variable f ≡ false → bound_by word (f ∷ fs) ≡ None
 other_first_binds word (G.Raw.Var v) fs h = cc
-other_first_binds word (G.Raw.Number n) fs h = refl
-other_first_binds word (G.Raw.Text t) fs h = refl
-other_first_binds word (G.Raw.Boolean b) fs h = refl
-other_first_binds word (G.Raw.At a) fs h = refl
-other_first_binds word (G.Raw.Spill a) fs h = refl
-other_first_binds word (G.Raw.Corners a b) fs h = refl
-other_first_binds word (G.Raw.Neg x) fs h = refl
-other_first_binds word (G.Raw.Chain l x rest) fs h = refl
-other_first_binds word (G.Raw.Compare o x g) fs h = refl
-other_first_binds word (G.Raw.Let v x body) fs h = refl
-other_first_binds word (G.Raw.Apply w xs) fs h = refl
+other_first_binds word f fs h = refl
 
 -- the call by its arguments in the code
 pub plain_length : (text : Bytes) (word : Bytes) (xs : List Raw) → length xs ≢ 3 → bound_by word (plains text xs) ≡ None
@@ -83,27 +45,13 @@ bound_word true u v h = (refl, cc)
 bound_word false u v h = cc
 
 -- the arguments of a call that binds a variable
-pub is_binding : (word : Bytes) (fs : List G.Raw) (v : Bytes) → bound_by word fs ≡ Some v → (is_let word ≡ true) × ((f : G.Raw) × (body : G.Raw) × (fs ≡ G.Raw.Var v ∷ f ∷ body ∷ []))
-is_binding word [] v h = cc
-is_binding word (G.Raw.Var u ∷ []) v h = cc
-is_binding word (G.Raw.Var u ∷ f ∷ []) v h = cc
+is_binding : (word : Bytes) (fs : List G.Raw) (v : Bytes) → bound_by word fs ≡ Some v → (is_let word ≡ true) × ((f : G.Raw) × (body : G.Raw) × (fs ≡ G.Raw.Var v ∷ f ∷ body ∷ []))
 is_binding word (G.Raw.Var u ∷ f ∷ body ∷ []) v h = let p = bound_word (is_let word) u v h in (p.0, (f, body, ap (λ z. G.Raw.Var z ∷ f ∷ body ∷ []) p.1))
-is_binding word (G.Raw.Var u ∷ f ∷ body ∷ g ∷ fs) v h = cc
-is_binding word (G.Raw.Number n ∷ fs) v h = cc
-is_binding word (G.Raw.Text t ∷ fs) v h = cc
-is_binding word (G.Raw.Boolean b ∷ fs) v h = cc
-is_binding word (G.Raw.At a ∷ fs) v h = cc
-is_binding word (G.Raw.Spill a ∷ fs) v h = cc
-is_binding word (G.Raw.Corners a b ∷ fs) v h = cc
-is_binding word (G.Raw.Neg f ∷ fs) v h = cc
-is_binding word (G.Raw.Chain l f rest ∷ fs) v h = cc
-is_binding word (G.Raw.Compare o f g ∷ fs) v h = cc
-is_binding word (G.Raw.Let u f body ∷ fs) v h = cc
-is_binding word (G.Raw.Apply w xs ∷ fs) v h = cc
+is_binding word fs v h = cc
 
-pub record IsLet (text : Bytes) (word : Bytes) (xs : List Raw) (v : Bytes) (f body : Raw) : Type 0 where
-  pub is_let : is_let word ≡ true
-  pub arguments : plains text xs ≡ G.Raw.Var v ∷ raw_tree text f ∷ raw_tree text body ∷ []
+record IsLet (text : Bytes) (word : Bytes) (xs : List Raw) (v : Bytes) (f body : Raw) : Type 0 where
+  is_let : is_let word ≡ true
+  arguments : plains text xs ≡ G.Raw.Var v ∷ raw_tree text f ∷ raw_tree text body ∷ []
 
 let_by : (text : Bytes) (word : Bytes) (x y z : Raw) (v : Bytes) → (is_let word ≡ true) × ((f : G.Raw) × (body : G.Raw) × (plains text (x ∷ y ∷ z ∷ []) ≡ G.Raw.Var v ∷ f ∷ body ∷ [])) → IsLet text word (x ∷ y ∷ z ∷ []) v y z
 let_by text word x y z v h =
@@ -111,7 +59,7 @@ let_by text word x y z v h =
     let e : raw_tree text x ≡ G.Raw.Var v = cc in
     record { is_let = h.0; arguments = ap (λ f. f ∷ raw_tree text y ∷ raw_tree text z ∷ []) e }
 
--- ---- forms
+-- ---- the form
 
 not_bound : (x : Bool) (v : Bytes) → (if x then Some v else None) ≡ None → x ≡ false
 not_bound true v h = cc

@@ -1,5 +1,4 @@
 use Rattle.std.proofs.Common.{arith}
-use Rattle.std.proofs.lemmas.Grind.{common_steps}
 use Rattle.gl_language.specs.Reading.Grammar.{function_of}
 use Rattle.gl_parse.proofs.Building.{built_number, built_text, built_bool, built_at, built_spill, built_corners, built_var, built_neg, built_chain, built_compare, built_let, built_apply, argument_built, operand_built, built_call}
 use Rattle.gl_parse.proofs.build.+build.Goals as goal
