@@ -16,6 +16,7 @@ use Rattle.gl_parse.specs.declared.raw.Raw.{Raw as CodeRaw}
 use Rattle.gl_parse.specs.declared.stop.Stop.{Stop}
 use Rattle.gl_parse.specs.declared.stop.Stop.TheVariants.{Syntax, NoMemory}
 
+-- a variable
 abbrev pub is_variable : Raw → Bool
 is_variable (Raw.Var v) = true
 is_variable f = false

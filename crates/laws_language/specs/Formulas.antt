@@ -33,6 +33,7 @@ let_or_call word (F.Formulas.formula_and (F.Formula.Var v) (F.Formulas.formula_a
     (F.Formulas.formula_and f (F.Formulas.formula_and body F.Formulas.no_formula)))
 let_or_call word xs = call_of (function_of word) xs
 
--- The tree of a word and its arguments is told by the trees of these: LET of a variable and two more binds the variable, and all else is a call.
+-- The tree of a word and its arguments is told by the trees of these: LET of a variable and two more
+-- binds the variable, and all else is a call.
 abbrev pub LetBinds : Type 0
 LetBinds = (word : Bytes) (xs : Raws) → tree (applied word xs) ≡ let_or_call word (trees xs)
