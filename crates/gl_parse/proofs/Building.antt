@@ -1,6 +1,6 @@
 -- A form and the formula that is built of it.
-use Rattle.std.proofs.Common.{◌≡◌, ℕ, ◌+◌, ◌^◌, ◌<◌, ◌≤◌, ℤ, pos, negsuc, Bool, true, false, IsTrue, List, [], ◌∷◌, ◌++◌, drop, length, get_or, ap, sym, subst, ◌∙◌, refl, arith}
-use Rattle.std.specs.Prelude.{Option, Some, None, Result, Ok, Err, IfOk, zero, suc, if◌then◌else◌}
+use Rattle.std.proofs.Common.{◌≡◌, ℕ, ◌+◌, ◌^◌, ◌<◌, ◌≤◌, ℤ, pos, negsuc, Bool, IsTrue, List, [], ◌∷◌, ◌++◌, drop, length, get_or, ap, sym, subst, ◌∙◌, refl, arith}
+use Rattle.std.specs.Prelude.{Option, Result, Ok, IfOk, zero, suc}
 use Rattle.std.specs.List.{AllByRecursion}
 use Rattle.std.specs.Str.{IsAscii, IsUtf8}
 use Rattle.std.specs.Rc.{rc_str_bytes}
@@ -14,7 +14,7 @@ use Rattle.gl_calculus.specs.Grid.Grid.{Addr, range}
 use Rattle.gl_calculus.specs.Formulas.Formula as F
 use Rattle.gl_language.specs.Texts.Text.{Bytes}
 use Rattle.gl_language.specs.Reading.Token.{IsRow, is_lower}
-use Rattle.gl_language.specs.Reading.Grammar.{tree, trees, operand_trees, let_or_call, call_of, function_of, is_let}
+use Rattle.gl_language.specs.Reading.Grammar.{tree, trees, operand_trees, call_of, function_of}
 use Rattle.gl_language.specs.Reading.Grammar as G
 use Rattle.gl_lex.specs.View.{number}
 use Rattle.gl_plane.specs.declared.NoMemory.{NoMemory}
@@ -30,9 +30,8 @@ use Rattle.gl_parse.specs.declared.raw.Span.{Span}
 use Rattle.gl_parse.specs.declared.raw.Raw.{Raw}
 use Rattle.gl_parse.specs.declared.raw.Raw.TheVariants as r
 use Rattle.gl_parse.specs.Raws.{raw_tree, letters, links, raws_of, pairs, plains}
-use Rattle.gl_parse.specs.Faults.{IsSpelled, AreSpelled, AreSpelledOperands, InOrder, bound_by}
-use Rattle.gl_parse.proofs.Forms.{tree-Number, tree-Text, tree-Bool, tree-At, tree-Spill, tree-Corners, tree-Var, tree-Neg, tree-Chain, tree-Compare, tree-Apply}
-use Rattle.gl_parse.proofs.Naming.{not_bound, IsLet}
+use Rattle.gl_parse.specs.Faults.{IsSpelled, AreSpelled, AreSpelledOperands, InOrder}
+use Rattle.gl_parse.proofs.Forms.{tree-Number, tree-Text, tree-Bool, tree-At, tree-Spill, tree-Corners, tree-Var, tree-Neg, tree-Chain, tree-Compare, tree-Let, tree-Apply}
 
 -- ---- letters
 
@@ -108,7 +107,15 @@ module _ (text : Bytes) (raw : Raw) where
       gives text raw _ (Ok (f.Chain l b w)) (ap (raw_tree text) e ∙ tree-Chain text l x v)
       (λ s. formula_tree-Chain l b w ∙ ap (λ z. F.Formula.Chain (level_tree l) z (ast.operand_trees w.items)) (i s.0) ∙ ap (F.Formula.Chain (level_tree l) (tree (raw_tree text x.value))) (j s.1))
 
-  pub built_apply : (word : Span) (v : Vec Raw Global) (ws : Bytes) (xs : List Raw) (x : Result Formula NoMemory) → raw ≡ r.Apply word v → ws ≡ letters text word → xs ≡ v.items → (AreSpelled InOrder (raws_of (plains text xs)) → IfOk x (λ g. formula_tree g ≡ let_or_call ws (trees (raws_of (plains text xs))))) → Gives (raw_tree text raw) x
+  pub built_let : (name : Span) (x y : Box Raw Global) (ws : Bytes) (letter : RcStr Global) (u v : Raw) (b c : Box Formula Global) → raw ≡ r.Let name x y → ws ≡ letters text name → u ≡ x.value → v ≡ y.value → (IsRow is_lower ws → rc_str_bytes letter ≡ ws) → IsBuilt text u b.value → IsBuilt text v c.value → IsBuilt text raw (f.Let letter b c)
+  built_let name x y ws letter u v b c e w m n g h k =
+      let l : IsRow is_lower (letters text name) → rc_str_bytes letter ≡ letters text name = subst (λ z. IsRow is_lower z → rc_str_bytes letter ≡ z) w g in
+      let i = subst (λ z. IsBuilt text z b.value) m h in
+      let j = subst (λ z. IsBuilt text z c.value) n k in
+      gives text raw _ (Ok (f.Let letter b c)) (ap (raw_tree text) e ∙ tree-Let text name x y)
+      (λ s. formula_tree-Let letter b c ∙ ap (λ z. F.Formula.Let z (formula_tree b.value) (formula_tree c.value)) (l s.0) ∙ ap (λ z. F.Formula.Let (letters text name) z (formula_tree c.value)) (i s.1) ∙ ap (F.Formula.Let (letters text name) (tree (raw_tree text x.value))) (j s.2))
+
+  pub built_apply : (word : Span) (v : Vec Raw Global) (ws : Bytes) (xs : List Raw) (x : Result Formula NoMemory) → raw ≡ r.Apply word v → ws ≡ letters text word → xs ≡ v.items → (AreSpelled InOrder (raws_of (plains text xs)) → IfOk x (λ g. formula_tree g ≡ call_of (function_of ws) (trees (raws_of (plains text xs))))) → Gives (raw_tree text raw) x
   built_apply word v ws xs x e m n h =
       gives text raw _ x (ap (raw_tree text) e ∙ tree-Apply text word v)
       (subst (λ z. Gives (G.Raw.Apply (letters text word) (raws_of (plains text z))) x) n (subst (λ z. Gives (G.Raw.Apply z (raws_of (plains text xs))) x) m h))
@@ -181,86 +188,6 @@ pub ruleset operand_rules = (operand_built, operands_built)
 pub ruleset argument_rules = (argument_built, arguments_built)
 
 -- ---- calls
-
-abbrev is_var : F.Formula → Bool
-is_var (F.Formula.Var v) = true
-is_var g = false
-
-is_var_call : (x : Option F.Fun) (xs : F.Formulas) → is_var (call_of x xs) ≡ false
-is_var_call (Some g) xs = refl
-is_var_call None xs = refl
-
-is_var_let : (word : Bytes) (x : Bool) (v : Bytes) (g k : F.Formula) (xs : F.Formulas) → is_var (if x then F.Formula.Let v g k else call_of (function_of word) xs) ≡ false
-is_var_let word true v g k xs = refl
-is_var_let word false v g k xs = is_var_call (function_of word) xs
-
--- a call is no variable
-call_no_variable : (word : Bytes) (xs : F.Formulas) → is_var (let_or_call word xs) ≡ false
-call_no_variable word F.Formulas.no_formula = is_var_call (function_of word) _
-call_no_variable word (F.Formulas.formula_and (F.Formula.Var v) F.Formulas.no_formula) = is_var_call (function_of word) _
-call_no_variable word (F.Formulas.formula_and (F.Formula.Var v) (F.Formulas.formula_and g F.Formulas.no_formula)) = is_var_call (function_of word) _
-call_no_variable word (F.Formulas.formula_and (F.Formula.Var v) (F.Formulas.formula_and g (F.Formulas.formula_and k F.Formulas.no_formula))) = is_var_let word (is_let word) v g k _
-call_no_variable word (F.Formulas.formula_and (F.Formula.Var v) (F.Formulas.formula_and g (F.Formulas.formula_and k (F.Formulas.formula_and l xs)))) = is_var_call (function_of word) _
-call_no_variable word (F.Formulas.formula_and (F.Formula.Int n) xs) = is_var_call (function_of word) _
-call_no_variable word (F.Formulas.formula_and (F.Formula.Text t) xs) = is_var_call (function_of word) _
-call_no_variable word (F.Formulas.formula_and (F.Formula.Bool b) xs) = is_var_call (function_of word) _
-call_no_variable word (F.Formulas.formula_and (F.Formula.At a) xs) = is_var_call (function_of word) _
-call_no_variable word (F.Formulas.formula_and (F.Formula.Spill a) xs) = is_var_call (function_of word) _
-call_no_variable word (F.Formulas.formula_and (F.Formula.Area r) xs) = is_var_call (function_of word) _
-call_no_variable word (F.Formulas.formula_and (F.Formula.Neg g) xs) = is_var_call (function_of word) _
-call_no_variable word (F.Formulas.formula_and (F.Formula.Chain l g rest) xs) = is_var_call (function_of word) _
-call_no_variable word (F.Formulas.formula_and (F.Formula.Compare o g k) xs) = is_var_call (function_of word) _
-call_no_variable word (F.Formulas.formula_and (F.Formula.Call o ys) xs) = is_var_call (function_of word) _
-call_no_variable word (F.Formulas.formula_and (F.Formula.Let v g k) xs) = is_var_call (function_of word) _
-
-plain_first : (word : Bytes) (g : F.Formula) (xs : F.Formulas) → is_var g ≡ false → let_or_call word (F.Formulas.formula_and g xs) ≡ call_of (function_of word) (F.Formulas.formula_and g xs)
-plain_first word (F.Formula.Var v) xs h = cc
-plain_first word (F.Formula.Int n) xs h = refl
-plain_first word (F.Formula.Text t) xs h = refl
-plain_first word (F.Formula.Bool b) xs h = refl
-plain_first word (F.Formula.At a) xs h = refl
-plain_first word (F.Formula.Spill a) xs h = refl
-plain_first word (F.Formula.Area r) xs h = refl
-plain_first word (F.Formula.Neg g) xs h = refl
-plain_first word (F.Formula.Chain l g rest) xs h = refl
-plain_first word (F.Formula.Compare o g k) xs h = refl
-plain_first word (F.Formula.Call o ys) xs h = refl
-plain_first word (F.Formula.Let v g k) xs h = refl
-
-pub plain_word : (word : Bytes) (v : Bytes) (g k : F.Formula) → is_let word ≡ false → let_or_call word (F.Formulas.formula_and (F.Formula.Var v) (F.Formulas.formula_and g (F.Formulas.formula_and k F.Formulas.no_formula))) ≡ call_of (function_of word) (F.Formulas.formula_and (F.Formula.Var v) (F.Formulas.formula_and g (F.Formulas.formula_and k F.Formulas.no_formula)))
-plain_word word v g k h = ap (λ z. if z then F.Formula.Let v g k else call_of (function_of word) (F.Formulas.formula_and (F.Formula.Var v) (F.Formulas.formula_and g (F.Formulas.formula_and k F.Formulas.no_formula)))) h
-
-pub let_word : (word : Bytes) (v : Bytes) (g k : F.Formula) → is_let word ≡ true → let_or_call word (F.Formulas.formula_and (F.Formula.Var v) (F.Formulas.formula_and g (F.Formulas.formula_and k F.Formulas.no_formula))) ≡ F.Formula.Let v g k
-let_word word v g k h = ap (λ z. if z then F.Formula.Let v g k else call_of (function_of word) (F.Formulas.formula_and (F.Formula.Var v) (F.Formulas.formula_and g (F.Formulas.formula_and k F.Formulas.no_formula)))) h
-
-plain_call : (word : Bytes) (fs : List G.Raw) → bound_by word fs ≡ None → let_or_call word (trees (raws_of fs)) ≡ call_of (function_of word) (trees (raws_of fs))
-plain_call word [] h = refl
-plain_call word (G.Raw.Var v ∷ []) h = refl
-plain_call word (G.Raw.Var v ∷ g ∷ []) h = refl
-plain_call word (G.Raw.Var v ∷ g ∷ body ∷ []) h = plain_word word v (tree g) (tree body) (not_bound (is_let word) v h)
-plain_call word (G.Raw.Var v ∷ g ∷ body ∷ k ∷ fs) h = refl
-plain_call word (G.Raw.Number n ∷ fs) h = refl
-plain_call word (G.Raw.Text t ∷ fs) h = refl
-plain_call word (G.Raw.Boolean b ∷ fs) h = refl
-plain_call word (G.Raw.At a ∷ fs) h = refl
-plain_call word (G.Raw.Spill a ∷ fs) h = refl
-plain_call word (G.Raw.Corners a b ∷ fs) h = refl
-plain_call word (G.Raw.Neg x ∷ fs) h = refl
-plain_call word (G.Raw.Chain l x rest ∷ fs) h = refl
-plain_call word (G.Raw.Compare o x g ∷ fs) h = refl
-plain_call word (G.Raw.Apply w xs ∷ fs) h = plain_first word (let_or_call w (trees xs)) (trees (raws_of fs)) (call_no_variable w (trees xs))
-
-pub plain_is : (text : Bytes) (word : Bytes) (xs : List Raw) (r : Result Formula NoMemory) → bound_by word (plains text xs) ≡ None → (AreSpelled InOrder (raws_of (plains text xs)) → IfOk r (λ g. formula_tree g ≡ call_of (function_of word) (trees (raws_of (plains text xs))))) → AreSpelled InOrder (raws_of (plains text xs)) → IfOk r (λ g. formula_tree g ≡ let_or_call word (trees (raws_of (plains text xs))))
-plain_is text word xs (Ok g) h b s = b s ∙ sym (plain_call word (plains text xs) h)
-plain_is text word xs (Err e) h b s = tt
-
-pub built_let : (text : Bytes) (word : Bytes) (xs : List Raw) (v ws : Bytes) (x y : Raw) (name : RcStr Global) (b c : Box Formula Global) → IsLet text word xs v x y → ws ≡ v → (IsRow is_lower ws → rc_str_bytes name ≡ ws) → IsBuilt text x b.value → IsBuilt text y c.value → AreSpelled InOrder (raws_of (plains text xs)) → formula_tree (f.Let name b c) ≡ let_or_call word (trees (raws_of (plains text xs)))
-built_let text word xs v ws x y name b c is w mm p q s =
-    let m : IsRow is_lower v → rc_str_bytes name ≡ v = subst (λ z. IsRow is_lower z → rc_str_bytes name ≡ z) w mm in
-    let t : AreSpelled InOrder (raws_of (G.Raw.Var v ∷ raw_tree text x ∷ raw_tree text y ∷ [])) = subst (λ z. AreSpelled InOrder (raws_of z)) is.arguments s in
-    formula_tree-Let name b c ∙ ap (λ z. F.Formula.Let z (formula_tree b.value) (formula_tree c.value)) (m t.0)
-    ∙ ap (λ z. F.Formula.Let v z (formula_tree c.value)) (p t.1.0) ∙ ap (F.Formula.Let v (tree (raw_tree text x))) (q t.1.1.0)
-    ∙ sym (ap (λ z. let_or_call word (trees (raws_of z))) is.arguments ∙ let_word word v (tree (raw_tree text x)) (tree (raw_tree text y)) is.is_let)
 
 pub built_call : (xs : F.Formulas) (o : Fun) (v : Vec Formula Global) (w : Option F.Fun) → ((ys : F.Formulas) → call_of w ys ≡ F.Formula.Call (fun_tree o) ys) → argument_trees v.items ≡ xs → formula_tree (f.Call o v) ≡ call_of w xs
 built_call xs o v w h e = formula_tree-Call o v ∙ ap (F.Formula.Call (fun_tree o)) e ∙ sym (h xs)

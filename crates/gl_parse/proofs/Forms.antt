@@ -68,6 +68,10 @@ pub tree-Compare : (text : Bytes) (o : Op) (f g : Box Raw Global) → raw_tree t
 unfolding raw_tree
 tree-Compare text o f g = ap (raw_tree text) (sym (r.rolls-Compare o f g)) ∙ fold-roll-Raw G.Raw (layer text) (Raw-F.Compare o f g)
 
+pub tree-Let : (text : Bytes) (name : Span) (f body : Box Raw Global) → raw_tree text (r.Let name f body) ≡ G.Raw.Let (letters text name) (raw_tree text f.value) (raw_tree text body.value)
+unfolding raw_tree
+tree-Let text name f body = ap (raw_tree text) (sym (r.rolls-Let name f body)) ∙ fold-roll-Raw G.Raw (layer text) (Raw-F.Let name f body)
+
 pub tree-Apply : (text : Bytes) (word : Span) (xs : Vec Raw Global) → raw_tree text (r.Apply word xs) ≡ G.Raw.Apply (letters text word) (raws_of (plains text xs.items))
 unfolding raw_tree
 tree-Apply text word xs = ap (raw_tree text) (sym (r.rolls-Apply word xs)) ∙ fold-roll-Raw G.Raw (layer text) (Raw-F.Apply word xs)
@@ -82,6 +86,9 @@ neg_is text f x h = tree-Neg text f ∙ ap (λ z. G.Raw.Neg (raw_tree text z)) h
 
 pub compare_is : (text : Bytes) (o : Op) (f g : Box Raw Global) (x y : Raw) → f.value ≡ x → g.value ≡ y → raw_tree text (r.Compare o f g) ≡ G.Raw.Compare (op_tree o) (raw_tree text x) (raw_tree text y)
 compare_is text o f g x y h i = tree-Compare text o f g ∙ ap (λ z. G.Raw.Compare (op_tree o) (raw_tree text z) (raw_tree text g.value)) h ∙ ap (λ z. G.Raw.Compare (op_tree o) (raw_tree text x) (raw_tree text z)) i
+
+pub let_is : (text : Bytes) (name : Span) (f body : Box Raw Global) (x y : Raw) → f.value ≡ x → body.value ≡ y → raw_tree text (r.Let name f body) ≡ G.Raw.Let (letters text name) (raw_tree text x) (raw_tree text y)
+let_is text name f body x y h i = tree-Let text name f body ∙ ap (λ z. G.Raw.Let (letters text name) (raw_tree text z) (raw_tree text body.value)) h ∙ ap (λ z. G.Raw.Let (letters text name) (raw_tree text x) (raw_tree text z)) i
 
 -- a repetition with an operator
 chained_some : (text : Bytes) (z f : G.Raw) (l : F.Level) (items : List (Op × Raw)) → 0 < length items → z ≡ G.Raw.Chain l f (links (pairs text items)) → z ≡ chained l f (links (pairs text items))

@@ -1,5 +1,6 @@
 pub mod AllRead
 pub mod Answering
+pub mod Binding
 pub mod Building
 pub mod Calls
 pub mod Cuts

@@ -1,13 +1,13 @@
 -- The names in a form, under those that are bound around it.
-use Rattle.std.proofs.Common.{◌≡◌, ◌≢◌, ℕ, ◌+◌, ◌<◌, ◌≤◌, Bool, true, false, List, [], ◌∷◌, ◌++◌, drop, length, get_or, ap, sym, subst, ◌∙◌, refl, arith}
-use Rattle.std.specs.Prelude.{◌||◌, not, is_some, Some, None, Result, Ok, Err, IfOk, bytes_eq, if◌then◌else◌}
+use Rattle.std.proofs.Common.{◌≡◌, ℕ, ◌+◌, ◌<◌, ◌≤◌, Bool, true, false, List, [], ◌∷◌, ◌++◌, drop, length, get_or, ap, sym, ◌∙◌, refl}
+use Rattle.std.specs.Prelude.{◌||◌, not, Result, Ok, Err, IfOk, bytes_eq}
 use Rattle.std.specs.List.{list_any}
-use Rattle.std.proofs.lemmas.List.{at_drop_more, at_drop_all, length-map}
+use Rattle.std.proofs.lemmas.List.{at_drop_more, at_drop_all}
 use Rattle.std.specs.declared.alloc.Global.{Global}
 use Rattle.std.specs.declared.boxed.Box.{Box}
 use Rattle.std.specs.declared.vec.Vec.{Vec}
 use Rattle.gl_language.specs.Texts.Text.{Bytes}
-use Rattle.gl_language.specs.Reading.Grammar.{Raws, has_bad_name, bad_name_in, bad_name_in_operands, is_let, function_of, is_variable}
+use Rattle.gl_language.specs.Reading.Grammar.{has_bad_name, bad_name_in, bad_name_in_operands}
 use Rattle.gl_language.specs.Reading.Grammar as G
 use Rattle.gl_plane.specs.declared.NoMemory.{NoMemory}
 use Rattle.gl_ast.specs.declared.Level.{Level}
@@ -16,8 +16,8 @@ use Rattle.gl_parse.specs.declared.raw.Span.{Span}
 use Rattle.gl_parse.specs.declared.raw.Raw.{Raw}
 use Rattle.gl_parse.specs.declared.raw.Raw.TheVariants as r
 use Rattle.gl_parse.specs.Raws.{raw_tree, letters, links, raws_of, pairs, plains}
-use Rattle.gl_parse.specs.Faults.{scope, scope_onto, bound_by}
-use Rattle.gl_parse.proofs.Forms.{tree-Var, tree-Neg, tree-Chain, tree-Compare, tree-Apply}
+use Rattle.gl_parse.specs.Faults.{scope, scope_onto}
+use Rattle.gl_parse.proofs.Forms.{tree-Var, tree-Neg, tree-Chain, tree-Compare, tree-Let, tree-Apply}
 
 -- ---- the scope
 
@@ -81,6 +81,9 @@ module _ (text : Bytes) (vs : List Bytes) where
   pub name_compare : (raw : Raw) (o : Op) (f g : Box Raw Global) → raw ≡ r.Compare o f g → has_bad_name vs (raw_tree text raw) ≡ has_bad_name vs (raw_tree text f.value) || has_bad_name vs (raw_tree text g.value)
   name_compare raw o f g e = ap (has_bad_name vs) (ap (raw_tree text) e ∙ tree-Compare text o f g)
 
+  pub name_let : (raw : Raw) (name : Span) (f body : Box Raw Global) → raw ≡ r.Let name f body → has_bad_name vs (raw_tree text raw) ≡ has_bad_name vs (raw_tree text f.value) || has_bad_name (letters text name ∷ vs) (raw_tree text body.value)
+  name_let raw name f body e = ap (has_bad_name vs) (ap (raw_tree text) e ∙ tree-Let text name f body)
+
   pub name_apply : (raw : Raw) (word : Span) (xs : Vec Raw Global) → raw ≡ r.Apply word xs → has_bad_name vs (raw_tree text raw) ≡ has_bad_name vs (G.Raw.Apply (letters text word) (raws_of (plains text xs.items)))
   name_apply raw word xs e = ap (has_bad_name vs) (ap (raw_tree text) e ∙ tree-Apply text word xs)
 
@@ -102,176 +105,7 @@ pub ruleset argument_rules = (argument_next, argument_end)
 
 pub ruleset body_rules = scope_pushed
 
--- ---- calls
-
-pub other_word_binds : (word : Bytes) (fs : List G.Raw) → is_let word ≡ false → bound_by word fs ≡ None
-other_word_binds word [] h = refl
-other_word_binds word (G.Raw.Var v ∷ []) h = refl
-other_word_binds word (G.Raw.Var v ∷ f ∷ []) h = refl
-other_word_binds word (G.Raw.Var v ∷ f ∷ body ∷ []) h = ap (λ z. if z then Some v else None) h
-other_word_binds word (G.Raw.Var v ∷ f ∷ body ∷ g ∷ fs) h = refl
-other_word_binds word (G.Raw.Number n ∷ fs) h = refl
-other_word_binds word (G.Raw.Text t ∷ fs) h = refl
-other_word_binds word (G.Raw.Boolean b ∷ fs) h = refl
-other_word_binds word (G.Raw.At a ∷ fs) h = refl
-other_word_binds word (G.Raw.Spill a ∷ fs) h = refl
-other_word_binds word (G.Raw.Corners a b ∷ fs) h = refl
-other_word_binds word (G.Raw.Neg f ∷ fs) h = refl
-other_word_binds word (G.Raw.Chain l f rest ∷ fs) h = refl
-other_word_binds word (G.Raw.Compare o f g ∷ fs) h = refl
-other_word_binds word (G.Raw.Apply w xs ∷ fs) h = refl
-
-pub other_length_binds : (word : Bytes) (fs : List G.Raw) → length fs ≢ 3 → bound_by word fs ≡ None
-other_length_binds word [] h = refl
-other_length_binds word (G.Raw.Var v ∷ []) h = refl
-other_length_binds word (G.Raw.Var v ∷ f ∷ []) h = refl
-other_length_binds word (G.Raw.Var v ∷ f ∷ body ∷ []) h = absurd (h refl)
-other_length_binds word (G.Raw.Var v ∷ f ∷ body ∷ g ∷ fs) h = refl
-other_length_binds word (G.Raw.Number n ∷ fs) h = refl
-other_length_binds word (G.Raw.Text t ∷ fs) h = refl
-other_length_binds word (G.Raw.Boolean b ∷ fs) h = refl
-other_length_binds word (G.Raw.At a ∷ fs) h = refl
-other_length_binds word (G.Raw.Spill a ∷ fs) h = refl
-other_length_binds word (G.Raw.Corners a b ∷ fs) h = refl
-other_length_binds word (G.Raw.Neg f ∷ fs) h = refl
-other_length_binds word (G.Raw.Chain l f rest ∷ fs) h = refl
-other_length_binds word (G.Raw.Compare o f g ∷ fs) h = refl
-other_length_binds word (G.Raw.Apply w xs ∷ fs) h = refl
-
-other_first_binds : (word : Bytes) (f : G.Raw) (fs : List G.Raw) → is_variable f ≡ false → bound_by word (f ∷ fs) ≡ None
-other_first_binds word (G.Raw.Var v) fs h = cc
-other_first_binds word (G.Raw.Number n) fs h = refl
-other_first_binds word (G.Raw.Text t) fs h = refl
-other_first_binds word (G.Raw.Boolean b) fs h = refl
-other_first_binds word (G.Raw.At a) fs h = refl
-other_first_binds word (G.Raw.Spill a) fs h = refl
-other_first_binds word (G.Raw.Corners a b) fs h = refl
-other_first_binds word (G.Raw.Neg x) fs h = refl
-other_first_binds word (G.Raw.Chain l x rest) fs h = refl
-other_first_binds word (G.Raw.Compare o x g) fs h = refl
-other_first_binds word (G.Raw.Apply w xs) fs h = refl
-
--- the call by its arguments in the code
-pub plain_length : (text : Bytes) (word : Bytes) (xs : List Raw) → length xs ≢ 3 → bound_by word (plains text xs) ≡ None
-plain_length text word xs h = other_length_binds word (plains text xs) (λ e. h (sym (length-map xs (raw_tree text)) ∙ e))
-
-pub plain_first : (text : Bytes) (word : Bytes) (xs : List Raw) (d : Raw) → 0 < length xs → is_variable (raw_tree text (get_or xs 0 d)) ≡ false → bound_by word (plains text xs) ≡ None
-plain_first text word [] d h i = absurd (omega arith)
-plain_first text word (x ∷ xs) d h i = other_first_binds word (raw_tree text x) (plains text xs) i
-
-pub let_binds : (text : Bytes) (word : Bytes) (xs : List Raw) (d : Raw) (v : Bytes) → length xs ≡ 3 → is_let word ≡ true → raw_tree text (get_or xs 0 d) ≡ G.Raw.Var v → bound_by word (plains text xs) ≡ Some v
-let_binds text word [] d v h i e = absurd (omega arith)
-let_binds text word (x ∷ []) d v h i e = absurd (omega arith)
-let_binds text word (x ∷ y ∷ []) d v h i e = absurd (omega arith)
-let_binds text word (x ∷ y ∷ z ∷ []) d v h i e = ap (λ f. bound_by word (f ∷ raw_tree text y ∷ raw_tree text z ∷ [])) e ∙ ap (λ b. if b then Some v else None) i
-let_binds text word (x ∷ y ∷ z ∷ u ∷ xs) d v h i e = absurd (omega arith)
-
-pub ruleset binding_rules = (other_word_binds, plain_length, plain_first, let_binds)
-
-bound_word : (x : Bool) (u v : Bytes) → (if x then Some u else None) ≡ Some v → (x ≡ true) × (u ≡ v)
-bound_word true u v h = (refl, cc)
-bound_word false u v h = cc
-
--- the arguments of a call that binds a variable
-pub is_binding : (word : Bytes) (fs : List G.Raw) (v : Bytes) → bound_by word fs ≡ Some v → (is_let word ≡ true) × ((f : G.Raw) × (body : G.Raw) × (fs ≡ G.Raw.Var v ∷ f ∷ body ∷ []))
-is_binding word [] v h = cc
-is_binding word (G.Raw.Var u ∷ []) v h = cc
-is_binding word (G.Raw.Var u ∷ f ∷ []) v h = cc
-is_binding word (G.Raw.Var u ∷ f ∷ body ∷ []) v h = let p = bound_word (is_let word) u v h in (p.0, (f, body, ap (λ z. G.Raw.Var z ∷ f ∷ body ∷ []) p.1))
-is_binding word (G.Raw.Var u ∷ f ∷ body ∷ g ∷ fs) v h = cc
-is_binding word (G.Raw.Number n ∷ fs) v h = cc
-is_binding word (G.Raw.Text t ∷ fs) v h = cc
-is_binding word (G.Raw.Boolean b ∷ fs) v h = cc
-is_binding word (G.Raw.At a ∷ fs) v h = cc
-is_binding word (G.Raw.Spill a ∷ fs) v h = cc
-is_binding word (G.Raw.Corners a b ∷ fs) v h = cc
-is_binding word (G.Raw.Neg f ∷ fs) v h = cc
-is_binding word (G.Raw.Chain l f rest ∷ fs) v h = cc
-is_binding word (G.Raw.Compare o f g ∷ fs) v h = cc
-is_binding word (G.Raw.Apply w xs ∷ fs) v h = cc
-
-pub record IsLet (text : Bytes) (word : Bytes) (xs : List Raw) (v : Bytes) (f body : Raw) : Type 0 where
-  pub is_let : is_let word ≡ true
-  pub arguments : plains text xs ≡ G.Raw.Var v ∷ raw_tree text f ∷ raw_tree text body ∷ []
-
-let_by : (text : Bytes) (word : Bytes) (x y z : Raw) (v : Bytes) → (is_let word ≡ true) × ((f : G.Raw) × (body : G.Raw) × (plains text (x ∷ y ∷ z ∷ []) ≡ G.Raw.Var v ∷ f ∷ body ∷ [])) → IsLet text word (x ∷ y ∷ z ∷ []) v y z
-let_by text word x y z v h =
-    let k = h.1.2 in
-    let e : raw_tree text x ≡ G.Raw.Var v = cc in
-    record { is_let = h.0; arguments = ap (λ f. f ∷ raw_tree text y ∷ raw_tree text z ∷ []) e }
-
-pub let_is : (text : Bytes) (word : Bytes) (xs : List Raw) (v : Bytes) (f body d e : Raw) → length xs ≡ 3 → bound_by word (plains text xs) ≡ Some v → f ≡ get_or xs 1 d → body ≡ get_or xs 2 e → IsLet text word xs v f body
-let_is text word [] v f body d e h k m n = absurd (omega arith)
-let_is text word (x ∷ []) v f body d e h k m n = absurd (omega arith)
-let_is text word (x ∷ y ∷ []) v f body d e h k m n = absurd (omega arith)
-let_is text word (x ∷ y ∷ z ∷ []) v f body d e h k m n =
-    let p = let_by text word x y z v (is_binding word (plains text (x ∷ y ∷ z ∷ [])) v k) in
-    subst (λ g. IsLet text word (x ∷ y ∷ z ∷ []) v g body) (sym m) (subst (λ g. IsLet text word (x ∷ y ∷ z ∷ []) v y g) (sym n) p)
-let_is text word (x ∷ y ∷ z ∷ u ∷ xs) v f body d e h k m n = absurd (omega arith)
-
-abbrev pub plain_name : List Bytes → Bytes → Raws → Bool
-plain_name vs word xs = not (is_let word || is_some (function_of word)) || bad_name_in vs xs
-
-four : (a b c d : Bool) → ((a || b) || c) || d ≡ a || (b || (c || (d || false)))
-four true b c d = refl
-four false true c d = refl
-four false false true d = refl
-four false false false d = sym (or_false d)
-
--- a call of another word that looks like one of LET
-other_word_by : (vs : List Bytes) (word : Bytes) (v : Bytes) (f body : G.Raw) (x : Bool) → is_let word ≡ x → x ≡ false → has_bad_name vs (G.Raw.Apply word (raws_of (G.Raw.Var v ∷ f ∷ body ∷ []))) ≡ plain_name vs word (raws_of (G.Raw.Var v ∷ f ∷ body ∷ []))
-other_word_by vs word v f body true e h = cc
-other_word_by vs word v f body false e h =
-    let a = not (is_some (function_of word)) in
-    let b = not (list_any (bytes_eq v) vs) in
-    let left = ((a || b) || has_bad_name vs f) || has_bad_name vs body in
-    ap (λ z. elim z [ true ↦ has_bad_name vs f || has_bad_name (v ∷ vs) body | false ↦ left ]) e
-    ∙ four a b (has_bad_name vs f) (has_bad_name vs body)
-    ∙ sym (ap (λ z. not (z || is_some (function_of word)) || bad_name_in vs (raws_of (G.Raw.Var v ∷ f ∷ body ∷ []))) e)
-
-other_word : (vs : List Bytes) (word : Bytes) (v : Bytes) (f body : G.Raw) → is_let word ≡ false → has_bad_name vs (G.Raw.Apply word (raws_of (G.Raw.Var v ∷ f ∷ body ∷ []))) ≡ plain_name vs word (raws_of (G.Raw.Var v ∷ f ∷ body ∷ []))
-other_word vs word v f body h = other_word_by vs word v f body false h refl
-
-pub not_bound : (x : Bool) (v : Bytes) → (if x then Some v else None) ≡ None → x ≡ false
-not_bound true v h = cc
-not_bound false v h = refl
-
-pub plain_call : (vs : List Bytes) (word : Bytes) (fs : List G.Raw) → bound_by word fs ≡ None → has_bad_name vs (G.Raw.Apply word (raws_of fs)) ≡ plain_name vs word (raws_of fs)
-plain_call vs word [] h = refl
-plain_call vs word (G.Raw.Var v ∷ []) h = refl
-plain_call vs word (G.Raw.Var v ∷ f ∷ []) h = refl
-plain_call vs word (G.Raw.Var v ∷ f ∷ body ∷ []) h = other_word vs word v f body (not_bound (is_let word) v h)
-plain_call vs word (G.Raw.Var v ∷ f ∷ body ∷ g ∷ fs) h = refl
-plain_call vs word (G.Raw.Number n ∷ fs) h = refl
-plain_call vs word (G.Raw.Text t ∷ fs) h = refl
-plain_call vs word (G.Raw.Boolean b ∷ fs) h = refl
-plain_call vs word (G.Raw.At a ∷ fs) h = refl
-plain_call vs word (G.Raw.Spill a ∷ fs) h = refl
-plain_call vs word (G.Raw.Corners a b ∷ fs) h = refl
-plain_call vs word (G.Raw.Neg f ∷ fs) h = refl
-plain_call vs word (G.Raw.Chain l f rest ∷ fs) h = refl
-plain_call vs word (G.Raw.Compare o f g ∷ fs) h = refl
-plain_call vs word (G.Raw.Apply w xs ∷ fs) h = refl
-
-pub let_names : (vs : List Bytes) (word : Bytes) (v : Bytes) (f body : G.Raw) → is_let word ≡ true → has_bad_name vs (G.Raw.Apply word (raws_of (G.Raw.Var v ∷ f ∷ body ∷ []))) ≡ has_bad_name vs f || has_bad_name (v ∷ vs) body
-let_names vs word v f body h =
-    let left = ((not (is_some (function_of word)) || not (list_any (bytes_eq v) vs)) || has_bad_name vs f) || has_bad_name vs body in
-    ap (λ z. elim z [ true ↦ has_bad_name vs f || has_bad_name (v ∷ vs) body | false ↦ left ]) h
-
 -- an answer that is another one
 pub answer_is : (r : Result Bool NoMemory) (x y : Bool) → IfOk r (λ b. b ≡ x) → x ≡ y → IfOk r (λ b. b ≡ y)
 answer_is (Ok b) x y h e = h ∙ e
 answer_is (Err n) x y h e = tt
-
--- the names of a call
-module _ (text : Bytes) (vs : List Bytes) (word : Bytes) (xs : List Raw) (v : Bytes) (f body : Raw) (h : IsLet text word xs v f body) where
-  let_whole : has_bad_name vs (G.Raw.Apply word (raws_of (plains text xs))) ≡ has_bad_name vs (raw_tree text f) || has_bad_name (v ∷ vs) (raw_tree text body)
-  let_whole = ap (λ z. has_bad_name vs (G.Raw.Apply word (raws_of z))) h.arguments ∙ let_names vs word v (raw_tree text f) (raw_tree text body) h.is_let
-
-  pub let_then : (b : Bool) → b ≡ has_bad_name vs (raw_tree text f) → b ≡ true → true ≡ has_bad_name vs (G.Raw.Apply word (raws_of (plains text xs)))
-  let_then b m n = sym (let_whole ∙ ap (λ z. z || has_bad_name (v ∷ vs) (raw_tree text body)) (sym m ∙ n))
-
-  pub let_else : (b c : Bool) → b ≡ has_bad_name vs (raw_tree text f) → b ≡ false → c ≡ has_bad_name (v ∷ vs) (raw_tree text body) → c ≡ has_bad_name vs (G.Raw.Apply word (raws_of (plains text xs)))
-  let_else b c m n e = e ∙ sym (let_whole ∙ ap (λ z. z || has_bad_name (v ∷ vs) (raw_tree text body)) (sym m ∙ n))
-
-pub ruleset call_rules = (let_then, let_else)

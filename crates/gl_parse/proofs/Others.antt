@@ -14,6 +14,7 @@ use Rattle.gl_parse.specs.declared.raw.Raw.TheVariants as r
 use Rattle.gl_parse.specs.declared.raw.Raw.TheOpen.{Raw-F}
 use Rattle.gl_parse.specs.declared.raw.Raw.TheFolds.{fold-roll-Raw}
 use Rattle.gl_parse.specs.Raws.{layer, raw_tree}
+use Rattle.gl_parse.specs.Reading.{is_variable}
 
 -- what holds of each form that is made of one level holds of every form
 by_level : (P : Raw → Type 0) → ((l : Raw-F Raw) → P (roll-Raw l)) → (x : Raw) → P x
@@ -43,6 +44,9 @@ NotChain x = (l : Level) (f : Box Raw Global) (rest : Vec (Op × Raw) Global) �
 abbrev pub NotCompare : Raw → Type 0
 NotCompare x = (op : Op) (f g : Box Raw Global) → x ≡ r.Compare op f g → ⊥
 
+abbrev pub NotLet : Raw → Type 0
+NotLet x = (name : Span) (f body : Box Raw Global) → x ≡ r.Let name f body → ⊥
+
 abbrev pub NotApply : Raw → Type 0
 NotApply x = (word : Span) (xs : Vec Raw Global) → x ≡ r.Apply word xs → ⊥
 
@@ -61,12 +65,12 @@ no_place text = by_level (λ x. NotAt x → NotCorners x → G.is_place (raw_tre
     levels (Raw-F.Corners a b) h k = absurd (k a b (r.rolls-Corners a b))
     levels l h k = ap G.is_place (level_tree text l)
 
-pub no_variable : (text : Bytes) (x : Raw) → NotVar x → G.is_variable (raw_tree text x) ≡ false
-no_variable text = by_level (λ x. NotVar x → G.is_variable (raw_tree text x) ≡ false) levels
+pub no_variable : (text : Bytes) (x : Raw) → NotVar x → is_variable (raw_tree text x) ≡ false
+no_variable text = by_level (λ x. NotVar x → is_variable (raw_tree text x) ≡ false) levels
   where
-    levels : (l : Raw-F Raw) → NotVar (roll-Raw l) → G.is_variable (raw_tree text (roll-Raw l)) ≡ false
+    levels : (l : Raw-F Raw) → NotVar (roll-Raw l) → is_variable (raw_tree text (roll-Raw l)) ≡ false
     levels (Raw-F.Var name) h = absurd (h name (r.rolls-Var name))
-    levels l h = ap G.is_variable (level_tree text l)
+    levels l h = ap is_variable (level_tree text l)
 
 pub no_range : (text : Bytes) (x : Raw) → NotCorners x → G.is_bad_range (raw_tree text x) ≡ false
 no_range text = by_level (λ x. NotCorners x → G.is_bad_range (raw_tree text x) ≡ false) levels
@@ -83,24 +87,26 @@ no_call text = by_level (λ x. NotApply x → G.is_bad_call (raw_tree text x) �
     levels l h = ap G.is_bad_call (level_tree text l)
 
 -- a form without parts holds no form but itself
-pub no_part : (text : Bytes) (test : G.Raw → Bool) (x : Raw) → NotNeg x → NotChain x → NotCompare x → NotApply x → G.some_form test (raw_tree text x) ≡ test (raw_tree text x)
-no_part text test = by_level (λ x. NotNeg x → NotChain x → NotCompare x → NotApply x → G.some_form test (raw_tree text x) ≡ test (raw_tree text x)) levels
+pub no_part : (text : Bytes) (test : G.Raw → Bool) (x : Raw) → NotNeg x → NotChain x → NotCompare x → NotLet x → NotApply x → G.some_form test (raw_tree text x) ≡ test (raw_tree text x)
+no_part text test = by_level (λ x. NotNeg x → NotChain x → NotCompare x → NotLet x → NotApply x → G.some_form test (raw_tree text x) ≡ test (raw_tree text x)) levels
   where
-    levels : (l : Raw-F Raw) → NotNeg (roll-Raw l) → NotChain (roll-Raw l) → NotCompare (roll-Raw l) → NotApply (roll-Raw l) → G.some_form test (raw_tree text (roll-Raw l)) ≡ test (raw_tree text (roll-Raw l))
-    levels (Raw-F.Neg f) n c o a = absurd (n f (r.rolls-Neg f))
-    levels (Raw-F.Chain l f rest) n c o a = absurd (c l f rest (r.rolls-Chain l f rest))
-    levels (Raw-F.Compare op f g) n c o a = absurd (o op f g (r.rolls-Compare op f g))
-    levels (Raw-F.Apply word xs) n c o a = absurd (a word xs (r.rolls-Apply word xs))
-    levels l n c o a = ap (G.some_form test) (level_tree text l) ∙ sym (ap test (level_tree text l))
+    levels : (l : Raw-F Raw) → NotNeg (roll-Raw l) → NotChain (roll-Raw l) → NotCompare (roll-Raw l) → NotLet (roll-Raw l) → NotApply (roll-Raw l) → G.some_form test (raw_tree text (roll-Raw l)) ≡ test (raw_tree text (roll-Raw l))
+    levels (Raw-F.Neg f) n c o b a = absurd (n f (r.rolls-Neg f))
+    levels (Raw-F.Chain l f rest) n c o b a = absurd (c l f rest (r.rolls-Chain l f rest))
+    levels (Raw-F.Compare op f g) n c o b a = absurd (o op f g (r.rolls-Compare op f g))
+    levels (Raw-F.Let name f body) n c o b a = absurd (b name f body (r.rolls-Let name f body))
+    levels (Raw-F.Apply word xs) n c o b a = absurd (a word xs (r.rolls-Apply word xs))
+    levels l n c o b a = ap (G.some_form test) (level_tree text l) ∙ sym (ap test (level_tree text l))
 
 -- nor does it hold a name, where it is no variable
-pub no_name : (text : Bytes) (names : List Bytes) (x : Raw) → NotVar x → NotNeg x → NotChain x → NotCompare x → NotApply x → G.has_bad_name names (raw_tree text x) ≡ false
-no_name text names = by_level (λ x. NotVar x → NotNeg x → NotChain x → NotCompare x → NotApply x → G.has_bad_name names (raw_tree text x) ≡ false) levels
+pub no_name : (text : Bytes) (names : List Bytes) (x : Raw) → NotVar x → NotNeg x → NotChain x → NotCompare x → NotLet x → NotApply x → G.has_bad_name names (raw_tree text x) ≡ false
+no_name text names = by_level (λ x. NotVar x → NotNeg x → NotChain x → NotCompare x → NotLet x → NotApply x → G.has_bad_name names (raw_tree text x) ≡ false) levels
   where
-    levels : (l : Raw-F Raw) → NotVar (roll-Raw l) → NotNeg (roll-Raw l) → NotChain (roll-Raw l) → NotCompare (roll-Raw l) → NotApply (roll-Raw l) → G.has_bad_name names (raw_tree text (roll-Raw l)) ≡ false
-    levels (Raw-F.Var name) v n c o a = absurd (v name (r.rolls-Var name))
-    levels (Raw-F.Neg f) v n c o a = absurd (n f (r.rolls-Neg f))
-    levels (Raw-F.Chain l f rest) v n c o a = absurd (c l f rest (r.rolls-Chain l f rest))
-    levels (Raw-F.Compare op f g) v n c o a = absurd (o op f g (r.rolls-Compare op f g))
-    levels (Raw-F.Apply word xs) v n c o a = absurd (a word xs (r.rolls-Apply word xs))
-    levels l v n c o a = ap (G.has_bad_name names) (level_tree text l)
+    levels : (l : Raw-F Raw) → NotVar (roll-Raw l) → NotNeg (roll-Raw l) → NotChain (roll-Raw l) → NotCompare (roll-Raw l) → NotLet (roll-Raw l) → NotApply (roll-Raw l) → G.has_bad_name names (raw_tree text (roll-Raw l)) ≡ false
+    levels (Raw-F.Var name) v n c o b a = absurd (v name (r.rolls-Var name))
+    levels (Raw-F.Neg f) v n c o b a = absurd (n f (r.rolls-Neg f))
+    levels (Raw-F.Chain l f rest) v n c o b a = absurd (c l f rest (r.rolls-Chain l f rest))
+    levels (Raw-F.Compare op f g) v n c o b a = absurd (o op f g (r.rolls-Compare op f g))
+    levels (Raw-F.Let name f body) v n c o b a = absurd (b name f body (r.rolls-Let name f body))
+    levels (Raw-F.Apply word xs) v n c o b a = absurd (a word xs (r.rolls-Apply word xs))
+    levels l v n c o b a = ap (G.has_bad_name names) (level_tree text l)

@@ -309,10 +309,10 @@ variable_only u other variable e = (refl, refl)
 pub atom_variable : {ts us : Tokens} {v : Bytes} {t : Raw} → ts ≡ Variable v ∷ us → t ≡ G.Raw.Var v → Only IsAtom 5 ts t us
 atom_variable h i = at h i (record { reads = variable; only = variable_only })
 
-call_only : {w : Bytes} {us vs : Tokens} {all : Raws} → Only IsArguments 5 us all vs → (u : Raw) (other : Tokens) → IsAtom (Word w ∷ Signed T.Sign.LeftParen ∷ us) u other → Ends 5 other → (u ≡ G.Raw.Apply w all) × (other ≡ vs)
-call_only {w} one u other (apply r) e = let p = one.only _ _ r e in (ap (G.Raw.Apply w) p.0, p.1)
+call_only : {w : Bytes} {us vs : Tokens} {all : Raws} → Only IsArguments 5 us all vs → (u : Raw) (other : Tokens) → IsAtom (Word w ∷ Signed T.Sign.LeftParen ∷ us) u other → Ends 5 other → (u ≡ G.applied w all) × (other ≡ vs)
+call_only {w} one u other (apply r) e = let p = one.only _ _ r e in (ap (G.applied w) p.0, p.1)
 
-pub atom_call : {ts us vs : Tokens} {w : Bytes} {all : Raws} {t : Raw} → ts ≡ Word w ∷ Signed T.Sign.LeftParen ∷ us → Only IsArguments 5 us all vs → t ≡ G.Raw.Apply w all → Only IsAtom 5 ts t vs
+pub atom_call : {ts us vs : Tokens} {w : Bytes} {all : Raws} {t : Raw} → ts ≡ Word w ∷ Signed T.Sign.LeftParen ∷ us → Only IsArguments 5 us all vs → t ≡ G.applied w all → Only IsAtom 5 ts t vs
 atom_call h one i = at h i (record { reads = apply one.reads; only = call_only one })
 
 call_never : {w : Bytes} {us : Tokens} → Never IsArguments 5 us → (u : Raw) (other : Tokens) → IsAtom (Word w ∷ Signed T.Sign.LeftParen ∷ us) u other → Ends 5 other → ⊥

@@ -1,6 +1,6 @@
 -- What is known of a form that was read from tokens.
 use Rattle.std.proofs.Common.{◌≡◌, ℕ, ◌*◌, Bool, true, false, IsTrue, refl}
-use Rattle.std.specs.Prelude.{◌&&◌, ◌||◌, not, nat_le, nat_lt}
+use Rattle.std.specs.Prelude.{◌&&◌, ◌||◌, not, nat_le, nat_lt, if◌then◌else◌}
 use Rattle.std.specs.List.{AllByRecursion}
 use Rattle.gl_calculus.specs.Grid.Limits.{max_cells}
 use Rattle.gl_calculus.specs.Grid.Grid.{Addr, range, extents}
@@ -38,6 +38,15 @@ address_token (bs, T.address on_grid) = on_grid
 
 variable_token : {v : Bytes} → IsToken (T.Variable v) → Spelled (G.Raw.Var v)
 variable_token (bs, T.variable row) = row
+
+let_spelled : (l : Bool) (word : Bytes) (v : Bytes) (f body : Raw) → AreSpelled AnyCorners (raw_and (G.Raw.Var v) (raw_and f (raw_and body no_raw))) →
+    Spelled (if l then G.Raw.Let v f body else G.Raw.Apply word (raw_and (G.Raw.Var v) (raw_and f (raw_and body no_raw))))
+let_spelled true word v f body h = (h.0, h.1.0, h.1.1.0)
+let_spelled false word v f body h = h
+
+applied_spelled : (word : Bytes) (xs : Raws) → AreSpelled AnyCorners xs → Spelled (G.applied word xs)
+applied_spelled word (raw_and (G.Raw.Var v) (raw_and f (raw_and body no_raw))) h = let_spelled (G.is_let word) word v f body h
+applied_spelled word xs h = h
 
 mutual
   pub expr_spelled : {ts us : Tokens} {f : Raw} → IsExpr ts f us → AreTokens ts → Spelled f × AreTokens us
@@ -77,7 +86,9 @@ mutual
   atom_spelled G.spill h = (address_token h.0, h.1.1)
   atom_spelled G.corners h = ((address_token h.0, address_token h.1.1.0, tt), h.1.1.1)
   atom_spelled G.variable h = (variable_token h.0, h.1)
-  atom_spelled (G.apply r) h = arguments_spelled r h.1.1
+  atom_spelled (G.apply {word = word} {xs = xs} r) h =
+      let p = arguments_spelled r h.1.1 in
+      (applied_spelled word xs p.0, p.1)
   atom_spelled (G.parens r) h =
       let p = expr_spelled r h.1 in
       (p.0, p.1.1)
@@ -126,6 +137,9 @@ mutual
   in_order (G.Raw.Compare op f g) s h =
       let p = neither (some_form is_bad_range f) (some_form is_bad_range g) h in
       (in_order f s.0 p.0, in_order g s.1 p.1)
+  in_order (G.Raw.Let v f body) s h =
+      let p = neither (some_form is_bad_range f) (some_form is_bad_range body) h in
+      (s.0, in_order f s.1 p.0, in_order body s.2 p.1)
   in_order (G.Raw.Apply word xs) s h = arguments_in_order xs s h
 
   operands_in_order : (rest : RawOperands) → AreSpelledOperands AnyCorners rest → some_operand is_bad_range rest ≡ false → AreSpelledOperands InOrder rest

@@ -17,7 +17,7 @@ use Rattle.gl_parse.specs.declared.raw.Raw.TheVariants as r
 use Rattle.gl_parse.specs.declared.walk.FormFault.{FormFault}
 use Rattle.gl_parse.specs.Raws.{raw_tree, links, raws_of, pairs, plains}
 use Rattle.gl_parse.specs.Faults.{shows}
-use Rattle.gl_parse.proofs.Forms.{tree-Neg, tree-Chain, tree-Compare, tree-Apply}
+use Rattle.gl_parse.proofs.Forms.{tree-Neg, tree-Chain, tree-Compare, tree-Let, tree-Apply}
 
 pub some_next : (text : Bytes) (fault : FormFault) (xs : List Raw) (i : ℕ) (d : Raw) → i < length xs → some_argument (shows fault) (raws_of (plains text (drop i xs))) ≡ some_form (shows fault) (raw_tree text (get_or xs i d)) || some_argument (shows fault) (raws_of (plains text (drop (i + 1) xs)))
 some_next text fault xs i d h = at_drop_more (λ (ys : List Raw). some_argument (shows fault) (raws_of (plains text ys))) xs i d h
@@ -38,6 +38,7 @@ pub shown : (test : G.Raw → Bool) (f : G.Raw) → test f ≡ true → true ≡
 shown test (G.Raw.Neg f) h = sym (ap (λ z. z || some_form test f) h)
 shown test (G.Raw.Chain level f rest) h = sym (ap (λ z. (z || some_form test f) || some_operand test rest) h)
 shown test (G.Raw.Compare op f g) h = sym (ap (λ z. (z || some_form test f) || some_form test g) h)
+shown test (G.Raw.Let v f body) h = sym (ap (λ z. (z || some_form test f) || some_form test body) h)
 shown test (G.Raw.Apply word xs) h = sym (ap (λ z. z || some_argument test xs) h)
 shown test (G.Raw.Number n) h = sym h
 shown test (G.Raw.Text t) h = sym h
@@ -56,6 +57,9 @@ in_chain test level f rest h = ap (λ z. (z || some_form test f) || some_operand
 
 in_compare : (test : G.Raw → Bool) (op : F.Op) (f g : G.Raw) → test (G.Raw.Compare op f g) ≡ false → some_form test (G.Raw.Compare op f g) ≡ some_form test f || some_form test g
 in_compare test op f g h = ap (λ z. (z || some_form test f) || some_form test g) h
+
+in_let : (test : G.Raw → Bool) (v : Bytes) (f body : G.Raw) → test (G.Raw.Let v f body) ≡ false → some_form test (G.Raw.Let v f body) ≡ some_form test f || some_form test body
+in_let test v f body h = ap (λ z. (z || some_form test f) || some_form test body) h
 
 in_neg : (test : G.Raw → Bool) (f : G.Raw) → test (G.Raw.Neg f) ≡ false → some_form test (G.Raw.Neg f) ≡ some_form test f
 in_neg test f h = ap (λ z. z || some_form test f) h
@@ -78,6 +82,11 @@ module _ (text : Bytes) (fault : FormFault) (raw : Raw) (free : shows fault (raw
   walk_compare o f g e =
       let t = ap (raw_tree text) e ∙ tree-Compare text o f g in
       ap (some_form (shows fault)) t ∙ in_compare (shows fault) _ (raw_tree text f.value) (raw_tree text g.value) (sym (ap (shows fault) t) ∙ free)
+
+  pub walk_let : (name : Span) (f body : Box Raw Global) → raw ≡ r.Let name f body → some_form (shows fault) (raw_tree text raw) ≡ some_form (shows fault) (raw_tree text f.value) || some_form (shows fault) (raw_tree text body.value)
+  walk_let name f body e =
+      let t = ap (raw_tree text) e ∙ tree-Let text name f body in
+      ap (some_form (shows fault)) t ∙ in_let (shows fault) _ (raw_tree text f.value) (raw_tree text body.value) (sym (ap (shows fault) t) ∙ free)
 
   pub walk_apply : (word : Span) (xs : Vec Raw Global) → raw ≡ r.Apply word xs → some_form (shows fault) (raw_tree text raw) ≡ some_argument (shows fault) (raws_of (plains text xs.items))
   walk_apply word xs e =

@@ -1,11 +1,11 @@
 -- What is refused of a form, and what is known of one that was read.
-use Rattle.std.specs.Prelude.{◌≡◌, ◌^◌, ◌<◌, ◌≤◌, Bool, IsTrue, List, [], ◌∷◌, length, Option, Some, None, Result, Ok, Err, ⊤, if◌then◌else◌}
+use Rattle.std.specs.Prelude.{◌≡◌, ◌^◌, ◌<◌, ◌≤◌, Bool, IsTrue, List, [], ◌∷◌, length, Some, None, Result, Ok, Err, ⊤}
 use Rattle.std.specs.Str.{is_utf8}
 use Rattle.gl_calculus.specs.Grid.Limits.{max_text}
 use Rattle.gl_calculus.specs.Grid.Grid.{Addr, grid, covers}
 use Rattle.gl_language.specs.Texts.Text.{Bytes}
 use Rattle.gl_language.specs.Reading.Token.{IsRow, is_lower}
-use Rattle.gl_language.specs.Reading.Grammar.{RawOperands, no_operand, operand_and, Raws, no_raw, raw_and, is_bad_range, is_bad_call, is_let, form_fault, tree}
+use Rattle.gl_language.specs.Reading.Grammar.{RawOperands, no_operand, operand_and, Raws, no_raw, raw_and, is_bad_range, is_bad_call, form_fault, tree}
 use Rattle.gl_language.specs.Reading.Grammar as G
 use Rattle.gl_plane.specs.Parts.{is_ordered}
 use Rattle.gl_ast.specs.declared.Formula.{Formula}
@@ -30,11 +30,6 @@ scope_onto text (s ∷ ss) more = scope_onto text ss (letters text s ∷ more)
 abbrev pub scope : Bytes → List Span → List Bytes
 scope text ss = scope_onto text ss []
 
--- the variable that a call of a word with these arguments binds
-abbrev pub bound_by : Bytes → List G.Raw → Option Bytes
-bound_by word (G.Raw.Var v ∷ f ∷ body ∷ []) = if is_let word then Some v else None
-bound_by word fs = None
-
 -- The numbers, texts, names and addresses of a form are those of tokens, and its corners hold P.
 module _ (P : Addr → Addr → Type 0) where
   abbrev mutual
@@ -49,6 +44,7 @@ module _ (P : Addr → Addr → Type 0) where
     IsSpelled (G.Raw.Neg f) = IsSpelled f
     IsSpelled (G.Raw.Chain level f rest) = IsSpelled f × AreSpelledOperands rest
     IsSpelled (G.Raw.Compare op f g) = IsSpelled f × IsSpelled g
+    IsSpelled (G.Raw.Let v f body) = IsRow is_lower v × IsSpelled f × IsSpelled body
     IsSpelled (G.Raw.Apply word xs) = AreSpelled xs
 
     pub AreSpelledOperands : RawOperands → Type 0

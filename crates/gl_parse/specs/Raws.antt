@@ -45,6 +45,7 @@ layer text (Raw-F.Var name) = G.Raw.Var (letters text name)
 layer text (Raw-F.Neg f) = G.Raw.Neg f.value
 layer text (Raw-F.Chain l f rest) = G.Raw.Chain (level_tree l) f.value (links (map (λ p. (op_tree p.0, p.1)) rest.items))
 layer text (Raw-F.Compare o f g) = G.Raw.Compare (op_tree o) f.value g.value
+layer text (Raw-F.Let name f body) = G.Raw.Let (letters text name) f.value body.value
 layer text (Raw-F.Apply word xs) = G.Raw.Apply (letters text word) (raws_of xs.items)
 
 unfoldable pub raw_tree : Bytes → Raw → G.Raw

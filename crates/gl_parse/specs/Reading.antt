@@ -1,11 +1,11 @@
 -- What a call of the reader answers.
-use Rattle.std.specs.Prelude.{◌≡◌, ℕ, ◌<◌, List, [], ◌∷◌, Option, Some, None, Result, Ok, Err}
+use Rattle.std.specs.Prelude.{◌≡◌, ℕ, ◌<◌, Bool, true, false, List, [], ◌∷◌, Option, Some, None, Result, Ok, Err, if◌then◌else◌}
 use Rattle.std.specs.Borrow.{Bor}
 use Rattle.gl_calculus.specs.Formulas.Formula.{Level, Op}
 use Rattle.gl_calculus.specs.Formulas.Formula as F
 use Rattle.gl_language.specs.Reading.Token.{Sign, Signed}
 use Rattle.gl_language.specs.Reading.Token as T
-use Rattle.gl_language.specs.Reading.Grammar.{Tokens, Raw, RawOperands, Raws, chained, IsExpr, IsChain, IsLinks, IsArguments, IsMore}
+use Rattle.gl_language.specs.Reading.Grammar.{Tokens, Raw, RawOperands, Raws, chained, is_let, IsExpr, IsChain, IsLinks, IsArguments, IsMore}
 use Rattle.gl_language.specs.Texts.Text.{Bytes}
 use Rattle.gl_lex.specs.declared.Token.{Token}
 use Rattle.gl_lex.specs.View.{tokens_in}
@@ -15,6 +15,16 @@ use Rattle.gl_parse.specs.Raws.{onto, before, raw_tree}
 use Rattle.gl_parse.specs.declared.raw.Raw.{Raw as CodeRaw}
 use Rattle.gl_parse.specs.declared.stop.Stop.{Stop}
 use Rattle.gl_parse.specs.declared.stop.Stop.TheVariants.{Syntax, NoMemory}
+
+-- a variable
+abbrev pub is_variable : Raw → Bool
+is_variable (Raw.Var v) = true
+is_variable f = false
+
+-- the variable that a word with these arguments binds
+abbrev pub bound_by : Bytes → List Raw → Option Bytes
+bound_by word (Raw.Var v ∷ f ∷ body ∷ []) = if is_let word then Some v else None
+bound_by word fs = None
 
 -- how tightly a sign binds what stands before it
 abbrev pub binds : Sign → ℕ

@@ -1,6 +1,7 @@
 //! The arguments that functions take.
 
-ghost use Rattle.std.specs.Prelude.{◌≡◌, Option, option_map};
+ghost use Rattle.std.specs.Prelude.{◌≡◌, Option, option_map, false};
+ghost use Rattle.std.specs.Option.{option_map_or};
 ghost use Rattle.gl_calculus.specs.Formulas.Formula as F;
 ghost use Rattle.gl_language.specs.Texts.Text.{Bytes};
 ghost use Rattle.gl_language.specs.Reading.Grammar as G;
@@ -15,7 +16,7 @@ use gl_ast::Fun;
 /// The arguments of a function are at most so many, but for `G`.
 const MAX_ARGUMENTS: usize = 16;
 
-/// Whether a call has a number or a form of arguments that its function, or `LET`, doesn't take.
+/// Whether a call has a number or a form of arguments that its function doesn't take.
 pub fn is_bad_call(text: &[u8], raw: &Raw) -> bool
     ensures { result ≡ G.is_bad_call (raw_tree text.now raw.now) }
 {
@@ -25,13 +26,15 @@ pub fn is_bad_call(text: &[u8], raw: &Raw) -> bool
     }
 }
 
+/// Whether these are the arguments of a function, where there is one.
 fn allows_word(fun: Option<Fun>, xs: &[Raw]) -> bool
     ensures { (text : Bytes)
-        → result ≡ G.allows_word (option_map fun_tree fun) (plains text xs.now) }
+        → result
+        ≡ option_map_or (λ f. G.allows f (plains text xs.now)) (option_map fun_tree fun) false }
 {
     match fun {
         Some(fun) => allows(fun, xs),
-        None => allows_let(xs),
+        None => false,
     }
 }
 
@@ -74,25 +77,6 @@ fn are_pairs(xs: &[Raw]) -> bool
         rest = behind;
     }
     rest.is_empty()
-}
-
-/// Three arguments, the first of them a variable.
-fn allows_let(xs: &[Raw]) -> bool
-    ensures { (text : Bytes) → result ≡ G.allows_let (plains text xs.now) }
-{
-    match xs {
-        [name, _, _] => is_variable(name),
-        _ => false,
-    }
-}
-
-fn is_variable(raw: &Raw) -> bool
-    ensures { (text : Bytes) → result ≡ G.is_variable (raw_tree text raw.now) }
-{
-    match raw {
-        Raw::Var(_) => true,
-        _ => false,
-    }
 }
 
 /// Whether a function takes these arguments.

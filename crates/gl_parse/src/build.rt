@@ -11,7 +11,6 @@ ghost use Rattle.gl_parse.specs.Raws.{raw_tree, plains, pairs, links, raws_of};
 ghost use Rattle.gl_parse.specs.Faults.{IsSpelled, AreSpelled, AreSpelledOperands, InOrder};
 
 use crate::functions::function_of;
-use crate::names::bound_variable;
 use crate::peek::spelling;
 use crate::raw::Raw;
 use gl_ast::{Formula, Fun, Op};
@@ -92,6 +91,11 @@ pub fn build(alloc: Global, text: &[u8], raw: &Raw) -> Result<Formula, NoMemory>
             let f = build_boxed(alloc, text, f)?;
             Ok(Formula::Compare(*op, f, build_boxed(alloc, text, g)?))
         }
+        Raw::Let(name, f, body) => {
+            let name = named(alloc, spelling(text, *name))?;
+            let f = build_boxed(alloc, text, f)?;
+            Ok(Formula::Let(name, f, build_boxed(alloc, text, body)?))
+        }
         Raw::Apply(word, xs) => build_call(alloc, text, spelling(text, *word), xs),
     }
 }
@@ -139,30 +143,10 @@ fn build_arguments(alloc: Global, text: &[u8], xs: &[Raw]) -> Result<Vec<Formula
     Ok(built)
 }
 
-/// A call, which is a form of its own where it is a `LET` of three arguments with a variable first.
-#[cycle(build)]
-fn build_call(alloc: Global, text: &[u8], word: &[u8], xs: &[Raw]) -> Result<Formula, NoMemory>
-    ensures { AreSpelled InOrder (raws_of (plains text.now xs.now))
-        → IfOk result (λ f.
-        formula_tree f ≡ G.let_or_call word.now (G.trees (raws_of (plains text.now xs.now)))) }
-{
-    let Some(name) = bound_variable(word, xs) else {
-        return build_plain_call(alloc, text, word, xs);
-    };
-    let name = named(alloc, spelling(text, name))?;
-    let f = build_boxed(alloc, text, &xs[1])?;
-    Ok(Formula::Let(name, f, build_boxed(alloc, text, &xs[2])?))
-}
-
-/// A call that binds nothing.
+/// A call.
 #[cycle(build)]
 #[tactic(auto, using(gl_ast::specs::Forms::trees))]
-fn build_plain_call(
-    alloc: Global,
-    text: &[u8],
-    word: &[u8],
-    xs: &[Raw],
-) -> Result<Formula, NoMemory>
+fn build_call(alloc: Global, text: &[u8], word: &[u8], xs: &[Raw]) -> Result<Formula, NoMemory>
     ensures { AreSpelled InOrder (raws_of (plains text.now xs.now))
         → IfOk result (λ f.
         formula_tree f

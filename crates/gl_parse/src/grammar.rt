@@ -13,6 +13,7 @@ ghost use Rattle.gl_parse.specs.Raws.{raw_tree, plains, pairs, links, raws_of, l
 ghost use Rattle.gl_parse.specs.Reading.{Decides, DecidesForm, DecidesLevel};
 ghost use Rattle.gl_parse.specs.Reading.{chain_end, operand_end};
 
+use crate::applied::applied;
 use crate::peek::{address, after, compared, joined};
 use crate::raw::{Raw, Span};
 use crate::stop::Stop;
@@ -150,7 +151,7 @@ fn call<'a>(alloc: Global, text: &[u8], word: Span, tokens: &'a [Token]) -> Read
         return Err(Stop::Syntax);
     };
     let (all, rest) = arguments(alloc, text, rest)?;
-    Ok((Raw::Apply(word, all), rest))
+    Ok((applied(alloc, text, word, all)?, rest))
 }
 
 /// What stands behind the left parenthesis of a call.

@@ -1,6 +1,7 @@
 //! The reader of formulas.
 #![tactic(auto)]
 
+mod applied;
 mod arity;
 mod build;
 mod depth;

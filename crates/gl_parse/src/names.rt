@@ -1,6 +1,6 @@
-//! The words that are called, and the variables that `LET` binds.
+//! The words that are called, and the variables that are bound.
 
-ghost use Rattle.std.specs.Prelude.{◌≡◌, IfOk, MatchOption, is_some, true, false, length, ⊤};
+ghost use Rattle.std.specs.Prelude.{◌≡◌, IfOk, is_some};
 ghost use Rattle.std.specs.Prelude.{◌||◌, [], ◌∷◌, bytes_eq};
 ghost use Rattle.std.specs.List.{list_any};
 ghost use Rattle.gl_language.specs.Texts.Text.{Bytes};
@@ -43,32 +43,6 @@ fn is_same(text: &[u8], a: Span, b: Span) -> bool
     spelling(text, a) == spelling(text, b)
 }
 
-/// The name of a variable.
-fn variable(raw: &Raw) -> Option<Span>
-    ensures { MatchOption result ((text : Bytes) → G.is_variable (raw_tree text raw.now) ≡ false)
-        (λ name. (text : Bytes) → raw_tree text raw.now ≡ G.Raw.Var (letters text name)) }
-{
-    match raw {
-        Raw::Var(name) => Some(*name),
-        _ => None,
-    }
-}
-
-/// The variable that a call binds in its third argument: that of a `LET` of three arguments, the first a variable.
-#[tactic(auto, using(crate::proofs::Naming::binding_rules))]
-pub fn bound_variable(word: &[u8], xs: &[Raw]) -> Option<Span>
-    ensures cases { MatchOption result
-        ((text : Bytes) → spec.bound_by word.now (plains text xs.now) ≡ None)
-        (λ name.
-        (text : Bytes) → spec.bound_by word.now (plains text xs.now) ≡ Some (letters text name)) }
-    ensures len { MatchOption result ⊤ (λ _. length xs.now ≡ 3) }
-{
-    if !is_let(word) || xs.len() != 3 {
-        return None;
-    }
-    variable(&xs[0])
-}
-
 /// The same under the names that are bound around the form, the innermost last. They are as before where it answers.
 #[cycle(names)]
 fn bad_name(text: &[u8], scope: &mut Vec<Span>, raw: &Raw) -> Result<bool, NoMemory>
@@ -92,6 +66,13 @@ fn bad_name(text: &[u8], scope: &mut Vec<Span>, raw: &Raw) -> Result<bool, NoMem
                 return Ok(true);
             }
             bad_name(text, scope, g)
+        }
+        Raw::Let(name, value, body) => {
+            let bad = bad_name(text, scope, value)?;
+            if bad {
+                return Ok(true);
+            }
+            bad_name_in_body(text, scope, *name, body)
         }
         Raw::Apply(word, xs) => bad_name_in_call(text, scope, spelling(text, *word), xs),
         _ => Ok(false),
@@ -137,9 +118,8 @@ fn bad_name_in_arguments(text: &[u8], scope: &mut Vec<Span>, xs: &[Raw]) -> Resu
     Ok(false)
 }
 
-/// A call, which binds a variable in its third argument where it is a `LET` of three arguments with a variable first.
+/// A call, which binds nothing.
 #[cycle(names)]
-#[tactic(auto, using(crate::proofs::Naming::call_rules))]
 fn bad_name_in_call(
     text: &[u8],
     scope: &mut Vec<Span>,
@@ -152,17 +132,10 @@ fn bad_name_in_call(
         (G.Raw.Apply word.now (raws_of (plains text.now xs.now)))) }
     ensures same { IfOk result (λ b. scope.new.items ≡ scope.old.items) }
 {
-    let Some(name) = bound_variable(word, xs) else {
-        if !is_called(word) {
-            return Ok(true);
-        }
-        return bad_name_in_arguments(text, scope, xs);
-    };
-    let bad = bad_name(text, scope, &xs[1])?;
-    if bad {
+    if !is_called(word) {
         return Ok(true);
     }
-    bad_name_in_body(text, scope, name, &xs[2])
+    bad_name_in_arguments(text, scope, xs)
 }
 
 /// A form in which a variable is bound.

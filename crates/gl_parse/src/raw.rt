@@ -24,7 +24,9 @@ pub enum Raw {
     Neg(Box<Raw>),
     Chain(Level, Box<Raw>, Vec<(Op, Raw)>),
     Compare(Op, Box<Raw>, Box<Raw>),
-    /// a call of a word, which may be no function
+    /// `LET` of a variable, its value, and the body in which it is bound
+    Let(Span, Box<Raw>, Box<Raw>),
+    /// any other call of a word, which may be no function
     Apply(Span, Vec<Raw>),
 }
 
@@ -45,6 +47,10 @@ impl Drop for Raw {
                 drop(others);
             }
             Raw::Compare(_, x, y) => {
+                drop(x);
+                drop(y);
+            }
+            Raw::Let(_, x, y) => {
                 drop(x);
                 drop(y);
             }

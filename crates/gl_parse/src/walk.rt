@@ -60,6 +60,7 @@ pub fn some_form(text: &[u8], fault: FormFault, raw: &Raw) -> bool
         Raw::Neg(f) => some_form(text, fault, f),
         Raw::Chain(_, f, rest) => some_form(text, fault, f) || some_operand(text, fault, rest),
         Raw::Compare(_, f, g) => some_form(text, fault, f) || some_form(text, fault, g),
+        Raw::Let(_, f, body) => some_form(text, fault, f) || some_form(text, fault, body),
         Raw::Apply(_, xs) => some_argument(text, fault, xs),
         _ => false,
     }

@@ -1,5 +1,6 @@
 -- Lemmas of the grammar.
 pub mod Back
+pub mod Bound
 pub mod Ends
 pub mod Kept
 pub mod Made

@@ -1,9 +1,6 @@
 use Rattle.std.proofs.Common.{arith}
-use Rattle.std.proofs.lemmas.Grind.{common_steps}
 use Rattle.gl_language.specs.Reading.Grammar.{function_of}
-use Rattle.gl_parse.specs.Raws.{letters}
-use Rattle.gl_parse.proofs.Naming.{let_is}
-use Rattle.gl_parse.proofs.Building.{built_number, built_text, built_bool, built_at, built_spill, built_corners, built_var, built_neg, built_chain, built_compare, built_apply, argument_built, operand_built, plain_is, built_let, built_call}
+use Rattle.gl_parse.proofs.Building.{built_number, built_text, built_bool, built_at, built_spill, built_corners, built_var, built_neg, built_chain, built_compare, built_let, built_apply, argument_built, operand_built, built_call}
 use Rattle.gl_parse.proofs.build.+build.Goals as goal
 
 pub build_arguments-loop-raw-preserved : goal.build_arguments-loop-raw-preserved
@@ -13,8 +10,8 @@ pub build_operands-loop-operand-preserved : goal.build_operands-loop-operand-pre
 build_operands-loop-operand-preserved t c =
     operand_built c.args.text.now c.args.rest.now c.loop-operand.operand-index c.loop-operand.built.items _ c.operand-item.result c.in_ok-next.next c.loop-operand-test.true c.operand-item.is c.in_ok-push.ensures.items c.in_ok-next.ensures c.loop-operand.invariant
 
-pub build_plain_call-returns : goal.build_plain_call-returns
-build_plain_call-returns t c = λ s. built_call _ _ _ (function_of c.args.word.now) c.called.ensures (c.in_ok-xs.ensures s)
+pub build_call-returns : goal.build_call-returns
+build_call-returns t c = λ s. built_call _ _ _ (function_of c.args.word.now) c.called.ensures (c.in_ok-xs.ensures s)
 
 pub build-returns-in-Bool : goal.build-returns-in-Bool
 build-returns-in-Bool t c = built_bool c.args.text.now c.args.raw.now c.in-Bool.b c.in-Bool.is
@@ -48,19 +45,9 @@ build-returns-in_ok-build_boxed-in-Compare t c =
 pub build-returns-in-Apply : goal.build-returns-in-Apply
 build-returns-in-Apply t c = built_apply c.args.text.now c.args.raw.now c.in-Apply.word c.in-Apply.xs _ _ _ c.in-Apply.is c.spelling-in-Apply.ensures c.deref-in-Apply.ensures.value c.build_call.ensures
 
-pub build_call-returns-in_default : goal.build_call-returns-in_default
-build_call-returns-in_default t c = plain_is c.args.text.now c.args.word.now c.args.xs.now _ (c.in_default.ensures.cases c.args.text.now) c.build_plain_call.ensures
-
-pub build_call-returns : goal.build_call-returns
-build_call-returns t c =
-    let is = let_is c.args.text.now c.args.word.now c.args.xs.now (letters c.args.text.now c.in-Some.name) _ _ _ _ c.in-Some.ensures.len (c.in-Some.ensures.cases c.args.text.now) c.index-xs-1.is c.index-xs-2.is in
-    built_let c.args.text.now c.args.word.now c.args.xs.now _ _ _ _ _ _ _ is c.spelling.ensures c.in_ok-name.ensures c.in_ok-f.ensures c.in_ok-build_boxed.ensures
-
-pub build_call-build_boxed-requires : goal.build_call-build_boxed-requires
-build_call-build_boxed-requires t c = grind (arith, common_steps)
-
-pub build_call-build_boxed-requires-2 : goal.build_call-build_boxed-requires-2
-build_call-build_boxed-requires-2 t c = grind (arith, common_steps)
+pub build-returns-in_ok-build_boxed-in-Let : goal.build-returns-in_ok-build_boxed-in-Let
+build-returns-in_ok-build_boxed-in-Let t c =
+    built_let c.args.text.now c.args.raw.now c.in-Let.name c.in-Let.f c.in-Let.body _ _ _ _ _ _ c.in-Let.is c.spelling-in-Let.ensures c.deref-in-Let.ensures c.deref-in-Let-2.ensures c.in_ok-name-in-Let.ensures c.in_ok-f-in-Let.ensures c.in_ok-build_boxed-in-Let.ensures
 
 pub build-returns-in-Number : goal.build-returns-in-Number
 build-returns-in-Number t c = grind (arith, built_number)

@@ -7,7 +7,7 @@ use Rattle.gl_ast.specs.View.{level_tree}
 use Rattle.gl_parse.specs.Raws.{letters, pairs, plains, raw_tree, raws_of}
 use Rattle.gl_parse.specs.Reading.{DecidesForm, DecidesLevel, SoFar, operand_end}
 use Rattle.gl_parse.proofs.Cuts.{cut, spent, as_other, in_front}
-use Rattle.gl_parse.proofs.Forms.{tree-Apply, tree-Bool, tree-Var, compare_is, neg_is, pairs_pushed, plains_pushed}
+use Rattle.gl_parse.proofs.Forms.{tree-Bool, tree-Var, compare_is, neg_is, pairs_pushed, plains_pushed}
 use Rattle.gl_parse.proofs.Rules.{expr_alone, expr_compared, expr_cut, expr_none, so_far_start, so_far_step, so_far_done, so_far_cut, chain_none, operand_cat, operand_cat_none, operand_sum, operand_sum_none, operand_prod, operand_prod_none, unary_minus, unary_minus_none, unary_atom, unary_atom_none, atom_truth, atom_variable, atom_word, atom_call, atom_call_none, atom_parens, atom_open, atom_parens_none, arguments_empty, arguments_start, arguments_step, arguments_done, arguments_none, arguments_cut, arguments_open}
 use Rattle.gl_parse.proofs.Rulesets.{atom_rules}
 use Rattle.gl_parse.proofs.grammar.+grammar.Goals as goal
@@ -103,7 +103,10 @@ pub call-returns-in_err-all-clause-cases : goal.call-returns-in_err-all-clause-c
 call-returns-in_err-all-clause-cases t c = cut _ _ _ _ _ (atom_call_none (ap (λ ts. Word (letters c.args.text.now c.args.word) ∷ ts) c.in-Some.ensures.cases)) _ c.from_residual.result c.in_err-all.ensures.cases c.from_residual.ensures.1
 
 pub call-returns-clause-cases : goal.call-returns-clause-cases
-call-returns-clause-cases t c = atom_call (ap (λ ts. Word (letters c.args.text.now c.args.word) ∷ ts) c.in-Some.ensures.cases) c.in_ok-all.ensures.cases (tree-Apply c.args.text.now c.args.word _)
+call-returns-clause-cases t c = atom_call (ap (λ ts. Word (letters c.args.text.now c.args.word) ∷ ts) c.in-Some.ensures.cases) c.in_ok-all.ensures.cases c.in_ok-applied.ensures.tree
+
+pub call-returns-in_err-applied-clause-cases : goal.call-returns-in_err-applied-clause-cases
+call-returns-in_err-applied-clause-cases t c = grind (arith, common_steps)
 
 pub chain-returns-in_err-first-clause-cases : goal.chain-returns-in_err-first-clause-cases
 chain-returns-in_err-first-clause-cases t c = cut _ _ _ _ _ chain_none _ c.from_residual.result c.in_err-first.ensures.cases c.from_residual.ensures.1

@@ -6,7 +6,7 @@ use Rattle.gl_language.specs.Reading.Grammar as G
 use Rattle.gl_parse.specs.Raws.{raw_tree, plains, pairs, links, raws_of, letters}
 use Rattle.gl_parse.specs.Faults.{scope}
 use Rattle.gl_parse.proofs.Walks.{or_then, or_else}
-use Rattle.gl_parse.proofs.Naming.{name_var, name_neg, name_chain, name_compare, name_apply, answer_is, plain_call, let_is, let_then, let_else}
+use Rattle.gl_parse.proofs.Naming.{name_var, name_neg, name_chain, name_compare, name_let, name_apply, answer_is}
 use Rattle.gl_parse.proofs.Others.{no_name}
 use Rattle.gl_parse.proofs.names.+names.Goals as goal
 
@@ -51,31 +51,31 @@ bad_name-returns-in-Apply-clause-value t c =
     ∙ ap (λ z. has_bad_name (scope c.args.text.now c.args.scope.now.items) (G.Raw.Apply (letters c.args.text.now c.in-Apply.word) (raws_of (plains c.args.text.now z)))) c.deref-in-Apply.ensures.value
     ∙ sym (name_apply c.args.text.now (scope c.args.text.now c.args.scope.now.items) c.args.raw.now c.in-Apply.word c.in-Apply.xs c.in-Apply.is))
 
+pub bad_name-returns-then-bad-3-clause-value : goal.bad_name-returns-then-bad-3-clause-value
+bad_name-returns-then-bad-3-clause-value t c =
+    sym c.if-bad-3.true
+    ∙ or_then _ _ _ _ (c.in_ok-bad-in-Let.ensures.value ∙ ap (λ z. has_bad_name (scope c.args.text.now c.args.scope.now.items) (raw_tree c.args.text.now z)) c.deref-in-Let.ensures) c.if-bad-3.true
+    (name_let c.args.text.now (scope c.args.text.now c.args.scope.now.items) c.args.raw.now c.in-Let.name c.in-Let.value c.in-Let.body c.in-Let.is)
+
+pub bad_name-returns-else-bad-3-clause-value : goal.bad_name-returns-else-bad-3-clause-value
+bad_name-returns-else-bad-3-clause-value t c =
+    answer_is _ _ _ c.bad_name_in_body.ensures.value
+    (ap (λ z. has_bad_name (letters c.args.text.now c.in-Let.name ∷ scope c.args.text.now z) (raw_tree c.args.text.now c.deref-in-Let-2.result.now)) c.in_ok-bad-in-Let.ensures.same
+    ∙ ap (λ z. has_bad_name (letters c.args.text.now c.in-Let.name ∷ scope c.args.text.now c.args.scope.now.items) (raw_tree c.args.text.now z)) c.deref-in-Let-2.ensures
+    ∙ or_else _ _ _ _ _ (c.in_ok-bad-in-Let.ensures.value ∙ ap (λ z. has_bad_name (scope c.args.text.now c.args.scope.now.items) (raw_tree c.args.text.now z)) c.deref-in-Let.ensures) c.if-bad-3.false refl
+    (name_let c.args.text.now (scope c.args.text.now c.args.scope.now.items) c.args.raw.now c.in-Let.name c.in-Let.value c.in-Let.body c.in-Let.is))
+
 pub bad_name_in_call-returns-then-not-is_called-clause-value : goal.bad_name_in_call-returns-then-not-is_called-clause-value
 bad_name_in_call-returns-then-not-is_called-clause-value t c =
     let bound = scope c.args.text.now c.args.scope.now.items in
     let fs = plains c.args.text.now c.args.xs.now in
-    let call = plain_call bound c.args.word.now fs (c.in_default.ensures.cases c.args.text.now) in
-    sym (call ∙ ap (λ z. not z || bad_name_in bound (raws_of fs)) (sym c.is_called.ensures ∙ c.if-not-is_called.true))
-
-pub bad_name_in_call-returns-in_default-clause-value : goal.bad_name_in_call-returns-in_default-clause-value
-bad_name_in_call-returns-in_default-clause-value t c =
-    let bound = scope c.args.text.now c.args.scope.now.items in
-    let fs = plains c.args.text.now c.args.xs.now in
-    let call = plain_call bound c.args.word.now fs (c.in_default.ensures.cases c.args.text.now) in
-    answer_is _ _ _ c.bad_name_in_arguments.ensures.value (sym (call ∙ ap (λ z. not z || bad_name_in bound (raws_of fs)) (sym c.is_called.ensures ∙ c.if-not-is_called.false)))
-
-pub bad_name_in_call-returns-then-bad-clause-value : goal.bad_name_in_call-returns-then-bad-clause-value
-bad_name_in_call-returns-then-bad-clause-value t c =
-    let is = let_is c.args.text.now c.args.word.now c.args.xs.now (letters c.args.text.now c.in-Some.name) _ _ _ c.index-xs-1.result c.in-Some.ensures.len (c.in-Some.ensures.cases c.args.text.now) c.index-xs-1.is refl in
-    let_then c.args.text.now (scope c.args.text.now c.args.scope.now.items) c.args.word.now c.args.xs.now _ _ _ is _ c.in_ok-bad.ensures.value c.if-bad.true
+    sym (ap (λ z. not z || bad_name_in bound (raws_of fs)) (sym c.is_called.ensures ∙ c.if-not-is_called.true))
 
 pub bad_name_in_call-returns-clause-value : goal.bad_name_in_call-returns-clause-value
 bad_name_in_call-returns-clause-value t c =
-    let is = let_is c.args.text.now c.args.word.now c.args.xs.now (letters c.args.text.now c.in-Some.name) _ _ _ _ c.in-Some.ensures.len (c.in-Some.ensures.cases c.args.text.now) c.index-xs-1.is c.index-xs-2.is in
-    answer_is _ _ _ c.bad_name_in_body.ensures.value
-    (ap (λ z. has_bad_name (letters c.args.text.now c.in-Some.name ∷ scope c.args.text.now z) (raw_tree c.args.text.now c.index-xs-2.result)) c.in_ok-bad.ensures.same
-    ∙ let_else c.args.text.now (scope c.args.text.now c.args.scope.now.items) c.args.word.now c.args.xs.now _ _ _ is _ _ c.in_ok-bad.ensures.value c.if-bad.false refl)
+    let bound = scope c.args.text.now c.args.scope.now.items in
+    let fs = plains c.args.text.now c.args.xs.now in
+    answer_is _ _ _ c.bad_name_in_arguments.ensures.value (sym (ap (λ z. not z || bad_name_in bound (raws_of fs)) (sym c.is_called.ensures ∙ c.if-not-is_called.false)))
 
 pub bad_name-returns-in-Var-clause-value : goal.bad_name-returns-in-Var-clause-value
 bad_name-returns-in-Var-clause-value t c = ap not (c.is_bound.ensures ∙ ap (λ z. list_any (bytes_eq (letters c.args.text.now c.in-Var.name)) (scope c.args.text.now z)) c.deref.ensures.value) ∙ sym (name_var c.args.text.now (scope c.args.text.now c.args.scope.now.items) c.args.raw.now c.in-Var.name c.in-Var.is)
@@ -83,7 +83,7 @@ bad_name-returns-in-Var-clause-value t c = ap not (c.is_bound.ensures ∙ ap (λ
 pub bad_name-returns-in_default-clause-value : goal.bad_name-returns-in_default-clause-value
 bad_name-returns-in_default-clause-value t c =
     let other = c.in_default in
-    sym (no_name c.args.text.now (scope c.args.text.now c.args.scope.now.items) c.args.raw.now other.not-Var other.not-Neg other.not-Chain other.not-Compare other.not-Apply)
+    sym (no_name c.args.text.now (scope c.args.text.now c.args.scope.now.items) c.args.raw.now other.not-Var other.not-Neg other.not-Chain other.not-Compare other.not-Let other.not-Apply)
 
 pub bad_name_in_arguments-loop-raw-preserved : goal.bad_name_in_arguments-loop-raw-preserved
 bad_name_in_arguments-loop-raw-preserved t c = grind (arith, common_steps)
@@ -96,12 +96,6 @@ bad_name_in_arguments-returns-then-bad-clause-value t c = grind (arith, common_s
 
 pub bad_name_in_body-returns-clause-same : goal.bad_name_in_body-returns-clause-same
 bad_name_in_body-returns-clause-same t c = grind (arith, common_steps)
-
-pub bad_name_in_call-bad_name-requires : goal.bad_name_in_call-bad_name-requires
-bad_name_in_call-bad_name-requires t c = grind (arith, common_steps)
-
-pub bad_name_in_call-bad_name_in_body-requires : goal.bad_name_in_call-bad_name_in_body-requires
-bad_name_in_call-bad_name_in_body-requires t c = grind (arith, common_steps)
 
 pub bad_name_in_operands-loop-operand-preserved : goal.bad_name_in_operands-loop-operand-preserved
 bad_name_in_operands-loop-operand-preserved t c = grind (arith, common_steps)

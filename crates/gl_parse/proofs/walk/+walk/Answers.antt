@@ -3,7 +3,7 @@ use Rattle.std.proofs.lemmas.Grind.{common_steps}
 use Rattle.gl_language.specs.Reading.Grammar.{some_form, some_operand, some_argument}
 use Rattle.gl_parse.specs.Raws.{raw_tree, links, pairs, raws_of, plains}
 use Rattle.gl_parse.specs.Faults.{shows}
-use Rattle.gl_parse.proofs.Walks.{or_then, or_else, shown_here, walk_neg, walk_chain, walk_compare, walk_apply}
+use Rattle.gl_parse.proofs.Walks.{or_then, or_else, shown_here, walk_neg, walk_chain, walk_compare, walk_let, walk_apply}
 use Rattle.gl_parse.proofs.Others.{no_part}
 use Rattle.gl_parse.proofs.walk.+walk.Goals as goal
 
@@ -29,6 +29,17 @@ some_form-returns-else-some_form-2 t c =
     (c.some_form-else-some_form-2.ensures ∙ ap (λ z. some_form (shows c.args.fault) (raw_tree c.args.text.now z)) c.deref-else-some_form-2.ensures)
     (walk_compare c.args.text.now c.args.fault c.args.raw.now (sym c.shows.ensures ∙ c.if-shows.false) _ c.in-Compare.f c.in-Compare.g c.in-Compare.is)
 
+pub some_form-returns-then-some_form-3 : goal.some_form-returns-then-some_form-3
+some_form-returns-then-some_form-3 t c =
+    or_then _ _ _ _ (c.some_form-in-Let.ensures ∙ ap (λ z. some_form (shows c.args.fault) (raw_tree c.args.text.now z)) c.deref-in-Let.ensures) c.if-some_form-3.true
+    (walk_let c.args.text.now c.args.fault c.args.raw.now (sym c.shows.ensures ∙ c.if-shows.false) _ c.in-Let.f c.in-Let.body c.in-Let.is)
+
+pub some_form-returns-else-some_form-3 : goal.some_form-returns-else-some_form-3
+some_form-returns-else-some_form-3 t c =
+    or_else _ _ _ _ _ (c.some_form-in-Let.ensures ∙ ap (λ z. some_form (shows c.args.fault) (raw_tree c.args.text.now z)) c.deref-in-Let.ensures) c.if-some_form-3.false
+    (c.some_form-else-some_form-3.ensures ∙ ap (λ z. some_form (shows c.args.fault) (raw_tree c.args.text.now z)) c.deref-else-some_form-3.ensures)
+    (walk_let c.args.text.now c.args.fault c.args.raw.now (sym c.shows.ensures ∙ c.if-shows.false) _ c.in-Let.f c.in-Let.body c.in-Let.is)
+
 pub some_form-returns-in-Apply : goal.some_form-returns-in-Apply
 some_form-returns-in-Apply t c =
     c.some_argument.ensures ∙ ap (λ z. some_argument (shows c.args.fault) (raws_of (plains c.args.text.now z))) c.deref-in-Apply.ensures.value
@@ -45,7 +56,7 @@ some_form-returns-in-Neg t c =
 pub some_form-returns-in_default : goal.some_form-returns-in_default
 some_form-returns-in_default t c =
     let other = c.in_default in
-    let none = no_part c.args.text.now (shows c.args.fault) c.args.raw.now other.not-Neg other.not-Chain other.not-Compare other.not-Apply in
+    let none = no_part c.args.text.now (shows c.args.fault) c.args.raw.now other.not-Neg other.not-Chain other.not-Compare other.not-Let other.not-Apply in
     sym (none ∙ sym c.shows.ensures ∙ c.if-shows.false)
 
 pub some_argument-loop-raw-preserved : goal.some_argument-loop-raw-preserved
