@@ -1,7 +1,6 @@
 //! What a word and its arguments are read as.
-
-ghost use Rattle.std.specs.Prelude.{◌≡◌, Some, None, false, length, IfOk, MatchOption, MatchResult};
-ghost use Rattle.std.specs.Prelude.{⊤};
+ghost use Rattle.std.specs.Prelude.{◌≡◌, Some, None, false, length, IfOk, MatchOption};
+ghost use Rattle.std.specs.Prelude.{MatchResult, ⊤};
 ghost use Rattle.gl_language.specs.Texts.Text.{Bytes};
 ghost use Rattle.gl_language.specs.Reading.Grammar as G;
 ghost use Rattle.gl_parse.specs.Raws.{raw_tree, plains, raws_of, letters};
@@ -24,7 +23,8 @@ fn variable(raw: &Raw) -> Option<Span>
     }
 }
 
-/// The variable that a word with these arguments binds: that of a `LET` of three, the first a variable.
+/// The variable that a word with these arguments binds: that of a `LET` of three, the first a
+/// variable.
 #[tactic(auto, using(crate::proofs::Binding::binding_rules))]
 fn bound_variable(word: &[u8], xs: &[Raw]) -> Option<Span>
     ensures cases { MatchOption result
@@ -53,7 +53,8 @@ fn binding(alloc: Global, name: Span, xs: Vec<Raw>) -> Result<Raw, Stop>
     Ok(Raw::Let(name, Box::new(alloc, value)?, Box::new(alloc, body)?))
 }
 
-/// What a word and its arguments are: `LET` of a variable, its value and a body binds the variable, and all else is a call.
+/// What a word and its arguments are: `LET` of a variable, its value and a body binds the variable,
+/// and all else is a call.
 pub fn applied(alloc: Global, text: &[u8], word: Span, xs: Vec<Raw>) -> Result<Raw, Stop>
     ensures tree { IfOk result (λ r.
         raw_tree text.now r
