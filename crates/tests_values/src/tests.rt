@@ -2,6 +2,7 @@
 mod arrays;
 mod calls;
 mod funs;
+mod interning;
 mod lift;
 mod scalar;
 mod value;
