@@ -32,11 +32,11 @@ module _ (records : Bytes → List (List Bytes)) (version : Version) where
   took O.Runs.no_more = ([], S.Took.none)
   took {s = s} {t = u} (O.Runs.item {s' = t} {x = x} {xs = xs} {reply = r} a more) =
       let q = took more in
-      let by : (b : Bool) → is_refusal r ≡ b → (es : List Edit) × Took records version s (x ∷ xs) u es = λ b. elim b [
+      let P : Bool → Type 0 = λ b. is_refusal r ≡ b → (es : List Edit) × Took records version s (x ∷ xs) u es in
+      (elim (is_refusal r) as P [
         | true ↦ λ e. (q.0, S.Took.refused t r a e q.1)
         | false ↦ λ e. let k = takes_some a e in (k.0 ++ q.0, S.Took.accepted t r a e k.1 q.1)
-      ] in
-      by (is_refusal r) refl
+      ]) refl
 
 pub every_run_took : EveryRunTook
 every_run_took records version is s t rs h = took records version h
