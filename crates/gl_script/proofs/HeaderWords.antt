@@ -1,11 +1,9 @@
 -- The words of a line that is the header of an import.
-use Rattle.std.proofs.Common.{◌≡◌, ◌∙◌, ℕ, Bool, true, false, cond, ◌&&◌, eqb, List, [], ◌∷◌, length, Option, Some, None, IsFalse, refl, sym, ap, subst}
-use Rattle.std.specs.Prelude.{bytes_eq, codes, nat_lt, nat_le}
+use Rattle.std.proofs.Common.{◌≡◌, ◌∙◌, ℕ, Bool, true, false, cond, eqb, List, [], ◌∷◌, length, Option, Some, None, IsFalse, refl, sym}
+use Rattle.std.specs.Prelude.{bytes_eq, codes, nat_lt}
 use Rattle.std.specs.Str.{is_utf8}
-use Rattle.gl_calculus.specs.Grid.Limits.{max_payload}
 use Rattle.gl_language.specs.Texts.Text.{Bytes}
-use Rattle.gl_language.specs.Reading.Token.{digits_value}
-use Rattle.gl_protocol.specs.Framing.Header.{count_of, count_by, payload_len}
+use Rattle.gl_protocol.specs.Framing.Header.{count_by, payload_len}
 use Rattle.gl_protocol.specs.Framing.Pieces.{cut_at, pieces, is_number}
 use Rattle.gl_protocol.specs.Scripts.Commands.{Words, ImportWords, words_of}
 use Rattle.gl_script.proofs.Cuts.{same_bytes}

@@ -1,5 +1,5 @@
 -- Each run takes some edits.
-use Rattle.std.proofs.Common.{◌≡◌, Bool, true, false, List, [], ◌∷◌, ◌++◌, refl, IsTrue, IsFalse}
+use Rattle.std.proofs.Common.{◌≡◌, Bool, true, false, List, [], ◌∷◌, ◌++◌, refl, IsFalse}
 use Rattle.std.specs.Prelude.{codes}
 use Rattle.gl_calculus.specs.Formulas.Formula.{Version}
 use Rattle.gl_language.specs.Texts.Text.{Bytes}

@@ -1,6 +1,6 @@
 use Rattle.std.proofs.Common.{◌≡◌, ◌∙◌, MatchOption, sym, ap, subst}
 use Rattle.gl_language.specs.Texts.Text.{Bytes}
-use Rattle.gl_protocol.specs.Scripts.Commands.{Words, ImportWords, IsAddress, NoAddress}
+use Rattle.gl_protocol.specs.Scripts.Commands.{IsAddress, NoAddress}
 use Rattle.gl_script.specs.Parts.{words_tree}
 use Rattle.gl_script.proofs.Lines.{option_cases}
 use Rattle.gl_script.proofs.HeaderWords.{same_place}
