@@ -1,1 +1,4 @@
 pub mod Leaving
+pub mod Histories
+pub mod Phases
+pub mod AsBox

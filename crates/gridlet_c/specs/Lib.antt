@@ -1,1 +1,5 @@
 pub mod Statuses
+pub mod Ready
+pub mod History
+pub mod Owned
+pub mod Sessions

@@ -10,7 +10,7 @@ pub struct Growing {
 }
 
 impl Growing {
-    ghost use Rattle.std.specs.Prelude.{◌≡◌, []};
+    ghost use Rattle.std.specs.Prelude.{◌≡◌, [], take, length};
 
     /// Nothing is taken yet.
     pub fn new(alloc: Global) -> Growing
@@ -28,6 +28,27 @@ impl Growing {
         ensures { result.now ≡ self.now.taken.items }
     {
         &self.taken
+    }
+
+    /// How many bytes were taken.
+    pub fn len(&self) -> usize
+        ensures { result ≡ length self.now.taken.items }
+    {
+        self.taken.len()
+    }
+
+    /// Lets go of all bytes but so many first ones.
+    pub fn truncate(&mut self, count: usize)
+        ensures { self.new.taken.items ≡ take count self.old.taken.items }
+    {
+        self.taken.truncate(count);
+    }
+
+    /// Lets go of all bytes.
+    pub fn clear(&mut self)
+        ensures { self.new.taken.items ≡ [] }
+    {
+        self.taken.clear();
     }
 }
 

@@ -11,6 +11,9 @@ ghost use Rattle.gridlet_c.specs.Statuses.{is_unusable, Leaves, IsWhole};
 mod answering;
 mod copying;
 mod growing;
+mod handle;
+mod live;
+mod sessions;
 
 use crate::answering::{MOST_ORDER, answer, number};
 use crate::copying::copy_front;
