@@ -2,7 +2,8 @@
 #
 #   make                       the program, proved, compiled and linked: crates/gridlet/out/gridlet
 #   make check                 the tests of python/ over the program
-#   make shared                the library for C, as libgridlet.so too
+#   make shared                the library for C, as libgridlet.so too: the static library, proved and
+#                              compiled, linked with the heap of the toolchain's C library
 #   make install PREFIX=DIR    the program, the libraries where they are built, the header, the
 #                              package, gridlet-sheet, man pages and files for editors
 #
@@ -30,7 +31,7 @@ editors := $(to)/share/gridlet/editors
 
 MAKEFLAGS += --no-builtin-rules
 .SUFFIXES:
-.PHONY: all check static shared install install-libraries uninstall
+.PHONY: all check static shared heap install install-libraries uninstall
 
 all: $(PROGRAM)
 
@@ -54,7 +55,12 @@ shared: $(SHARED)
 
 $(SHARED): $(STATIC)
 	@test -f "$(HEAP)" || { echo "make: the toolchain's heap is not at $(HEAP): say HEAP=FILE" >&2; exit 1; }
+	@echo "linking $(STATIC) with the heap of the toolchain, $(HEAP)"
 	$(CC) -shared -o $@ -Wl,--whole-archive $(STATIC) -Wl,--no-whole-archive $(HEAP)
+
+# Where the heap is, for who links the static library.
+heap:
+	@echo "$(HEAP)"
 
 install: $(PROGRAM) install-libraries
 	$(INSTALL) -d $(to)/bin $(to)/include $(package)/commands $(package)/assets

@@ -47,8 +47,8 @@ uint32_t gridlet_room(const uint8_t *script, size_t length, uint32_t order, size
  * gridlet_open opens it, and each session that was opened is closed once, by gridlet_close. Between
  * these it may be given to gridlet_feed, gridlet_replies and gridlet_end, and a closed one to
  * gridlet_open alone. An open handle is not copied: two copies of it would be one session, closed
- * twice. Sessions don't touch one another. One may be used by one thread at a time, and may be handed
- * to another thread between calls by a lock or by what orders as one does. */
+ * twice. Sessions don't touch one another, so many threads may use one each. One session is used by
+ * one thread at a time; a lock, or what orders as one does, hands it to another between calls. */
 typedef struct gridlet_session { void *state; } gridlet_session;
 #define GRIDLET_CLOSED { 0 }
 

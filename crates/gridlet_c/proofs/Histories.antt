@@ -25,7 +25,7 @@ use Rattle.gl_run.specs.declared.top.Status.TheVariants as status
 use Rattle.gl_run.proofs.Faults.{stays_none}
 use Rattle.gl_run.proofs.Runs.{Emitted-none}
 use Rattle.gl_run.proofs.Headers.{after_header}
-use Rattle.gl_run.proofs.Taking.{Taking, Taking-none, Taking-more}
+use Rattle.gl_run.proofs.Taking.{Taking, Taking-more}
 use Rattle.gl_run.proofs.Ends.{Reading, breaks_off, done_at_quit, stops_in_chunk, too_long, done_at_end, stops_at_end}
 
 -- no room is told

@@ -1,5 +1,5 @@
 -- The history of a session that reads no more, is read out, or is ended.
-use Rattle.std.proofs.Common.{◌≡◌, ◌∙◌, ℕ, ◌+◌, ◌-◌, ◌≤◌, ◌<◌, min, ltb, leb, Bool, true, false, IsTrue, List, [], ◌++◌, length, take, drop, Some, refl, ap, sym, subst, arith, append-nil, append_assoc, length-take, length-drop, take-append-drop}
+use Rattle.std.proofs.Common.{◌≡◌, ◌∙◌, ℕ, ◌+◌, ◌-◌, ◌≤◌, ◌<◌, min, ltb, leb, Bool, true, false, IsTrue, [], ◌++◌, length, take, drop, Some, refl, ap, sym, subst, arith, append-nil, append_assoc, length-take, length-drop}
 use Rattle.std.proofs.lemmas.Bool.Decides.{nat_tests}
 use Rattle.std.proofs.lemmas.List.{drop_all}
 use lib.Seq.{drop-drop}

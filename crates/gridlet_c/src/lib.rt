@@ -1,5 +1,5 @@
-//! The interface for C: the bytes of a script go in, those of its replies come out. It is built as a
-//! static library; `include/gridlet.h` declares it.
+//! The interface for C: the bytes of a script go in, whole or as they come, those of its replies come
+//! out. It is built as a static library; `include/gridlet.h` declares it.
 #![tactic(auto)]
 
 ghost use Rattle.std.specs.Prelude.{◌≡◌, ◌≢◌, ◌↔◌, ◌⊎◌, ◌≤◌, [], take, drop, length, Some};

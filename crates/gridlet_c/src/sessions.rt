@@ -47,6 +47,7 @@ pub extern "C" fn gridlet_open(alloc: Global, order: u32, session: &mut Session)
     ensures usage { (result ≡ 2) ↔ (2 < order) }
     ensures opened { result ≡ 0 → IfOpen session.new.live (λ live. HasHistory live [] []) }
     ensures closed { result ≢ 0 → session.new.live ≡ None }
+    ensures status { (result ≡ 0) ⊎ (result ≡ 2) ⊎ (result ≡ 3) }
 {
     let kind = match order {
         0 => 0,

@@ -1,6 +1,6 @@
 -- `into_parts` moves two fields, and what they own goes with them.
 use mathlib.Core.Path.{◌≡◌, refl, sym, subst}
-use Rattle.std.specs.Prelude.{Option, Some, None}
+use Rattle.std.specs.Prelude.{Option, None}
 use Rattle.gridlet_c.specs.contracts.live.Live as Live
 use Rattle.gridlet_c.specs.contracts.handle.Session as Session
 use Rattle.gridlet_c.proofs.AsBox.{some_of}
@@ -10,7 +10,7 @@ use types.Kit.{rewrite}
 use mathlib.Core.List.{List, [], ◌∷◌, ◌++◌}
 use seplogic.Ra.Ura.{Ura}
 use mir.Val.{Val}
-use base.Logic.{SProp, ent, emp, id⊢}
+use base.Logic.{SProp, ent, id⊢}
 use base.Fml.{ftrue, fsep}
 use prog.Memory.{Memory}
 use prog.Routine.{Routine}

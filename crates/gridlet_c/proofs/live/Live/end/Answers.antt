@@ -1,4 +1,4 @@
-use Rattle.std.proofs.Common.{◌≡◌, refl, sym, subst}
+use Rattle.std.proofs.Common.{refl, sym, subst}
 use Rattle.gl_run.specs.declared.top.Status.TheVariants.{Done, InputLimit}
 use Rattle.gl_run.specs.declared.top.Status.TheVariants as status
 use Rattle.gridlet_c.specs.History.{Holds, EndsBy}

@@ -1,4 +1,4 @@
-use Rattle.std.proofs.Common.{◌≡◌, ◌≤◌, ◌++◌, ℕ, length, take, drop, refl, ap, sym, subst, take-append-drop}
+use Rattle.std.proofs.Common.{◌≡◌, ◌++◌, length, drop, refl, ap, sym, subst, take-append-drop}
 use Rattle.gl_language.specs.Texts.Text.{Bytes}
 use Rattle.gridlet_c.specs.History.{Holds, Counts, HasHistory, waiting_of, fed_by}
 use Rattle.gridlet_c.specs.declared.live.Phase.{Phase}

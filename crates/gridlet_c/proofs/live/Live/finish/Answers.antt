@@ -1,5 +1,5 @@
 use Rattle.std.specs.Prelude.{⊤}
-use Rattle.std.proofs.Common.{arith, ◌≡◌, ◌≤◌, ◌∙◌, ℕ, Bool, true, IsTrue, List, [], ◌++◌, length, drop, Some, refl, sym, subst}
+use Rattle.std.proofs.Common.{◌≡◌, ◌≤◌, Bool, true, IsTrue, [], ◌++◌, length, drop, Some, refl, sym, subst}
 use Rattle.std.specs.Option.{option_to_list}
 use Rattle.gl_language.specs.Texts.Text.{Bytes}
 use Rattle.gl_protocol.specs.Framing.Stream.{closing}

@@ -1,5 +1,5 @@
 use Rattle.std.specs.Prelude.{⊤}
-use Rattle.std.proofs.Common.{arith, ◌≡◌, ◌≤◌, ◌+◌, ◌∙◌, ℕ, true, List, [], ◌++◌, length, drop, Some, ap, sym, subst, length-append}
+use Rattle.std.proofs.Common.{arith, ◌≡◌, ◌≤◌, ◌+◌, ◌∙◌, true, [], ◌++◌, length, drop, Some, ap, sym, subst, length-append}
 use Rattle.gl_calculus.specs.Grid.Limits.{max_script}
 use Rattle.gl_language.specs.Texts.Text.{Bytes}
 use Rattle.gl_protocol.specs.Framing.Stream.{gained}

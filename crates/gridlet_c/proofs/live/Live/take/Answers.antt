@@ -1,6 +1,5 @@
-use Rattle.std.proofs.Common.{arith, ◌≡◌, ◌≤◌, ◌+◌, ◌++◌, ◌∙◌, ℕ, min, length, take, drop, refl, ap, sym, take-append-drop}
+use Rattle.std.proofs.Common.{arith, ◌≡◌, ◌≤◌, ◌+◌, ◌++◌, ◌∙◌, min, length, take, drop, refl, ap, sym, take-append-drop}
 use Rattle.gl_language.specs.Texts.Text.{Bytes}
-use Rattle.gridlet_c.specs.History.{waiting_of}
 use Rattle.gridlet_c.proofs.Phases.{moved, moved_within, holds_more}
 use Rattle.gridlet_c.proofs.live.Live.take.Goals as goal
 
