@@ -44,3 +44,25 @@ returns-in-Some-clause-kept c =
     let Q : Vec ℕ Global → Type 0 = λ reply. Acts csv_records One s (Import l p) s' reply.items in
     let acts = IfOk-weaker c.import_at.result P Q (λ reply a. a One l at_place) c.import_at.ensures.acts in
     kept_by (λ (v : Vec ℕ Global). v.items) One s s' (Import l p) c.import_at.result c.requires.kept acts c.import_at.ensures.err
+
+pub returns-in-Some-clause-acts : goal.returns-in-Some-clause-acts
+returns-in-Some-clause-acts c =
+    let s = script_of c.args.script.now in
+    let s' = script_of c.import_at.new.script in
+    let l = c.args.header.now in
+    let p = c.args.payload.now in
+    let at_place = rw c.in-Some.is at c.place.ensures in
+    let P : Vec ℕ Global → Type 0 = λ reply. (version : Version) (l : Bytes) → HasPlace l (Some c.in-Some.at) → Acts csv_records version s (Import l p) s' reply.items in
+    let Q : Vec ℕ Global → Type 0 = λ reply. (version : Version) → Acts csv_records version s (Import l p) s' reply.items in
+    IfOk-weaker c.import_at.result P Q (λ reply a version. a version l at_place) c.import_at.ensures.acts
+
+pub returns-in-Some-clause-spends : goal.returns-in-Some-clause-spends
+returns-in-Some-clause-spends c =
+    let K = known_of c.args.script.now in
+    let K' = known_of c.import_at.new.script in
+    let l = c.args.header.now in
+    let p = c.args.payload.now in
+    let at_place = rw c.in-Some.is at c.place.ensures in
+    let P : Vec ℕ Global → Type 0 = λ reply. (version : Version) (l : Bytes) (n : ℕ) → HasPlace l (Some c.in-Some.at) → Spends version K (Import l p) reply.items K' n n in
+    let Q : Vec ℕ Global → Type 0 = λ reply. (version : Version) (n : ℕ) → Spends version K (Import l p) reply.items K' n n in
+    IfOk-weaker c.import_at.result P Q (λ reply a version n. a version l n at_place) c.import_at.ensures.spends
