@@ -22,7 +22,7 @@ pub struct Session {
 }
 
 impl Model for Session {
-    ghost also_owns = { λ s. owned s.at s.live };
+    ghost also_owns = { λ s. owned s.alloc s.at s.live };
 }
 
 impl Session {
