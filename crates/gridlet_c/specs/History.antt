@@ -47,8 +47,17 @@ fed_by Limit fed bytes = fed ++ bytes
 fed_by NoMemory fed bytes = fed ++ bytes
 fed_by (Ended status) fed bytes = fed
 
--- A feed of these bytes: where the session does not read on, nothing changes.
+-- the end of the input was told
+abbrev pub is_ended : Phase → Bool
+is_ended Going = false
+is_ended Quit = false
+is_ended Limit = false
+is_ended NoMemory = false
+is_ended (Ended status) = true
+
+-- A feed of these bytes: it ends no session, and where one does not read on, nothing changes.
 pub record Feeds (old new : Live) (bytes : Bytes) : Type 0 where
+  pub unended : is_ended old.phase ≡ false → is_ended new.phase ≡ false
   pub unread : ¬ (old.phase ≡ Going) → new ≡ old
   pub history : (fed given : Bytes) → HasHistory old fed given → HasHistory new (fed_by old.phase fed bytes) given
 

@@ -1,4 +1,4 @@
--- What a handle owns: a box with what lives, or nothing.
+-- What the handle of a session owns: a box with the session, or nothing.
 use base.Fml.{Fml, ftrue}
 use base.Stored.{Coded}
 use denote.RawPtr.{Ptr}

@@ -1,4 +1,4 @@
-//! A box as its pointer, for C.
+//! The handle of a session, as C holds it: a box as its pointer.
 ghost use Rattle.std.specs.Prelude.{◌≡◌, ◌≢◌, Option, Some, None};
 ghost use Rattle.gridlet_c.specs.declared.live.Live.{Live};
 ghost use Rattle.gridlet_c.specs.Owned.{owned, live_coded};
@@ -12,7 +12,7 @@ use std::marker::Model;
 use std::mem::replace;
 use std::ptr::null_mut;
 
-/// Opaque to C.
+/// Closed, or with a session. C sees a struct of one pointer, which is null where it is closed.
 #[repr(C)]
 #[derive(Drop)]
 pub struct Session {
@@ -26,7 +26,7 @@ impl Model for Session {
 }
 
 impl Session {
-    // Nothing lives in it.
+    // There is no session in it.
     fn closed(alloc: Global) -> Session
         ensures { result.live ≡ None }
     {
@@ -57,7 +57,7 @@ impl Session {
         }
     }
 
-    /// Takes out what lives in it.
+    /// Takes the session out, and leaves the handle closed.
     pub fn take(&mut self, alloc: Global) -> Box<Live>
         requires { self.old.live ≢ None }
         ensures taken { Some result.value ≡ self.old.live }
@@ -68,8 +68,9 @@ impl Session {
             .into_box()
     }
 
-    /// Puts it in.
+    /// Puts a session in, where the handle is closed.
     pub fn put(&mut self, live: Box<Live>)
+        requires { self.old.live ≡ None }
         ensures { self.new.live ≡ Some live.value }
     {
         *self = Session::of_parts(Parts::of(live));

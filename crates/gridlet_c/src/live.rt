@@ -1,6 +1,6 @@
 //! A sheet that lives on between calls: bytes go in, in any cuts, and replies wait until they are
 //! taken.
-ghost use Rattle.std.specs.Prelude.{◌≡◌, ◌≢◌, ◌≤◌, ◌+◌, ◌++◌, [], true, min, take, drop, length};
+ghost use Rattle.std.specs.Prelude.{◌≡◌, ◌≢◌, ◌≤◌, ◌+◌, ◌++◌, [], true, false, min, take, drop, length};
 ghost use Rattle.std.specs.Prelude.{IfOk};
 ghost use Rattle.gl_calculus.specs.Grid.Limits.{max_script};
 ghost use Rattle.gridlet_c.specs.{Ready.is_ready};
@@ -34,14 +34,14 @@ pub enum Phase {
 pub struct Live {
     /// The rule by which keys are picked.
     kind: u8,
-    pub(crate) session: Session,
-    pub(crate) steps: Steps<Silent>,
+    session: Session,
+    steps: Steps<Silent>,
     /// The bytes that were read so far, while it reads on.
-    pub(crate) count: usize,
+    count: usize,
     /// Replies, of which the first `at` bytes were taken.
-    pub(crate) replies: Growing,
-    pub(crate) at: usize,
-    pub(crate) phase: Phase,
+    replies: Growing,
+    at: usize,
+    phase: Phase,
     ghost small: { kind ≤ 2 },
     ghost in_limit: { count ≤ 16777216 },
     ghost ready: { is_ready phase session ≡ true },
@@ -49,7 +49,7 @@ pub struct Live {
 
 impl Live {
     ghost use Rattle.gridlet_c.specs.History.{HasHistory, waiting_of, Feeds, Takes};
-    ghost use Rattle.gridlet_c.specs.History.{Reads, Ends, EndsAs, IsAsBefore};
+    ghost use Rattle.gridlet_c.specs.History.{Reads, Ends, EndsAs, IsAsBefore, is_ended};
 
     /// Nothing is fed yet. Keys are picked by the rule of this kind.
     pub fn new(alloc: Global, kind: u8) -> Result<Live, NoMemory>
@@ -102,7 +102,8 @@ impl Live {
     fn read(&mut self, alloc: Global, bytes: &[u8], is_cut: bool)
         requires going { self.old.phase ≡ Phase.Going }
         requires in_limit { self.old.count + length bytes.now ≤ max_script }
-        ensures { Reads self.old self.new bytes.now is_cut }
+        ensures reads { Reads self.old self.new bytes.now is_cut }
+        ensures unended { is_ended self.new.phase ≡ false }
     {
         let before = self.replies.len();
         let order = Order::new(by_kind);

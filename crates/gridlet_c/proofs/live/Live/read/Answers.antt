@@ -1,5 +1,5 @@
 use Rattle.std.specs.Prelude.{⊤}
-use Rattle.std.proofs.Common.{arith, ◌≡◌, ◌≤◌, ◌+◌, ◌∙◌, true, [], ◌++◌, length, drop, Some, ap, sym, subst, length-append}
+use Rattle.std.proofs.Common.{arith, ◌≡◌, ◌≤◌, ◌+◌, ◌∙◌, true, [], ◌++◌, length, drop, Some, ap, sym, subst, length-append, false, refl}
 use Rattle.gl_calculus.specs.Grid.Limits.{max_script}
 use Rattle.gl_language.specs.Texts.Text.{Bytes}
 use Rattle.gl_protocol.specs.Framing.Stream.{gained}
@@ -12,7 +12,7 @@ use Rattle.gl_run.specs.Emitted.{Leaves}
 use Rattle.gl_run.specs.Reads.{can_read}
 use Rattle.gl_run.specs.declared.session.Stop.{Stop}
 use Rattle.gridlet_c.specs.Ready.{is_ready}
-use Rattle.gridlet_c.specs.History.{Holds, Counts}
+use Rattle.gridlet_c.specs.History.{Holds, Counts, is_ended}
 use Rattle.gridlet_c.specs.declared.live.Phase.{Phase}
 use Rattle.gridlet_c.proofs.Histories.{never, headed, headed_after, emitted_behind, part_behind, quits, stops, stops_before, exceeds, goes_on, in_more, truncated}
 use Rattle.gridlet_c.proofs.live.Live.read.Goals as goal
@@ -33,8 +33,8 @@ invariant_of-self-else-is_cut c =
       ready = subst (λ (p : Phase). is_ready p t ≡ true) (sym c.requires.going) reads;
     }
 
-pub returns-in-Ok-true : goal.returns-in-Ok-true
-returns-in-Ok-true c = λ fed given more h counts in_replies uncut cut.
+pub returns-in-Ok-true-clause-reads : goal.returns-in-Ok-true-clause-reads
+returns-in-Ok-true-clause-reads c = λ fed given more h counts in_replies uncut cut.
     let s = c.args.self.now in
     let t = c.take.new.self in
     let bytes = c.args.bytes.now in
@@ -49,8 +49,8 @@ returns-in-Ok-true c = λ fed given more h counts in_replies uncut cut.
       in_replies = in_more a b _ s.at all.written in_replies;
     }
 
-pub returns-then-is_cut : goal.returns-then-is_cut
-returns-then-is_cut c = λ fed given more h counts in_replies uncut cut.
+pub returns-then-is_cut-clause-reads : goal.returns-then-is_cut-clause-reads
+returns-then-is_cut-clause-reads c = λ fed given more h counts in_replies uncut cut.
     let s = c.args.self.now in
     let t = c.take.new.self in
     let bytes = c.args.bytes.now in
@@ -66,8 +66,8 @@ returns-then-is_cut c = λ fed given more h counts in_replies uncut cut.
       in_replies = in_more a b _ s.at all.written in_replies;
     }
 
-pub returns-else-is_cut : goal.returns-else-is_cut
-returns-else-is_cut c = λ fed given more h counts in_replies uncut cut.
+pub returns-else-is_cut-clause-reads : goal.returns-else-is_cut-clause-reads
+returns-else-is_cut-clause-reads c = λ fed given more h counts in_replies uncut cut.
     let s = c.args.self.now in
     let t = c.take.new.self in
     let bytes = c.args.bytes.now in
@@ -87,8 +87,8 @@ returns-else-is_cut c = λ fed given more h counts in_replies uncut cut.
       in_replies = in_more a b _ s.at wrote.written in_replies;
     }
 
-pub returns-in-Err-NoMemory : goal.returns-in-Err-NoMemory
-returns-in-Err-NoMemory c = λ fed given more h counts in_replies uncut cut.
+pub returns-in-Err-NoMemory-clause-reads : goal.returns-in-Err-NoMemory-clause-reads
+returns-in-Err-NoMemory-clause-reads c = λ fed given more h counts in_replies uncut cut.
     let s = c.args.self.now in
     let bytes = c.args.bytes.now in
     let a = s.replies.taken.items in
@@ -104,8 +104,8 @@ returns-in-Err-NoMemory c = λ fed given more h counts in_replies uncut cut.
       in_replies = in_more a b _ s.at part.written in_replies;
     }
 
-pub returns-in-Err-WriteFault : goal.returns-in-Err-WriteFault
-returns-in-Err-WriteFault c = λ fed given more h counts in_replies uncut cut.
+pub returns-in-Err-WriteFault-clause-reads : goal.returns-in-Err-WriteFault-clause-reads
+returns-in-Err-WriteFault-clause-reads c = λ fed given more h counts in_replies uncut cut.
     let s = c.args.self.now in
     let bytes = c.args.bytes.now in
     let a = s.replies.taken.items in
@@ -121,3 +121,6 @@ returns-in-Err-WriteFault c = λ fed given more h counts in_replies uncut cut.
       counts = tt;
       in_replies = subst (λ (q : Bytes). s.at ≤ length q) (sym same) in_replies;
     }
+
+pub returns-else-is_cut-clause-unended : goal.returns-else-is_cut-clause-unended
+returns-else-is_cut-clause-unended c = subst (λ (p : Phase). is_ended p ≡ false) (sym c.requires.going) refl
