@@ -1,21 +1,39 @@
 -- What a sheet's contents keep, so that the values of its formulas are sound.
-use Rattle.std.specs.Prelude.{nat_le, length, Bool, true, false, ◌&&◌, IsTrue}
+use Rattle.std.specs.Prelude.{nat_le, length, ℕ, suc, Bool, true, false, not, ◌&&◌, ◌||◌, IsTrue}
 use Rattle.std.specs.List.{AllByRecursion}
 use Rattle.std.specs.Str.{is_utf8}
-use Rattle.gl_calculus.specs.Grid.Limits.{max_text}
+use Rattle.gl_calculus.specs.Grid.Limits.{max_text, max_arguments}
 use Rattle.gl_calculus.specs.Grid.Grid.{extents}
 use Rattle.gl_calculus.specs.Formulas.Formula.{Formula, Formulas, Operands, Fun, Content, Const}
 use Rattle.gl_calculus.specs.Formulas.Formula.{Form, Cells}
 use Rattle.gl_calculus.specs.Formulas.Formula as F
 use Rattle.gl_calculus.specs.Evaluation.Sound.{is_size, is_sound_scalar}
 
--- a stack is of one array or more; every other function has a sound value of any sound arguments
+-- how many these are
+abbrev pub number_of : Formulas → ℕ
+number_of F.Formulas.no_formula = 0
+number_of (F.Formulas.formula_and f fs) = suc (number_of fs)
+
+-- the functions of any number of arguments
+abbrev pub takes_any : Fun → Bool
+takes_any F.Fun.Sum = true
+takes_any F.Fun.Count = true
+takes_any F.Fun.Min = true
+takes_any F.Fun.Max = true
+takes_any F.Fun.And = true
+takes_any F.Fun.Or = true
+takes_any F.Fun.HStack = true
+takes_any F.Fun.VStack = true
+takes_any f = false
+
+-- of any number of arguments there are at most 16, and a stack is of one array or more
 abbrev pub takes : Fun → Formulas → Bool
 takes F.Fun.HStack F.Formulas.no_formula = false
 takes F.Fun.VStack F.Formulas.no_formula = false
-takes f xs = true
+takes f xs = not (takes_any f) || nat_le (number_of xs) max_arguments
 
--- its texts are UTF-8 and short, its ranges have the extents of arrays, and no stack is empty
+-- its texts are UTF-8 and short, its ranges have the extents of arrays, and its calls have as
+-- many arguments as their functions take
 abbrev mutual
   pub is_fit : Formula → Bool
   is_fit (F.Formula.Int n) = true

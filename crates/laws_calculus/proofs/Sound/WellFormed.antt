@@ -1,10 +1,10 @@
 -- Well formed formulas are fit: their texts are those of tokens, and they have no bad range and no bad call.
-use Rattle.std.proofs.Common.{◌≡◌, ◌*◌, nat_lt, nat_le, Bool, true, false, ◌&&◌, not, IsTrue, [], ◌∷◌, length, Option, Some, None, refl, sym, subst, arith, if◌then◌else◌}
+use Rattle.std.proofs.Common.{◌≡◌, ◌*◌, nat_lt, nat_le, Bool, true, false, ◌&&◌, not, IsTrue, [], ◌∷◌, length, Option, Some, None, refl, sym, subst, ap, suc, ℕ, arith, if◌then◌else◌}
 use Rattle.std.specs.List.{AllByRecursion}
 use Rattle.std.specs.Option.{option_map_or}
 use Rattle.std.specs.Str.{is_utf8}
 use Rattle.std.proofs.lemmas.Bool.{and_parts, and_from, or_parts, not-false, leb-true, le-leb, ltb-false}
-use Rattle.gl_calculus.specs.Grid.Limits.{max_text, max_cells}
+use Rattle.gl_calculus.specs.Grid.Limits.{max_text, max_cells, max_arguments}
 use Rattle.gl_calculus.specs.Grid.Grid.{Addr, range, extents}
 use Rattle.gl_calculus.specs.Values.Value as V
 use Rattle.gl_calculus.specs.Formulas.Formula.{Level, Fun, Formula, Formulas, Content, Const, Form}
@@ -13,9 +13,9 @@ use Rattle.gl_calculus.specs.Evaluation.Sound.{is_size}
 use Rattle.gl_language.specs.Texts.Text.{Bytes}
 use Rattle.gl_language.specs.Reading.Token.{IsToken, Quoted, quoted}
 use Rattle.gl_language.specs.Reading.Grammar as G
-use Rattle.gl_language.specs.Reading.Grammar.{Raw, Raws, no_raw, raw_and, RawOperands, Tokens, chained, applied, IsExpr, alone, compare, IsChain, chain, IsLinks, no_link, link, IsOperand, sum, prod, unary, IsUnary, neg, atom, IsAtom, number, text, truth, address, spill, corners, variable, apply, parens, IsArguments, no_argument, argument, IsMore, close, comma, function_of, is_let, call_of, tree, operand_trees, trees, some_form, some_operand, some_argument, is_bad_range, is_bad_call, has_bad_name, raws, allows, ParseFault}
+use Rattle.gl_language.specs.Reading.Grammar.{Raw, Raws, no_raw, raw_and, RawOperands, Tokens, chained, applied, IsExpr, alone, compare, IsChain, chain, IsLinks, no_link, link, IsOperand, sum, prod, unary, IsUnary, neg, atom, IsAtom, number, text, truth, address, spill, corners, variable, apply, parens, IsArguments, no_argument, argument, IsMore, close, comma, function_of, is_let, call_of, tree, operand_trees, trees, some_form, some_operand, some_argument, is_bad_range, is_bad_call, has_bad_name, raws, between, allows, ParseFault}
 use Rattle.gl_language.specs.Reading.Content.{IsProperContent}
-use Rattle.gl_calculus.specs.Formulas.Fit.{takes, is_fit, are_fit, are_fit_operands, is_fit_content}
+use Rattle.gl_calculus.specs.Formulas.Fit.{number_of, takes, is_fit, are_fit, are_fit_operands, is_fit_content}
 use Rattle.laws_calculus.specs.Sound.{WellFormedIsFit, ProperIsFit}
 use Rattle.laws_calculus.proofs.Sound.Values.{is_size_from}
 
@@ -115,11 +115,27 @@ corners_fit a b h =
 
 -- ---- calls
 
+same_number : (xs : Raws) → number_of (trees xs) ≡ length (raws xs)
+same_number no_raw = refl
+same_number (raw_and x xs) = ap suc (same_number xs)
+
+-- those of a function of any number of arguments
+few : (m : ℕ) (xs : Raws) → between m max_arguments (raws xs) ≡ true → nat_le (number_of (trees xs)) max_arguments ≡ true
+few m xs h =
+    subst (λ n. nat_le n max_arguments ≡ true) (sym (same_number xs))
+    (and_parts (nat_le m (length (raws xs))) (nat_le (length (raws xs)) max_arguments) h).1
+
 takes_from : (f : Fun) (xs : Raws) → allows f (raws xs) ≡ true → IsTrue (takes f (trees xs))
 takes_from F.Fun.HStack no_raw h = absurd (cc h)
-takes_from F.Fun.HStack (raw_and x xs) h = refl
+takes_from F.Fun.HStack (raw_and x xs) h = few 2 (raw_and x xs) h
 takes_from F.Fun.VStack no_raw h = absurd (cc h)
-takes_from F.Fun.VStack (raw_and x xs) h = refl
+takes_from F.Fun.VStack (raw_and x xs) h = few 2 (raw_and x xs) h
+takes_from F.Fun.Sum xs h = few 1 xs h
+takes_from F.Fun.Count xs h = few 1 xs h
+takes_from F.Fun.Min xs h = few 1 xs h
+takes_from F.Fun.Max xs h = few 1 xs h
+takes_from F.Fun.And xs h = few 1 xs h
+takes_from F.Fun.Or xs h = few 1 xs h
 takes_from f xs h = refl
 
 call_fit : (o : Option Fun) (xs : Raws) → option_map_or (λ f. allows f (raws xs)) o false ≡ true → IsTrue (are_fit (trees xs)) → IsTrue (is_fit (call_of o (trees xs)))
