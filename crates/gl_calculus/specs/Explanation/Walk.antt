@@ -83,3 +83,8 @@ module _ {K O A : Type 0} (same : K → K → Bool) (limit : ℕ) (program : K �
   -- the walk from this stack, with no notes, finds this
   abbrev pub IsWalk : List K → Walked K O → Type 0
   IsWalk stack r = (n : ℕ) × (walk n [] stack ≡ Some r)
+
+  -- after some turns the walk from this stack, with no notes, stands at these notes, the last first,
+  -- and this stack, its top first
+  abbrev pub Passes : List K → List (Claim K O) → List K → Type 0
+  Passes from notes stack = (i : ℕ) × ((n : ℕ) → walk (i + n) [] from ≡ walk n notes stack)

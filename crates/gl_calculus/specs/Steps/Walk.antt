@@ -3,10 +3,11 @@ use Rattle.std.specs.Prelude.{ℕ, List, ◌++◌, map}
 use Rattle.gl_calculus.specs.Computation.Lists.{Member}
 use Rattle.gl_calculus.specs.Computation.Demanded.{Demanded}
 use Rattle.gl_calculus.specs.Grid.Grid.{Addr}
-use Rattle.gl_calculus.specs.Evaluation.Key.{Key, Outcome}
+use Rattle.gl_calculus.specs.Grid.Limits.{max_demanded}
+use Rattle.gl_calculus.specs.Evaluation.Key.{Key, Outcome, same_key}
 use Rattle.gl_calculus.specs.Evaluation.World.{World}
 use Rattle.gl_calculus.specs.Evaluation.Evaluation.{program}
-use Rattle.gl_calculus.specs.Explanation.Walk.{Claim, Explained}
+use Rattle.gl_calculus.specs.Explanation.Walk.{Claim, Explained, Passes}
 use Rattle.gl_calculus.specs.Explanation.Certificate.{Answer, Cert, Work, Aborts, key_at, start}
 use Rattle.gl_calculus.specs.Explanation.Certificate.{IsWalked}
 use Rattle.gl_calculus.specs.Steps.Allowance.{Allows, HasReads}
@@ -23,3 +24,15 @@ AllowsWalk W a (Aborts b) n m =
     IsWalked W a (Explained notes loops) × Allows W (IsExplainedKey W notes loops) n m
 AllowsWalk W a Work n m =
     Allows W (Demanded (program W) (start (key_at W.sheet W.oracle a))) n m
+
+-- a key that was on the stack until the walk came to these notes and this stack
+abbrev pub IsStackedKey : List (Claim Key Outcome) → List Key → Key → Type 0
+IsStackedKey notes stack k = Member k (stack ++ map (λ n. n.0) notes)
+
+-- the steps from n to m of the walk from this stack as far as it came, however it ends, as the keys
+-- allow that were on its stack
+abbrev pub AllowsPart : World → List Key → ℕ → ℕ → Type 0
+AllowsPart W from n m =
+    (notes : List (Claim Key Outcome)) × (stack : List Key) ×
+    Passes same_key max_demanded (program W) from notes stack ×
+    Allows W (IsStackedKey notes stack) n m

@@ -6,7 +6,7 @@ use Rattle.std.proofs.lemmas.List.{length-reverse, reverse-append}
 use Rattle.gl_calculus.specs.Computation.Lists.{Member, IsEquality, has_member}
 use Rattle.gl_calculus.specs.Computation.Query.{Query, Found, Ready, Need, found, EachAsked}
 use Rattle.laws_calculus.proofs.Query.Quiet.{seen_member}
-use Rattle.gl_calculus.specs.Explanation.Walk.{Claim, noted, Walked, Explained, Exhausted, turn, walk, IsWalk}
+use Rattle.gl_calculus.specs.Explanation.Walk.{Claim, noted, Walked, Explained, Exhausted, turn, walk, IsWalk, Passes}
 use Rattle.laws_calculus.proofs.Explanation.Walks as Wa
 use Rattle.laws_calculus.proofs.Explanation.Steps.{whole, open_, put_step, note_step}
 
@@ -52,6 +52,18 @@ module _ {K O A : Type 0} (same : K → K → Bool) (same_outcome : O → O → 
   abbrev pub IsWithin : ℕ → ℕ → List (Claim K O) → List K → Type 0
   IsWithin n m ns st = m ≤ n + (whole same eq program (noted same ns) (keys ns) + open_ same eq program (noted same ns) st)
 
+  -- the walk from the root stands there
+  abbrev pub At : List (Claim K O) → List K → Type 0
+  At ns st = Passes same limit program (root ∷ []) ns st
+
+  -- what it finds from there on it finds
+  pub ahead : (ns : List (Claim K O)) (st : List K) → At ns st → (i : ℕ) (r : Walked K O) → walk same limit program i ns st ≡ Some r → IsWalk same limit program (root ∷ []) r
+  ahead ns st (j, p) i r e = (j + i, p i ∙ e)
+
+  -- a turn more
+  further : (ns ms : List (Claim K O)) (st up : List K) → At ns st → ((n : ℕ) → walk same limit program (suc n) ns st ≡ walk same limit program n ms up) → At ms up
+  further ns ms st up (i, p) h = (suc i, λ n. ap (λ x. walk same limit program x [] (root ∷ [])) (let c : suc i + n ≡ i + suc n = omega arith in c) ∙ p (suc n) ∙ h n)
+
   -- the walk from the root has come so far
   pub record IsWalking (n m : ℕ) (done : List (Claim K O)) (up : List K) : Type 0 where
     pub notes : List (Claim K O)
@@ -61,7 +73,7 @@ module _ {K O A : Type 0} (same : K → K → Bool) (same_outcome : O → O → 
     pub holds : Held notes stack
     pub rooted : Began notes stack
     pub room : length notes + length stack ≤ limit
-    pub ahead : (i : ℕ) (r : Walked K O) → walk same limit program i notes stack ≡ Some r → IsWalk same limit program (root ∷ []) r
+    pub passed : At notes stack
     pub within : IsWithin n m notes stack
 
   pub begins : (n : ℕ) → 1 ≤ limit → IsWalking n n [] (root ∷ [])
@@ -73,7 +85,7 @@ module _ {K O A : Type 0} (same : K → K → Bool) (same_outcome : O → O → 
     holds = Wa.begins same same_outcome allowed limit program eq eq_outcome asks root fine;
     rooted = inl (inl refl);
     room = h;
-    ahead = λ i r e. (i, e);
+    passed = (0, λ n. ap (λ x. walk same limit program x [] (root ∷ [])) (let c : 0 + n ≡ n = omega arith in c));
     within = omega arith;
   }
 
@@ -90,7 +102,7 @@ module _ {K O A : Type 0} (same : K → K → Bool) (same_outcome : O → O → 
     pub holds : Held notes (k ∷ rest)
     pub rooted : Began notes (k ∷ rest)
     pub room : length notes + suc (length rest) ≤ limit
-    pub ahead : (i : ℕ) (r : Walked K O) → walk same limit program i notes (k ∷ rest) ≡ Some r → IsWalk same limit program (root ∷ []) r
+    pub passed : At notes (k ∷ rest)
     pub within : IsWithin n m notes (k ∷ rest)
     pub table : noted same done ≡ noted same notes
 
@@ -105,7 +117,7 @@ module _ {K O A : Type 0} (same : K → K → Bool) (same_outcome : O → O → 
         holds = subst (Held w.notes) d w.holds;
         rooted = subst (Began w.notes) d w.rooted;
         room = subst (λ t. length w.notes + length t ≤ limit) d w.room;
-        ahead = subst (λ t. (i : ℕ) (r : Walked K O) → walk same limit program i w.notes t ≡ Some r → IsWalk same limit program (root ∷ []) r) d w.ahead;
+        passed = subst (At w.notes) d w.passed;
         within = subst (IsWithin n m w.notes) d w.within;
         table = same_notes n m done (us ++ k ∷ []) w;
       }
@@ -157,7 +169,7 @@ module _ {K O A : Type 0} (same : K → K → Bool) (same_outcome : O → O → 
     holds = Wa.noted_holds same same_outcome allowed limit program eq eq_outcome asks root fine t.notes k t.rest o t.holds g;
     rooted = still t.notes k o t.rest free t.rooted;
     room = omega (arith, t.room);
-    ahead = λ i r e. t.ahead (suc i) r (turned_by t.notes k t.rest (Ready o) i r g e);
+    passed = further t.notes ((k, o) ∷ t.notes) (k ∷ t.rest) t.rest t.passed (λ i. ap (turn same limit program (walk same limit program i) t.notes k t.rest) g);
     within = omega (arith, h, t.within, note_step same eq program (noted same t.notes) (noted same ((k, o) ∷ t.notes)) (grows t.notes k o free) (keys t.notes) k t.rest o itself (waits_for t.notes k t.rest t.holds));
   }
     where
@@ -212,7 +224,7 @@ module _ {K O A : Type 0} (same : K → K → Bool) (same_outcome : O → O → 
     holds = Wa.put_holds same same_outcome allowed limit program eq eq_outcome asks root fine t.notes k j t.rest t.holds g off;
     rooted = deeper t.rooted;
     room = omega (arith, t.room, few);
-    ahead = λ i r e. t.ahead (suc i) r (turned_by t.notes k t.rest (Need j) i r g (goes i r e));
+    passed = further t.notes t.notes (k ∷ t.rest) (j ∷ k ∷ t.rest) t.passed (λ i. ap (turn same limit program (walk same limit program i) t.notes k t.rest) g ∙ goes i);
     within = omega (arith, h, t.within, put_step same eq program (noted same t.notes) (keys t.notes) k j t.rest);
   }
     where
@@ -234,10 +246,10 @@ module _ {K O A : Type 0} (same : K → K → Bool) (same_outcome : O → O → 
       test : (length t.notes + length (k ∷ t.rest) == limit) ≡ false
       test = ne_eqb (length t.notes + length (k ∷ t.rest)) limit few
 
-      goes : (i : ℕ) (r : Walked K O) → walk same limit program i t.notes (j ∷ k ∷ t.rest) ≡ Some r → turn same limit program (walk same limit program i) t.notes k t.rest (Need j) ≡ Some r
-      goes i r e =
+      goes : (i : ℕ) → turn same limit program (walk same limit program i) t.notes k t.rest (Need j) ≡ walk same limit program i t.notes (j ∷ k ∷ t.rest)
+      goes i =
           ap (λ q. cond q (Some (Explained (reverse t.notes) (reverse (k ∷ t.rest)))) (cond (length t.notes + length (k ∷ t.rest) == limit) (Some Exhausted) (walk same limit program i t.notes (j ∷ k ∷ t.rest)))) off
-          ∙ ap (λ q. cond q (Some Exhausted) (walk same limit program i t.notes (j ∷ k ∷ t.rest))) test ∙ e
+          ∙ ap (λ q. cond q (Some Exhausted) (walk same limit program i t.notes (j ∷ k ∷ t.rest))) test
 
       deeper : Began t.notes (k ∷ t.rest) → Began t.notes (j ∷ k ∷ t.rest)
       deeper (inl m) = inl (inr m)
@@ -252,8 +264,7 @@ module _ {K O A : Type 0} (same : K → K → Bool) (same_outcome : O → O → 
   pub emptied : (n m : ℕ) (done : List (Claim K O)) → IsWalking n m done [] → Ends (Explained done [])
   emptied n m done w =
       let d : w.stack ≡ [] = none_turned w.stack w.stacked in
-      let e = subst (λ t. (i : ℕ) (r : Walked K O) → walk same limit program i w.notes t ≡ Some r → Ends r) d w.ahead in
-      subst (λ t. Ends (Explained t [])) (sym w.order) (e 1 (Explained (reverse w.notes) []) refl)
+      subst (λ t. Ends (Explained t [])) (sym w.order) (ahead w.notes [] (subst (At w.notes) d w.passed) 1 (Explained (reverse w.notes) []) refl)
 
   -- or in a circle
   pub circled : (n m : ℕ) (done : List (Claim K O)) (us : List K) (k j : K) → IsWalking n m done (us ++ k ∷ []) → found (noted same done) (program k) ≡ Need j → has_member same j (us ++ k ∷ []) ≡ true → Ends (Explained done (us ++ k ∷ []))
@@ -263,7 +274,7 @@ module _ {K O A : Type 0} (same : K → K → Bool) (same_outcome : O → O → 
       let g = seen_over done t.notes k (Need j) t.table f in
       let on : has_member same j (k ∷ t.rest) ≡ true = sym (on_stack (k ∷ t.rest) j) ∙ ap (has_member same j) (sym up) ∙ b in
       let r = Explained (reverse t.notes) (reverse (k ∷ t.rest)) in
-      let e = t.ahead 1 r (turned_by t.notes k t.rest (Need j) 0 r g (ap (λ q. cond q (Some r) (cond (length t.notes + length (k ∷ t.rest) == limit) (Some Exhausted) None)) on)) in
+      let e = ahead t.notes (k ∷ t.rest) t.passed 1 r (turned_by t.notes k t.rest (Need j) 0 r g (ap (λ q. cond q (Some r) (cond (length t.notes + length (k ∷ t.rest) == limit) (Some Exhausted) None)) on)) in
       subst (λ x. Ends (Explained x (us ++ k ∷ []))) (sym t.order) (subst (λ x. Ends (Explained (reverse t.notes) x)) (sym up) e)
 
   -- or at the limit
@@ -277,4 +288,4 @@ module _ {K O A : Type 0} (same : K → K → Bool) (same_outcome : O → O → 
       let full : length t.notes + length (k ∷ t.rest) ≡ limit = sym (counted done t.notes us t.rest k t.order t.below) ∙ c in
       let test : (length t.notes + length (k ∷ t.rest) == limit) ≡ true = eq-eqb (length t.notes + length (k ∷ t.rest)) limit full in
       let r = Explained (reverse t.notes) (reverse (k ∷ t.rest)) in
-      t.ahead 1 Exhausted (turned_by t.notes k t.rest (Need j) 0 Exhausted g (ap (λ q. cond q (Some r) (cond (length t.notes + length (k ∷ t.rest) == limit) (Some Exhausted) None)) off ∙ ap (λ q. cond q (Some Exhausted) None) test))
+      ahead t.notes (k ∷ t.rest) t.passed 1 Exhausted (turned_by t.notes k t.rest (Need j) 0 Exhausted g (ap (λ q. cond q (Some r) (cond (length t.notes + length (k ∷ t.rest) == limit) (Some Exhausted) None)) off ∙ ap (λ q. cond q (Some Exhausted) None) test))

@@ -9,11 +9,11 @@ use Rattle.gl_calculus.specs.Steps.Counted.{Counted, counted_keys, AreReads, sum
 use Rattle.laws_calculus.proofs.Query.Levels.{Has-path}
 use Rattle.laws_calculus.proofs.Query.Looping.{true_path}
 use Rattle.laws_calculus.proofs.Query.Quiet.{end_at}
-use Rattle.gl_calculus.specs.Explanation.Walk.{Claim, noted, first_stray, first_free}
+use Rattle.gl_calculus.specs.Explanation.Walk.{Claim, noted, first_stray, first_free, Passes}
 use Rattle.laws_calculus.proofs.Explanation.Claims.{both, all_true, true_notes, free_none, needs_member, all_loop}
 use Rattle.laws_calculus.proofs.Explanation.Walks as Wa
 use Rattle.laws_calculus.proofs.Explanation.Going as Go
-use Rattle.laws_calculus.proofs.Explanation.Steps.{whole, last_step, whole_within}
+use Rattle.laws_calculus.proofs.Explanation.Steps.{whole, last_step, open_within, whole_within}
 
 module _ {K O A : Type 0} (same : K → K → Bool) (eq : IsEquality same) (program : K → Query K O A O) where
   -- a key with an outcome has reads, and so has one that lacks a key that loops
@@ -155,3 +155,35 @@ module _ {K O A : Type 0} (same : K → K → Bool) (same_outcome : O → O → 
   exhausted_spent n m l done us k w h =
       let t = Go.has_top same same_outcome allowed limit program eq eq_outcome asks root fine n m done us k w in
       topped_spent n m l done us k t h (Demanded program (root ∷ [])) t.holds.demanded
+
+  -- ---- as far as it came
+
+  -- a key that was on the stack
+  abbrev Stacked : List (Claim K O) → List K → K → Type 0
+  Stacked notes stack k = Member k (stack ++ named notes)
+
+  -- the steps as the keys allow that were on the stack of the walk after some of its turns
+  abbrev pub AllowsSoFar : ℕ → ℕ → Type 0
+  AllowsSoFar n m = (notes : List (Claim K O)) × (stack : List K) × Passes same limit program (root ∷ []) notes stack × AllowsBy (Stacked notes stack) n m
+
+  as_stacked : (notes : List (Claim K O)) (st : List K) (k : K) → Member k (st ++ Go.keys same same_outcome allowed limit program eq eq_outcome asks root fine notes) → Stacked notes st k
+  as_stacked notes st k m = subst (λ ns. Member k (st ++ ns)) (sym (named_keys notes)) m
+
+  -- without a turn more
+  pub so_far_spent : (n m : ℕ) (done : List (Claim K O)) (up : List K) → Walking n m done up → AllowsSoFar n m
+  so_far_spent n m done up w =
+      let ks = Go.keys same same_outcome allowed limit program eq eq_outcome asks root fine w.notes in
+      let true_table = Wa.good_true same same_outcome allowed limit program eq eq_outcome asks root fine w.notes w.holds.good in
+      (w.notes, w.stack, w.passed, (
+        w.stack ++ ks,
+        w.holds.distinct,
+        omega (arith, w.room, length-append w.stack ks, key_count w.notes),
+        as_stacked w.notes w.stack,
+        λ cs e a. omega (arith, w.within, open_within same eq program (noted same w.notes) w.stack, whole_both same eq program (noted same w.notes) w.stack ks, whole_within same eq program (noted same w.notes) true_table (w.stack ++ ks) cs e a),
+      ))
+
+  -- and after one that took a step at most
+  pub turned_spent : (n m l : ℕ) (done : List (Claim K O)) (us : List K) (k : K) → Walking n m done (us ++ k ∷ []) → l ≤ m + 1 → AllowsSoFar n l
+  turned_spent n m l done us k w h =
+      let t = Go.has_top same same_outcome allowed limit program eq eq_outcome asks root fine n m done us k w in
+      (t.notes, k ∷ t.rest, t.passed, topped_spent n m l done us k t h (Stacked t.notes (k ∷ t.rest)) (as_stacked t.notes (k ∷ t.rest)))

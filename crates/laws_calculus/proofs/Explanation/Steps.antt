@@ -38,6 +38,10 @@ module _ {K O A : Type 0} (same : K → K → Bool) (eq : IsEquality same) (prog
   pub last_step : (f : K → Option O) (done : List K) (k : K) (rest : List K) → whole f done + open_ f (k ∷ rest) + 1 ≤ whole f done + whole f (k ∷ rest)
   last_step f done k rest = omega arith
 
+  pub open_within : (f : K → Option O) (ks : List K) → open_ f ks ≤ whole f ks
+  open_within f [] = omega arith
+  open_within f (k ∷ ks) = omega arith
+
   -- and this is at most 1 and the number of reads of each, by any list of their true reads
   pub whole_within : (f : K → Option O) → IsTrueTable program f → (ks : List K) (cs : List (Counted K)) → counted_keys cs ≡ ks → AreReads same program cs → whole f ks ≤ sum_reads cs
   whole_within f t [] cs e r = omega arith
