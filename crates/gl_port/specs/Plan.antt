@@ -1,23 +1,11 @@
 -- What a read and a write do, where it is known beforehand which of them fail.
-use Rattle.std.specs.Prelude.{◌≡◌, ℕ, ◌-◌, ◌≤◌, ◌==◌, Bool, ◌||◌, IsTrue, IsFalse, Option, Some, IfSome, Result, MatchResult}
-use Rattle.gl_protocol.specs.Run.Plans.{Plan, is_listed, behind}
+use Rattle.std.specs.Prelude.{◌≡◌, ℕ, ◌≤◌, IsTrue, IsFalse, Option, Some, IfSome, Result, MatchResult}
+use Rattle.gl_protocol.specs.Run.Plans.{Plan, is_listed, behind, WritePlan, must_fail, behind_write}
 
 -- a read fails exactly where it is listed, and gives at most `step` bytes
 abbrev pub ReadsBy : {E : Type 0} → Option Plan → Option Plan → Result ℕ E → Type 0
 ReadsBy old new result = IfSome old (λ p.
     (new ≡ Some (behind p)) × MatchResult result (λ n. IsFalse (is_listed p) × (n ≤ p.step)) (λ _. IsTrue (is_listed p)))
-
--- a plan of writes, and the bytes that still find room
-pub record WritePlan : Type 0 where
-  pub calls : Plan
-  pub room : ℕ
-
-abbrev pub must_fail : WritePlan → Bool
-must_fail p = is_listed p.calls || p.room == 0
-
--- the plan behind a write of so many bytes
-abbrev pub behind_write : WritePlan → ℕ → WritePlan
-behind_write p n = record { calls = behind p.calls; room = p.room - n }
 
 -- a write fails exactly where it is listed or no room is left, and takes at most `step` bytes, and what has room
 abbrev pub WritesBy : {E : Type 0} → Option WritePlan → Option WritePlan → Result ℕ E → Type 0

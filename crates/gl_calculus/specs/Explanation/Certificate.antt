@@ -143,8 +143,7 @@ start (Some k) = k ∷ []
 module _ (W : World) (a : Addr) where
   -- the walk from the key that decides finds this
   abbrev pub IsWalked : Walked Key Outcome → Type 0
-  IsWalked r =
-      IsWalk same_key max_demanded (program W) (start (key_at W.sheet W.oracle a)) r
+  IsWalked r = IsWalk same_key max_demanded (program W) (start (key_at W.sheet W.oracle a)) r
 
   -- how the walk explains the address
   pub data Explains : Answer → Type 0 where

@@ -34,8 +34,7 @@ module _ {K O A : Type 0} (same : K → K → Bool) (same_outcome : O → O → 
   -- the claim is of an allowed key without claim before it, and one level over the claims before
   -- it comes to its outcome
   abbrev pub follows : List (Claim K O) → Claim K O → Bool
-  follows before n =
-      cond (allowed n.0) (cond (is_unnoted (noted same before n.0))
+  follows before n = cond (allowed n.0) (cond (is_unnoted (noted same before n.0))
       (comes_to same_outcome n.1 (found (noted same before) (program n.0))) false) false
 
   -- the number of the first claim that doesn't follow from those before it, of which the last
@@ -83,8 +82,3 @@ module _ {K O A : Type 0} (same : K → K → Bool) (limit : ℕ) (program : K �
   -- the walk from this stack, with no notes, finds this
   abbrev pub IsWalk : List K → Walked K O → Type 0
   IsWalk stack r = (n : ℕ) × (walk n [] stack ≡ Some r)
-
-  -- after some turns the walk from this stack, with no notes, stands at these notes, the last first,
-  -- and this stack, its top first
-  abbrev pub Passes : List K → List (Claim K O) → List K → Type 0
-  Passes from notes stack = (i : ℕ) × ((n : ℕ) → walk (i + n) [] from ≡ walk n notes stack)

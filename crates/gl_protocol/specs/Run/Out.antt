@@ -38,8 +38,7 @@ WroteSome old new is = (f : Front is) × Appends old new (concat f.replies)
 
 -- a proper prefix of the bytes of the replies to some first items was written
 abbrev pub WroteCut : Option Bytes → Option Bytes → List Item → Type 0
-WroteCut old new is =
-    (f : Front is) × (n : ℕ) × (n < length (concat f.replies))
+WroteCut old new is = (f : Front is) × (n : ℕ) × (n < length (concat f.replies))
     × Appends old new (take n (concat f.replies))
 
 -- The replies to some first items have more than n bytes. So have those to all then, if there are

@@ -23,8 +23,7 @@ use Rattle.gl_protocol.specs.Run.Touched.{touched_by}
 -- Behind an item with this reply the tables stay, and these addresses are touched; none where it is
 -- refused.
 abbrev pub Touches : Bytes → List Addr → Known → Known → Type 0
-Touches reply places K K' =
-    (K'.tables ≡ K.tables) × (K'.version ≡ K.version) ×
+Touches reply places K K' = (K'.tables ≡ K.tables) × (K'.version ≡ K.version) ×
     (K'.touched ≡ K.touched ++ (if is_refusal reply then [] else places))
 
 -- Behind a calculation, whose steps go from n to m, the tables are those of its rounds, and nothing

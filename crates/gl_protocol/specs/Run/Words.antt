@@ -18,8 +18,7 @@ abbrev pub kind_of : Bytes → Option ℕ
 kind_of w = lookup (bytes_eq w) ((codes "first", 0) ∷ (codes "last", 1) ∷ (codes "turn", 2) ∷ [])
 
 abbrev pub size_of : Bytes → Option ℕ
-size_of w =
-    if is_number w && nat_lt 0 (digits_value w) && nat_le (digits_value w) max_generated
+size_of w = if is_number w && nat_lt 0 (digits_value w) && nat_le (digits_value w) max_generated
     then Some (digits_value w) else None
 
 abbrev pub order_pair : Bytes → Bytes → Call → Option Call

@@ -6,7 +6,8 @@ use Rattle.std.proofs.lemmas.List.{length-reverse, reverse-append}
 use Rattle.gl_calculus.specs.Computation.Lists.{Member, IsEquality, has_member}
 use Rattle.gl_calculus.specs.Computation.Query.{Query, Found, Ready, Need, found, EachAsked}
 use Rattle.laws_calculus.proofs.Query.Quiet.{seen_member}
-use Rattle.gl_calculus.specs.Explanation.Walk.{Claim, noted, Walked, Explained, Exhausted, turn, walk, IsWalk, Passes}
+use Rattle.gl_calculus.specs.Steps.Walk.{Passes}
+use Rattle.gl_calculus.specs.Explanation.Walk.{Claim, noted, Walked, Explained, Exhausted, turn, walk, IsWalk}
 use Rattle.laws_calculus.proofs.Explanation.Walks as Wa
 use Rattle.laws_calculus.proofs.Explanation.Steps.{whole, open_, put_step, note_step}
 

@@ -9,7 +9,8 @@ use Rattle.gl_calculus.specs.Steps.Counted.{Counted, counted_keys, AreReads, sum
 use Rattle.laws_calculus.proofs.Query.Levels.{Has-path}
 use Rattle.laws_calculus.proofs.Query.Looping.{true_path}
 use Rattle.laws_calculus.proofs.Query.Quiet.{end_at}
-use Rattle.gl_calculus.specs.Explanation.Walk.{Claim, noted, first_stray, first_free, Passes}
+use Rattle.gl_calculus.specs.Steps.Walk.{Passes}
+use Rattle.gl_calculus.specs.Explanation.Walk.{Claim, noted, first_stray, first_free}
 use Rattle.laws_calculus.proofs.Explanation.Claims.{both, all_true, true_notes, free_none, needs_member, all_loop}
 use Rattle.laws_calculus.proofs.Explanation.Walks as Wa
 use Rattle.laws_calculus.proofs.Explanation.Going as Go
