@@ -65,7 +65,7 @@ fn make_cell(
 {
     match e {
         Env::Top => Ok(Short::Top(a)),
-        Env::In(_, _) => match interner.frame(e, parent) {
+        Env::In(_, _) => match interner.frame_near(e, parent) {
             Ok(n) => Ok(Short::In(n, a)),
             Err(e) => Err(e),
         },
@@ -84,7 +84,7 @@ pub fn short_form(
 {
     match key {
         Key::Cell(e, a) => make_cell(interner, e, *a, parent),
-        Key::Settle(s) => match interner.sheet(s, parent) {
+        Key::Settle(s) => match interner.sheet_near(s, parent) {
             Ok(n) => Ok(Short::Settle(n)),
             Err(e) => Err(e),
         },

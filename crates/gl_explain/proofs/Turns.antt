@@ -14,7 +14,7 @@ use Rattle.gl_explain.proofs.Tops.{more_sound}
 use Rattle.laws_calculus.proofs.Calculus.OutcomeTests.{outcome_equality}
 use Rattle.laws_calculus.proofs.Calculus.Proper.{asks_proper}
 use Rattle.gl_calculus.proofs.Tests.{key_equality}
-use Rattle.gl_calculus.specs.Explanation.Walk.{Claim, noted, Explained, IsWalk}
+use Rattle.gl_calculus.specs.Explanation.Walk.{Claim, noted, Explained, walk, IsWalk}
 use Rattle.gl_calculus.specs.Explanation.Certificate.{is_proper}
 use Rattle.laws_calculus.proofs.Explanation.Explaining.{asks_test}
 use Rattle.laws_calculus.proofs.Explanation.Judging.{test_proper}
@@ -22,8 +22,10 @@ use Rattle.laws_calculus.proofs.Explanation.Going as Go
 use Rattle.laws_calculus.proofs.Explanation.Spending as Sp
 use Rattle.laws_calculus.proofs.Explanation.Walks as Wa
 use Rattle.gl_demand.specs.Marks.{PlainMark}
+use Rattle.laws_calculus.proofs.Calculus.Allowances.{no_steps}
 use Rattle.gl_calculus.specs.Steps.Counted.{Counted, counted_keys, AreReads, sum_reads}
 use Rattle.gl_calculus.specs.Steps.Allowance.{Allows}
+use Rattle.gl_calculus.specs.Steps.Walk.{Passes, IsStackedKey, AllowsPart}
 use Rattle.gl_explain.specs.Walking.{IsWalking, HasEnded, IsTurned, left}
 use Rattle.gl_explain.specs.Putting.{IsTakenOff, IsPutOn, there, full, on}
 use Rattle.gl_explain.specs.declared.turning.Turned.{Turned}
@@ -39,6 +41,24 @@ module _ (W : World) (root : Key) where
       ((cs : List (Counted Key)) → counted_keys cs ≡ ks → AreReads same_key (program W) cs → m ≤ n + sum_reads cs) →
       n ≤ m → Allows W kind n m
   allowed (ks, d, few, each, most) h = record { keys = ks; distinct = d; few = few; each = each; most = most; later = h }
+
+  -- the walk as far as it came
+  as_part : {n m : ℕ} →
+      (notes : List (Claim Key Outcome)) × (stack : List Key) × Passes same_key max_demanded (program W) (root ∷ []) notes stack ×
+      ((ks : List Key) × AreDistinct ks × (length ks ≤ max_demanded) × ((k : Key) → Member k ks → IsStackedKey notes stack k) ×
+      ((cs : List (Counted Key)) → counted_keys cs ≡ ks → AreReads same_key (program W) cs → m ≤ n + sum_reads cs)) →
+      n ≤ m → AllowsPart W (root ∷ []) n m
+  as_part (notes, stack, p, a) h = (notes, stack, p, allowed a h)
+
+  pub so_far_part : (n m : ℕ) (done : List (Claim Key Outcome)) (up : List Key) → Walking n m done up → AllowsPart W (root ∷ []) n m
+  so_far_part n m done up h =
+      as_part (Sp.so_far_spent same_key same_outcome (is_proper W.sheet) max_demanded (program W) key_equality outcome_equality (λ k. asks_test W.sheet (asks_proper W.sheet W.oracle W.version k)) root h.fine n m done up h.so_far) h.later
+
+  -- and after a turn more
+  pub turned_part : (n m l : ℕ) (done : List (Claim Key Outcome)) (up us : List Key) (k : Key) → Walking n m done up → up ≡ us ++ k ∷ [] → (m ≤ l) × (l ≤ m + 1) → AllowsPart W (root ∷ []) n l
+  turned_part n m l done up us k h e b =
+      let g = subst (Walking n m done) e h in
+      as_part (Sp.turned_spent same_key same_outcome (is_proper W.sheet) max_demanded (program W) key_equality outcome_equality (λ k. asks_test W.sheet (asks_proper W.sheet W.oracle W.version k)) root g.fine n m l done us k g.so_far b.1) (omega (arith, g.later, b.0))
 
   pub begin_walk : (n : ℕ) → is_proper W.sheet root ≡ true → Walking n n [] (root ∷ [])
   begin_walk n f = record { fine = f; so_far = Go.begins same_key same_outcome (is_proper W.sheet) max_demanded (program W) key_equality outcome_equality (λ k. asks_test W.sheet (asks_proper W.sheet W.oracle W.version k)) root f n (omega arith); later = omega arith }
@@ -111,3 +131,7 @@ pub put_sound : (done : List (Claim Key Outcome)) (up vs : List Key) (j : Key) (
 put_sound done up _ j a ms _ _ (there i) h s = h
 put_sound done up _ j a ms _ _ (full i c) h s = h
 put_sound done up _ j a ms _ _ (on i c) h s = more_sound up j h s
+
+-- a walk without a turn
+pub no_part : (W : World) (from : List Key) (n : ℕ) → AllowsPart W from n n
+no_part W from n = ([], from, (0, λ i. ap (λ x. walk same_key max_demanded (program W) x [] from) (let c : 0 + i ≡ i = omega arith in c)), no_steps W (IsStackedKey [] from) n)

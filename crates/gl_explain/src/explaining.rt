@@ -5,14 +5,14 @@ ghost use Rattle.std.specs.Prelude.{◌≡◌, ◌≤◌, ℕ, Some, None, map, 
 ghost use Rattle.gl_calculus.specs.Calculation.Calculation.{IsAnswer};
 ghost use Rattle.gl_calculus.specs.Calculation.Calculation as C;
 ghost use Rattle.gl_calculus.specs.Formulas.Formula as F;
-ghost use Rattle.gl_calculus.specs.Explanation.Certificate.{Explains, verdict, key_at};
+ghost use Rattle.gl_calculus.specs.Explanation.Certificate.{Explains, verdict, key_at, start};
 ghost use Rattle.gl_calculus.specs.Explanation.Certificate as E;
 ghost use Rattle.gl_ast.specs.View.{version_tree};
 ghost use Rattle.gl_cells.specs.Sheet.{sheet};
 ghost use Rattle.gl_demand.specs.{Sound.AreSoundKeys, View.key_tree};
 ghost use Rattle.gl_cert.specs.Notes.{claims};
 ghost use Rattle.gl_explain.specs.{View.explained_tree, Walked.IsExplained};
-ghost use Rattle.gl_calculus.specs.Steps.Walk.{AllowsWalk};
+ghost use Rattle.gl_calculus.specs.Steps.Walk.{AllowsWalk, AllowsPart};
 ghost use Rattle.gl_explain.specs.{Walking.HasEnded};
 
 use crate::Explained;
@@ -70,6 +70,10 @@ fn decided<L: Watch>(
     ensures explained { IfOk result (λ x.
         IsExplained (world_of evaluator.now) a steps.old steps.new (explained_tree x)) }
     ensures later { steps.old ≤ steps.new }
+    ensures part { AllowsPart (world_of evaluator.now)
+        (start (key_at (sheet evaluator.now.cells.now) evaluator.now.oracle.now a))
+        steps.old
+        steps.new }
 {
     match walk(evaluator, root, steps) {
         Ok(Walked::Ended(notes, loops)) => ended(evaluator, a, root, notes, loops),
@@ -106,6 +110,10 @@ fn explained<L: Watch>(
     ensures explained { IfOk result (λ x.
         IsExplained (world_of evaluator.now) a steps.old steps.new (explained_tree x)) }
     ensures later { steps.old ≤ steps.new }
+    ensures part { AllowsPart (world_of evaluator.now)
+        (start (key_at (sheet evaluator.now.cells.now) evaluator.now.oracle.now a))
+        steps.old
+        steps.new }
 {
     match key_at(evaluator.cells, evaluator.oracle, a) {
         Some(root) => decided(evaluator, a, &root, steps),
@@ -119,7 +127,8 @@ fn explained<L: Watch>(
 /// either notes it or puts on the first key that it lacks. It ends where nothing is left, or where
 /// what is lacked is on the stack: the stack is then the loops. `Work` comes where more than
 /// `MAX_DEMANDED` keys would be put on, and `Aborts` where the key that decides spends a budget; in a
-/// settled calculation neither comes. `check` accepts each certificate.
+/// settled calculation neither comes. `check` accepts each certificate. However it ends, also after
+/// `NoMemory`, it takes at most 1 and the number of its reads for each key that was on the stack.
 pub fn certificate<L: Watch>(
     alloc: Global,
     cells: &Cells,
@@ -142,6 +151,10 @@ pub fn certificate<L: Watch>(
         AllowsWalk (world (version_tree version) (sheet cells.now) w.now) a (explained_tree x)
         steps.old
         steps.new) }
+    ensures part { AllowsPart (world (version_tree version) (sheet cells.now) w.now)
+        (start (key_at (sheet cells.now) w.now a))
+        steps.old
+        steps.new }
     ensures later { steps.old ≤ steps.new }
 {
     // For its clause that the sheet is in order.

@@ -7,6 +7,7 @@ ghost use Rattle.gl_calculus.specs.Evaluation.Key.{same_key};
 ghost use Rattle.gl_calculus.specs.Evaluation.Sound.{is_sound_key};
 ghost use Rattle.gl_calculus.specs.Evaluation.Key as K;
 ghost use Rattle.gl_calculus.specs.Explanation.Walk.{noted};
+ghost use Rattle.gl_calculus.specs.Steps.Walk.{AllowsPart};
 ghost use Rattle.gl_demand.specs.{Sound.AreSoundKeys, Sound.IsSoundFound, View.key_tree};
 ghost use Rattle.gl_demand.specs.{View.outcome_tree, Marks.mark_tree, Marks.mark_trees};
 ghost use Rattle.gl_cert.specs.Notes.{claims};
@@ -124,6 +125,10 @@ pub fn turn<L: Watch>(
         → AreMarks (world_of evaluator.now)
         (claims notes.new) (map key_tree stack.new.keys) (mark_trees marks.new.items)) }
     ensures later { steps.old ≤ steps.new }
+    ensures part { (root : K.Key) (n : ℕ)
+        → IsWalking (world_of evaluator.now) root n steps.old (claims notes.old) (map key_tree
+        stack.old.keys)
+        → AllowsPart (world_of evaluator.now) (root ∷ []) n steps.new }
 {
     match top(stack) {
         Some(key) => {

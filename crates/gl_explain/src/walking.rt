@@ -6,6 +6,7 @@ ghost use Rattle.gl_calculus.specs.Explanation.Certificate.{is_proper};
 ghost use Rattle.gl_cells.specs.Sheet.{sheet};
 ghost use Rattle.gl_demand.specs.{View.key_tree, Marks.mark_trees};
 ghost use Rattle.gl_machine.specs.Ahead.Reading.{Nothing};
+ghost use Rattle.gl_calculus.specs.Steps.Walk.{AllowsPart};
 ghost use Rattle.gl_explain.specs.Walked.{IsFound};
 
 use crate::turning::{Turned, turn};
@@ -57,6 +58,9 @@ pub fn walk<L: Watch>(
     ensures found { IfOk result (λ x.
         IsFound (world_of evaluator.now) (key_tree root.now) steps.old steps.new x) }
     ensures later { steps.old ≤ steps.new }
+    ensures part { AllowsPart (world_of evaluator.now) (key_tree root.now ∷ [])
+        steps.old
+        steps.new }
 {
     let mut stack = stack_of(evaluator.alloc, root)?;
     let mut marks = marks_of(evaluator.alloc)?;

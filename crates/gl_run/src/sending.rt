@@ -1,5 +1,6 @@
 //! Replies that are collected, and then written together.
-ghost use Rattle.std.specs.Prelude.{◌≡◌, ◌++◌, OnOk, OnErr};
+ghost use Rattle.std.specs.Prelude.{◌≡◌, ◌++◌, OnOk, OnErr, MatchResult};
+ghost use Rattle.gl_run.specs.Planned.{NoneFailed, LastFailed, SendsByPlan};
 ghost use Rattle.gl_run.specs.Sending.{Sends, Passes};
 
 use crate::session::Stop;
@@ -26,9 +27,10 @@ pub fn collect(out: &mut Vec<u8>, reply: Vec<u8>) -> Result<(), NoMemory>
 
 /// Writes what is collected, and answers what is given; where the write fails, that.
 pub fn send<K: Sink, T: Copy>(sink: &mut K, out: &[u8], given: Result<T, Stop>) -> Result<T, Stop>
-    ensures { Sends (K.taken sink.old) (K.taken sink.new) (K.takes sink.old) (K.takes sink.new)
+    ensures sent { Sends (K.taken sink.old) (K.taken sink.new) (K.takes sink.old) (K.takes sink.new)
         (K.is_exact sink.old) (K.is_exact sink.new) (K.faults sink.old) (K.faults sink.new) out.now
         given result }
+    ensures planned { SendsByPlan (K.plan sink.old) (K.plan sink.new) given result }
 {
     match write_all(sink, out) {
         Ok(()) => given,
@@ -38,9 +40,11 @@ pub fn send<K: Sink, T: Copy>(sink: &mut K, out: &[u8], given: Result<T, Stop>) 
 
 /// Writes what is collected, and begins anew, where it is much.
 pub fn pass_on<K: Sink>(sink: &mut K, out: &mut Vec<u8>) -> Result<(), Stop>
-    ensures { Passes (K.taken sink.old) (K.taken sink.new) (K.takes sink.old) (K.takes sink.new)
+    ensures passed { Passes (K.taken sink.old) (K.taken sink.new) (K.takes sink.old) (K.takes sink.new)
         (K.is_exact sink.old) (K.is_exact sink.new) (K.faults sink.old) (K.faults sink.new)
         out.old.items out.new.items result }
+    ensures planned { MatchResult result (λ _. NoneFailed (K.plan sink.old) (K.plan sink.new))
+        (λ _. LastFailed (K.plan sink.old) (K.plan sink.new)) }
 {
     if out.len() < FULL {
         return Ok(());

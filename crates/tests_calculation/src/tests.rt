@@ -4,6 +4,7 @@ mod calculations;
 mod explanations;
 mod held;
 mod histories;
+mod hundred;
 mod kept;
 mod large;
 mod sheets;

@@ -6,6 +6,7 @@ mod large;
 mod many;
 mod notes;
 mod picks;
+mod proper;
 mod ranges;
 mod references;
 mod results;

@@ -11,6 +11,7 @@ ghost use Rattle.gl_protocol.specs.Scripts.Output.{is_line};
 ghost use Rattle.gl_protocol.specs.Scripts.Output.{is_refusal};
 ghost use Rattle.gl_run.specs.State.{state_of, start, fresh};
 ghost use Rattle.gl_run.specs.Serving.{ended_item, byte_item, last_item, TellsQuit, Serves};
+ghost use Rattle.gl_run.specs.Planned.{GoesByPlan};
 ghost use Rattle.gl_run.specs.{Sending.Collects};
 ghost use Rattle.gl_run.specs.Answering.{ActsOnSome, SpendsOnSome, Leads};
 ghost use Rattle.gl_run.specs.{Script.known_of, Framed.IsFramed, Framed.HasHeader};
@@ -248,6 +249,7 @@ impl Session {
         ensures serves { Serves K.taken K.takes K.is_exact K.faults sink.old sink.new result
             self.old steps.old self.new steps.new
             (up_to_quit (gained (stream_at self.old.framer) chunk.now)) }
+        ensures planned { GoesByPlan (K.plan sink.old) (K.plan sink.new) result }
         ensures quits { TellsQuit result (gained (stream_at self.old.framer) chunk.now) }
         ensures framer { IfOk result (λ quits. quits ≡ false
             → stream_at self.new.framer ≡ after (stream_at self.old.framer) chunk.now) }
@@ -279,6 +281,7 @@ impl Session {
         requires header { HasHeader (stream_at self.old.framer) }
         ensures serves { Serves K.taken K.takes K.is_exact K.faults sink.old sink.new result
             self.old steps.old self.new steps.new (last_item self.old.framer) }
+        ensures planned { GoesByPlan (K.plan sink.old) (K.plan sink.new) result }
     {
         let mut out = Vec::new(engine.alloc);
         let ended = self.framer.finish()?;

@@ -17,7 +17,7 @@ const COLS: u16 = 6;
 const ROWS: u16 = 6;
 
 /// The held oracle and what each address shows; nothing where no answer is held.
-fn all_shown(alloc: Global, calc: &Calc) -> Result<String, Fail> {
+pub fn all_shown(alloc: Global, calc: &Calc) -> Result<String, Fail> {
     let mut out = String::new(alloc);
     let Some(oracle) = calc.oracle() else {
         return Ok(out);

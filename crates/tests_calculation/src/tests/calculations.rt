@@ -3,7 +3,7 @@ ghost use Rattle.std.specs.Prelude.{◌≤◌};
 
 use gl_ast::{Version, put_address};
 use gl_calc::{Answer, Calc, SpentKind, Why};
-use gl_demand::{Silent, Steps};
+use gl_demand::{Silent, Steps, Watch};
 use gl_grant::Obstacle;
 use gl_order::{Order, by_kind};
 use gl_plane::Addr;
@@ -102,12 +102,12 @@ pub fn refreshed(alloc: Global, calc: &mut Calc, kind: u8, version: Version) -> 
 }
 
 /// The same, with its steps counted.
-pub fn refreshed_in(
+pub fn refreshed_in<L: Watch>(
     alloc: Global,
     calc: &mut Calc,
     kind: u8,
     version: Version,
-    steps: &mut Steps<Silent>,
+    steps: &mut Steps<L>,
 ) -> Result<String, Fail>
     requires { kind ≤ 2 }
 {

@@ -67,6 +67,12 @@ const IN_ONE_AND_TWO: [Sheet; 2] = [
         whys: &[("A1", "none")] },
 ];
 
+/// Back in version 1, without an edit, its answer is the first one again.
+#[rattlefmt::skip]
+const IN_ONE_AGAIN: Sheet = Sheet {
+    lines: &[], ends: "settled 1", oracle: "oracle 0\n", shows: &[("A1", "#VALUE!")],
+    whys: &[("A1", "none")] };
+
 /// Each version has its own answer, by the pick rule of this kind.
 fn versions_differ(alloc: Global, kind: u8) -> Result<bool, Fail>
     requires { kind ≤ 2 }
@@ -75,7 +81,8 @@ fn versions_differ(alloc: Global, kind: u8) -> Result<bool, Fail>
     let [one, two] = &IN_ONE_AND_TWO;
     Ok(
         goes_on(alloc, &mut calc, one, kind, Version::One)?
-            && goes_on(alloc, &mut calc, two, kind, Version::Two)?,
+            && goes_on(alloc, &mut calc, two, kind, Version::Two)?
+            && goes_on(alloc, &mut calc, &IN_ONE_AGAIN, kind, Version::One)?,
     )
 }
 

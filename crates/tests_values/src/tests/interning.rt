@@ -27,12 +27,12 @@ fn under_entry(alloc: Global, n: i64, permit: Permit) -> Result<Env, Fail> {
 fn equal_sheet_values_have_one_number(rt: HostRuntime) -> Result<(), Fail> {
     let alloc = rt.alloc();
     let mut interner = Interner::new(alloc);
-    assert_eq!(rt; interner.sheet(&holding(alloc, 1)?, None)?, 0);
-    assert_eq!(rt; interner.sheet(&holding(alloc, 1)?, None)?, 0);
-    assert_eq!(rt; interner.sheet(&holding(alloc, 2)?, None)?, 1);
-    assert_eq!(rt; interner.sheet(&nested(alloc, 1)?, None)?, 2);
-    assert_eq!(rt; interner.sheet(&nested(alloc, 2)?, None)?, 3);
-    assert_eq!(rt; interner.sheet(&nested(alloc, 1)?, None)?, 2);
+    assert_eq!(rt; interner.sheet(&holding(alloc, 1)?)?, 0);
+    assert_eq!(rt; interner.sheet(&holding(alloc, 1)?)?, 0);
+    assert_eq!(rt; interner.sheet(&holding(alloc, 2)?)?, 1);
+    assert_eq!(rt; interner.sheet(&nested(alloc, 1)?)?, 2);
+    assert_eq!(rt; interner.sheet(&nested(alloc, 2)?)?, 3);
+    assert_eq!(rt; interner.sheet(&nested(alloc, 1)?)?, 2);
     let held = match interner.sheet_at(1) {
         Some(s) => **s == *holding(alloc, 2)?,
         None => false,
@@ -47,22 +47,22 @@ fn equal_frames_have_one_number(rt: HostRuntime) -> Result<(), Fail> {
     let alloc = rt.alloc();
     let mut interner = Interner::new(alloc);
     let empty = frame(alloc, holding(alloc, 1)?, Oracle::new(alloc))?;
-    assert_eq!(rt; interner.frame(&Env::Top, None)?, 0);
-    assert_eq!(rt; interner.frame(&empty, None)?, 1);
+    assert_eq!(rt; interner.frame(&Env::Top)?, 0);
+    assert_eq!(rt; interner.frame(&empty)?, 1);
     assert_eq!(rt;
-        interner.frame(&under_entry(alloc, 1, Permit::Permitted)?, None)?,
+        interner.frame(&under_entry(alloc, 1, Permit::Permitted)?)?,
         2
     );
     assert_eq!(rt;
-        interner.frame(&under_entry(alloc, 1, Permit::Refused)?, None)?,
+        interner.frame(&under_entry(alloc, 1, Permit::Refused)?)?,
         3
     );
     assert_eq!(rt;
-        interner.frame(&under_entry(alloc, 1, Permit::Permitted)?, None)?,
+        interner.frame(&under_entry(alloc, 1, Permit::Permitted)?)?,
         2
     );
     assert_eq!(rt;
-        interner.frame(&under_entry(alloc, 2, Permit::Permitted)?, None)?,
+        interner.frame(&under_entry(alloc, 2, Permit::Permitted)?)?,
         4
     );
     let held = match interner.frame_at(1) {

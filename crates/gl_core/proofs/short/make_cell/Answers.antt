@@ -8,4 +8,4 @@ pub returns-in-Ok-clause-short : goal.returns-in-Ok-clause-short
 returns-in-Ok-clause-short c =
     let s = c.in-In.field-0 in
     let w = c.in-In.field-1 in
-    copy_numbered c.frame.new.self (frame_tree c.args.e.now) (sheet_tree s.value) w.value c.args.a c.in-Ok.n (ap frame_tree c.in-In.is ∙ frame_tree-In s w) c.in-Ok.ensures.apart c.in-Ok.ensures.number
+    copy_numbered c.frame_near.new.self (frame_tree c.args.e.now) (sheet_tree s.value) w.value c.args.a c.in-Ok.n (ap frame_tree c.in-In.is ∙ frame_tree-In s w) c.in-Ok.ensures.apart c.in-Ok.ensures.number

@@ -15,7 +15,7 @@ use Rattle.gl_explain.specs.Walking.{IsWalking, HasEnded, IsTurned, left}
 use Rattle.gl_explain.specs.Putting.{IsTakenOff, IsPutOn}
 use Rattle.gl_explain.specs.declared.turning.Turned.TheVariants.{On}
 use Rattle.gl_explain.proofs.Tops.{trees_top, top_sound, below_sound, one_top}
-use Rattle.gl_explain.proofs.Turns.{top_free, top_proper, off_turned, on_turned, end_empty, put_falls, put_sound}
+use Rattle.gl_explain.proofs.Turns.{top_free, top_proper, off_turned, on_turned, so_far_part, turned_part, end_empty, put_falls, put_sound}
 use Rattle.gl_explain.proofs.Marks.{some_mark, below_marked, off_marks, on_marks}
 use Rattle.gl_explain.proofs.turning.turn.Goals as goal
 use Rattle.gl_demand.specs.Evaluators.{world_of}
@@ -191,3 +191,40 @@ returns-in-None-clause-turned g c = λ root n h.
     let m = c.args.steps.now in
     let e = ap (map key_tree) c.in-None.ensures.none in
     subst (HasEnded W root n m done) (sym e) (end_empty W root n m done (subst (IsWalking W root n m done) e h))
+
+pub returns-in-Ok-Ready-clause-part : goal.returns-in-Ok-Ready-clause-part
+returns-in-Ok-Ready-clause-part g c = λ root n h.
+    let W = world_of c.args.evaluator.now in
+    let done = claims c.args.notes.now in
+    let up = map key_tree c.args.stack.now.keys in
+    let k = c.in-Some.key.now in
+    let (below, d) = c.in-Some.ensures.some in
+    let us = map key_tree below in
+    let e = trees_top c.args.stack.now.keys below k d in
+    turned_part W root n c.args.steps.now c.read_on.new.steps done up us (key_tree k) h e (c.read_on.ensures.later, c.read_on.ensures.steps)
+
+pub returns-in-Ok-Need-clause-part : goal.returns-in-Ok-Need-clause-part
+returns-in-Ok-Need-clause-part g c = λ root n h.
+    let W = world_of c.args.evaluator.now in
+    let done = claims c.args.notes.now in
+    let up = map key_tree c.args.stack.now.keys in
+    let k = c.in-Some.key.now in
+    let (below, d) = c.in-Some.ensures.some in
+    let us = map key_tree below in
+    let e = trees_top c.args.stack.now.keys below k d in
+    turned_part W root n c.args.steps.now c.read_on.new.steps done up us (key_tree k) h e (c.read_on.ensures.later, c.read_on.ensures.steps)
+
+pub returns-in-Err-clause-part : goal.returns-in-Err-clause-part
+returns-in-Err-clause-part g c = λ root n h.
+    let W = world_of c.args.evaluator.now in
+    let done = claims c.args.notes.now in
+    let up = map key_tree c.args.stack.now.keys in
+    let k = c.in-Some.key.now in
+    let (below, d) = c.in-Some.ensures.some in
+    let us = map key_tree below in
+    let e = trees_top c.args.stack.now.keys below k d in
+    turned_part W root n c.args.steps.now c.read_on.new.steps done up us (key_tree k) h e (c.read_on.ensures.later, c.read_on.ensures.steps)
+
+pub returns-in-None-clause-part : goal.returns-in-None-clause-part
+returns-in-None-clause-part g c = λ root n h.
+    so_far_part (world_of c.args.evaluator.now) root n c.args.steps.now (claims c.args.notes.now) (map key_tree c.args.stack.now.keys) h

@@ -7,7 +7,7 @@ use Rattle.gl_explain.specs.Marks.{AreMarks}
 use Rattle.gl_explain.specs.Walking.{IsWalking, IsTurned}
 use Rattle.gl_explain.proofs.Tops.{one_sound}
 use Rattle.gl_explain.proofs.Marks.{nothing_marks}
-use Rattle.gl_explain.proofs.Turns.{begin_walk}
+use Rattle.gl_explain.proofs.Turns.{begin_walk, no_part}
 use Rattle.gl_explain.proofs.walking.walk.Goals as goal
 use Rattle.gl_demand.specs.Evaluators.{world_of}
 
@@ -47,3 +47,12 @@ returns-in-Ok-Ended-clause-found g c = (
 pub returns-in-Ok-Full-clause-found : goal.returns-in-Ok-Full-clause-found
 returns-in-Ok-Full-clause-found g c =
     subst (IsTurned (world_of c.args.evaluator.now) (key_tree c.args.root.now) c.args.steps.now c.turn.new.steps (claims c.turn.new.notes) (map key_tree c.turn.new.stack.keys)) c.in-Ok-Full.field-0-is (c.in-Ok-Full.ensures.turned (key_tree c.args.root.now) c.args.steps.now c.turns.invariant.walking)
+
+pub returns-in-Ok-Ended-clause-part : goal.returns-in-Ok-Ended-clause-part
+returns-in-Ok-Ended-clause-part g c = c.turn.ensures.part (key_tree c.args.root.now) c.args.steps.now c.turns.invariant.walking
+
+pub returns-in-Ok-Full-clause-part : goal.returns-in-Ok-Full-clause-part
+returns-in-Ok-Full-clause-part g c = c.turn.ensures.part (key_tree c.args.root.now) c.args.steps.now c.turns.invariant.walking
+
+pub returns-in-Err-clause-part : goal.returns-in-Err-clause-part
+returns-in-Err-clause-part g c = c.turn.ensures.part (key_tree c.args.root.now) c.args.steps.now c.turns.invariant.walking

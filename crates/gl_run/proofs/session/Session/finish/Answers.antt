@@ -9,6 +9,8 @@ use Rattle.gl_run.specs.Emitted.{Emitted}
 use Rattle.gl_run.specs.Framed.{IsFramed}
 use Rattle.gl_run.proofs.Headers.{closing_framed}
 use Rattle.gl_run.proofs.Collecting.{untold, wrote_none, serves_all}
+use Rattle.gl_protocol.specs.Run.Plans.{must_fail, behind_write}
+use Rattle.gl_run.proofs.Plans.{unfailed_none, goes_ok}
 use Rattle.gl_run.proofs.session.Session.finish.Goals as goal
 
 pub emit-requires-clause-framed : goal.emit-requires-clause-framed
@@ -28,5 +30,6 @@ returns g c =
     record {
       serves = serves_all g.K.Sink.taken g.K.Sink.takes g.K.Sink.is_exact g.K.Sink.faults sink sink c.send.new.sink self new c.args.steps.now c.emit.new.steps (last_item self.framer) [] c.deref.result.now
           (wrote_none (g.K.Sink.taken sink) (g.K.Sink.takes sink) (g.K.Sink.is_exact sink) (g.K.Sink.faults sink)) _ c.send.result
-          (subst (λ out. P [] out (closing (stream_at self.framer))) (sym c.deref.ensures.value) f) c.send.ensures;
+          (subst (λ out. P [] out (closing (stream_at self.framer))) (sym c.deref.ensures.value) f) c.send.ensures.sent;
+      planned = goes_ok (g.K.Sink.plan sink) (g.K.Sink.plan sink) (g.K.Sink.plan c.send.new.sink) _ c.send.result (unfailed_none must_fail behind_write (g.K.Sink.plan sink)) c.send.ensures.planned;
     }
