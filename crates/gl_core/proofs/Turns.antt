@@ -20,6 +20,7 @@ use Rattle.gl_core.specs.Ledger.{written}
 use Rattle.gl_core.specs.Table.{known_keys, table_of, IsTable, IsCore, IsNeed, IsResolved, ArePassed}
 use Rattle.gl_core.specs.Answers.{picked_tree}
 use Rattle.gl_core.specs.declared.answers.Picked.{Picked}
+use Rattle.gl_core.specs.declared.answers.Picked.TheVariants.{Full}
 use Rattle.gl_core.specs.declared.ledger.Ledger.{Ledger}
 use Rattle.gl_core.specs.declared.entries.Entries.{Entries}
 use Rattle.gl_core.specs.declared.status.Status.{Status}
@@ -115,6 +116,10 @@ on_err (Err e) p f = f p
 pub any_ok : {X E P : Type 0} (r : Result X E) → P → OnOk r P
 any_ok (Ok x) p = p
 any_ok (Err e) p = tt
+
+pub any_full : {E P : Type 0} (r : Result Picked E) → P → IfOk r (λ a. a ≡ Full → P)
+any_full (Ok x) p = λ e. p
+any_full (Err e) p = tt
 
 pub any_err : {X E P : Type 0} (r : Result X E) → P → OnErr r P
 any_err (Ok x) p = tt

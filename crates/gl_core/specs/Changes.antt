@@ -5,6 +5,7 @@ use Rattle.gl_core.specs.Marks.{MarksStay}
 use Rattle.gl_core.specs.Table.{marks_of, IsTable, IsNeed}
 use Rattle.gl_core.specs.declared.status.Status.TheVariants.{Waiting}
 use Rattle.gl_core.specs.declared.answers.Picked.{Picked}
+use Rattle.gl_core.specs.declared.answers.Picked.TheVariants.{Full}
 use Rattle.gl_core.specs.declared.entries.Entries.{Entries}
 
 -- of each note, the count of passed reads stays
@@ -32,7 +33,7 @@ pub record WaitsAt {X : Type 0} (p on : ℕ) (old : Entries) (r : Result X NoMem
   pub marks : new.marks.items ≡ old.marks.items
   pub table : IsTable new
 
--- The key at a place needs that of a number. Without memory known keys, statuses and marks stay.
+-- The key at a place needs that of a number. Without memory known keys, statuses and marks stay, and marks where there is no room.
 pub record NeedsNumber (p on : ℕ) (old : Entries) (r : Result Picked NoMemory) (new : Entries) : Type 0 where
   pub needs : IfOk r (λ picked. IsNeed old.known.items old.statuses.items.items p on picked new.known.items new.statuses.items.items)
   pub known_err : OnErr r (new.known.items ≡ old.known.items)
@@ -40,4 +41,5 @@ pub record NeedsNumber (p on : ℕ) (old : Entries) (r : Result Picked NoMemory)
   pub passed : PassedStay old new
   pub marks : MarksStay (marks_of old) (marks_of new)
   pub marks_err : OnErr r (new.marks.items ≡ old.marks.items)
+  pub marks_full : IfOk r (λ picked. picked ≡ Full → new.marks.items ≡ old.marks.items)
   pub table : IsTable new

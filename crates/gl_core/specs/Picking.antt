@@ -24,6 +24,7 @@ use Rattle.gl_core.specs.Noting.{Noting}
 use Rattle.gl_core.specs.Answers.{picked_tree}
 use Rattle.gl_core.specs.declared.status.Status.TheVariants.{Idle}
 use Rattle.gl_core.specs.declared.answers.Picked.{Picked}
+use Rattle.gl_core.specs.declared.answers.Picked.TheVariants.{Full}
 use Rattle.gl_core.specs.declared.ledger.Ledger.{Ledger}
 use Rattle.gl_core.specs.declared.entries.Entries.{Entries}
 
@@ -91,7 +92,7 @@ AnswersBy program p l e a l' = OfKeyAt p l e (λ k. (a ≡ answer_by (found_by p
 abbrev pub StateAndNotesStay : Ledger → Entries → Ledger → Entries → Type 0
 StateAndNotesStay l e l' e' = (table_of l' e' ≡ table_of l e) × (written l' ≡ written l)
 
--- The key at a place was picked: state, answer and notes are by what it finds, and its mark is right. Without memory nothing changes.
+-- The key at a place was picked: state, answer and notes are by what it finds, and its mark is right. Without memory or room nothing changes.
 pub record IsPicked (W : World) (p : ℕ) (l : Ledger) (e : Entries) (r : Result Picked NoMemory) (l' : Ledger) (e' : Entries) : Type 0 where
   pub state : OnOk r (TurnsBy (found_by (program W) l e) p l e l' e')
   pub answer : IfOk r (λ a. AnswersBy (program W) p l e (picked_tree a) l')
@@ -99,6 +100,7 @@ pub record IsPicked (W : World) (p : ℕ) (l : Ledger) (e : Entries) (r : Result
   pub core : IsCore l' e'
   pub marks : OnOk r (OfKeyAt p l e (λ k. MarksBy (IsMarkOf W l e k) p (marks_of e) (marks_of e')))
   pub marks_err : OnErr r (e'.marks.items ≡ e.marks.items)
+  pub marks_full : IfOk r (λ a. a ≡ Full → e'.marks.items ≡ e.marks.items)
 
 -- The key at a place needs another, `on`. The notes stay, and without memory the state does.
 pub record NeedsAt (on : K.Key) (p : ℕ) (l : Ledger) (e : Entries) (r : Result Picked NoMemory) (l' : Ledger) (e' : Entries) : Type 0 where
@@ -108,3 +110,4 @@ pub record NeedsAt (on : K.Key) (p : ℕ) (l : Ledger) (e : Entries) (r : Result
   pub err : OnErr r (table_of l' e' ≡ table_of l e)
   pub core : IsCore l' e'
   pub marks_err : OnErr r (e'.marks.items ≡ e.marks.items)
+  pub marks_full : IfOk r (λ a. a ≡ Full → e'.marks.items ≡ e.marks.items)

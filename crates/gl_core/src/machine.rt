@@ -221,7 +221,8 @@ impl Core {
     /// A key without a note is evaluated for one level, which is one step; but where it is known
     /// what its last evaluation was reading, it takes none and waits for the next key of that,
     /// unless one before has another outcome than a value. A key with a note takes none: it goes by
-    /// the first of the note's reads that is not resolved. After `NoMemory` the core is as before.
+    /// the first of the note's reads that is not resolved. Where it is `Full`, and after `NoMemory`,
+    /// the core is as before.
     pub fn pick<L: Watch>(
         &mut self,
         alloc: Global,
@@ -248,6 +249,8 @@ impl Core {
             (picked_tree picked)) }
         ensures ordered { AreOrdered [] (notes_in self.old) → AreOrdered [] (notes_in self.new) }
         ensures err { OnErr result (self.new ≡ self.old) }
+        ensures full { IfOk result (λ picked.
+            picked_tree picked ≡ Machine.Picked.Full → self.new ≡ self.old) }
         ensures seeds { seeds_of self.new ≡ seeds_of self.old }
         ensures stays { IsFor (world (version_tree version) (sheet cells.now) w.now) self.new }
         ensures counted { AtMostCounted (is_noted (notes_in self.old))

@@ -21,6 +21,7 @@ returns-in_err-n-clause-needs c =
       err = any_err c.from_residual.result (table_kept_grown l c.number.new.self e core n.kept n.grows n.rows);
       core = core_grown l c.number.new.self e core n.kept n.grows n.rows;
       marks_err = any_err c.from_residual.result refl;
+      marks_full = search rules;
     }
 
 pub returns-clause-needs : goal.returns-clause-needs
@@ -42,6 +43,7 @@ returns-clause-needs c =
           (if_ok r c.need.ensures.needs (λ picked need. gone_core l e core c.number.new.self n.kept n.grows n.rows c.args.p c.in_ok-n.n (key_tree c.args.on) c.in_ok-n.ensures.number c.need.new.self c.need.ensures.table c.need.ensures.passed c.requires.place.idle k ek picked need))
           c.need.ensures.known_err c.need.ensures.err;
       marks_err = c.need.ensures.marks_err;
+      marks_full = c.need.ensures.marks_full;
     }
 
 pub returns-clause-marks : goal.returns-clause-marks

@@ -43,6 +43,7 @@ returns-in-Some-clause-picked g c =
       core = needs.core;
       marks = on_ok r c.go_by_mark.ensures.marks (λ b k ek. mark_moved S w p st k m c.in-Some.next (c.requires.ahead k m ek em) is c.args.p (mark_trees e.marks.items) (mark_trees c.go_by_mark.new.entries.marks.items) (b m em));
       marks_err = needs.marks_err;
+      marks_full = needs.marks_full;
     }
 
 pub returns-in-Some-clause-evaluated : goal.returns-in-Some-clause-evaluated
@@ -78,6 +79,7 @@ returns-in_err-next-clause-picked g c =
       core = c.requires.pickable.place.core;
       marks = search rules;
       marks_err = any_err r refl;
+      marks_full = search rules;
     }
 
 pub returns-in_err-next-clause-counted : goal.returns-in_err-next-clause-counted

@@ -16,7 +16,7 @@ use Rattle.gl_core.specs.Answers.{picked_tree, counted}
 use Rattle.gl_core.proofs.Idle.{at_most_length}
 use Rattle.gl_core.proofs.Places.{on_ok, if_ok}
 use Rattle.gl_core.proofs.Cores.{idle_count, the_key_at}
-use Rattle.gl_core.proofs.Picks.{there, the_key, proper_there, ahead_there, resolved_tree, outcomes_true, picked_state, picked_answer, picked_notes, picked_stays, picked_seeds, picked_order}
+use Rattle.gl_core.proofs.Picks.{there, the_key, proper_there, ahead_there, resolved_tree, outcomes_true, picked_state, picked_answer, picked_notes, picked_full, picked_stays, picked_seeds, picked_order}
 use Rattle.gl_core.proofs.machine.Core.pick.Goals as goal
 
 pub idle_place-p-requires-clause-there : goal.idle_place-p-requires-clause-there
@@ -97,3 +97,9 @@ pub returns-clause-ordered : goal.returns-clause-ordered
 returns-clause-ordered g c o =
     let h = subst (IsFor (world (version_tree c.args.version) (sheet c.args.cells.now) c.args.w.now)) (sym c.self.view_is) c.requires.for_it in
     picked_order (world (version_tree c.args.version) (sheet c.args.cells.now) c.args.w.now) c.self.inside.ledger c.self.inside.entries c.self.inside.seeds h c.self.invariant c.args.i c.idle_place-p.result c.idle_place-p.ensures.before c.idle_place-p.ensures.idle c.pick_at.new.ledger c.pick_at.new.entries c.pick_at.result c.pick_at.ensures.picked.state c.pick_at.ensures.picked.answer c.pick_at.ensures.picked.err (subst (λ (x : Held). AreOrdered [] (notes_in x)) (sym c.self.view_is) o)
+
+pub returns-clause-full : goal.returns-clause-full
+returns-clause-full g c =
+    let h = subst (IsFor (world (version_tree c.args.version) (sheet c.args.cells.now) c.args.w.now)) (sym c.self.view_is) c.requires.for_it in
+    if_ok c.pick_at.result (picked_full (world (version_tree c.args.version) (sheet c.args.cells.now) c.args.w.now) c.self.inside.ledger c.self.inside.entries c.self.inside.seeds h c.self.invariant c.args.i c.idle_place-p.result c.idle_place-p.ensures.before c.idle_place-p.ensures.idle c.pick_at.new.ledger c.pick_at.new.entries c.pick_at.result c.pick_at.ensures.picked.state c.pick_at.ensures.picked.answer c.pick_at.ensures.picked.err c.pick_at.ensures.picked.marks_full)
+    (λ a f e. f e ∙ c.self.view_is)
