@@ -2,6 +2,7 @@
 pub mod Apart
 pub mod Checking
 pub mod Claims
+pub mod Existing
 pub mod Explaining
 pub mod Few
 pub mod Going

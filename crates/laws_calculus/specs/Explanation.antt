@@ -4,6 +4,7 @@ use Rattle.gl_calculus.specs.Computation.Lists.{AreDistinct}
 use Rattle.gl_calculus.specs.Grid.Limits.{max_demanded}
 use Rattle.gl_calculus.specs.Grid.Grid.{Addr}
 use Rattle.gl_calculus.specs.Formulas.Formula.{IsSheet}
+use Rattle.gl_calculus.specs.Formulas.Fit.{AreFit}
 use Rattle.gl_calculus.specs.Calculation.Calculation.{IsAnswer, Settled, IsShown}
 use Rattle.gl_calculus.specs.Explanation.Certificate.{Certificate, verdict, Accepted, Answer, Cert, Explains}
 use Rattle.gl_calculus.specs.Evaluation.World.{World}
@@ -44,3 +45,7 @@ abbrev pub OneExplanation : Type 0
 OneExplanation =
     (W : World) (a : Addr) (x y : Answer) →
     Explains W a x → Explains W a y → x ≡ y
+
+-- Over fit contents an address has an explanation.
+abbrev pub SomeExplanation : Type 0
+SomeExplanation = (W : World) (a : Addr) → AreFit W.sheet → (x : Answer) × Explains W a x

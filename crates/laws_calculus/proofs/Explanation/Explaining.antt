@@ -158,7 +158,7 @@ root_proper S w a k e = let (b, f, d, h) = decides S w a k e in subst (λ u. is_
 
 module _ (W : World) (a : Addr) where
   -- what the walk finds, where there is a key
-  finds : (k : Key) (e : key_at W.sheet W.oracle a ≡ Some k) (r : Walked Key Outcome) → Ce.IsWalked W a r →
+  pub finds : (k : Key) (e : key_at W.sheet W.oracle a ≡ Some k) (r : Walked Key Outcome) → Ce.IsWalked W a r →
       Wa.Found' same_key same_outcome (is_proper W.sheet) max_demanded (program W) key_equality outcome_equality (λ k. asks_test W.sheet (asks_proper W.sheet W.oracle W.version k)) k (root_proper W.sheet W.oracle a k e) r
   finds k e r (n, h) =
       Wa.walk_finds same_key same_outcome (is_proper W.sheet) max_demanded (program W) key_equality outcome_equality (λ k. asks_test W.sheet (asks_proper W.sheet W.oracle W.version k)) k (root_proper W.sheet W.oracle a k e) n r

@@ -174,14 +174,18 @@ module _ {K O A : Type 0} (same : K → K → Bool) (same_outcome : O → O → 
   pub so_far_spent : (n m : ℕ) (done : List (Claim K O)) (up : List K) → Walking n m done up → AllowsSoFar n m
   so_far_spent n m done up w =
       let ks = Go.keys same same_outcome allowed limit program eq eq_outcome asks root fine w.notes in
-      let true_table = Wa.good_true same same_outcome allowed limit program eq eq_outcome asks root fine w.notes w.holds.good in
-      (w.notes, w.stack, w.passed, (
-        w.stack ++ ks,
-        w.holds.distinct,
-        omega (arith, w.room, length-append w.stack ks, key_count w.notes),
-        as_stacked w.notes w.stack,
-        λ cs e a. omega (arith, w.within, open_within same eq program (noted same w.notes) w.stack, whole_both same eq program (noted same w.notes) w.stack ks, whole_within same eq program (noted same w.notes) true_table (w.stack ++ ks) cs e a),
-      ))
+      let true_table = Wa.good_true same same_outcome allowed limit program eq eq_outcome asks root fine w.notes w.holds.good in (
+        w.notes,
+        w.stack,
+        w.passed,
+        (
+          w.stack ++ ks,
+          w.holds.distinct,
+          omega (arith, w.room, length-append w.stack ks, key_count w.notes),
+          as_stacked w.notes w.stack,
+          λ cs e a. omega (arith, w.within, open_within same eq program (noted same w.notes) w.stack, whole_both same eq program (noted same w.notes) w.stack ks, whole_within same eq program (noted same w.notes) true_table (w.stack ++ ks) cs e a),
+        ),
+      )
 
   -- and after one that took a step at most
   pub turned_spent : (n m l : ℕ) (done : List (Claim K O)) (us : List K) (k : K) → Walking n m done (us ++ k ∷ []) → l ≤ m + 1 → AllowsSoFar n l

@@ -2,6 +2,7 @@ use Rattle.laws_calculus.proofs.Explanation.Apart.{claims_once}
 use Rattle.laws_calculus.proofs.Explanation.Explaining.{accepted_shows, walk_accepted, settled_certifies}
 use Rattle.laws_calculus.proofs.Explanation.Few.{few_keys}
 use Rattle.laws_calculus.proofs.Explanation.Once.{one_explanation}
+use Rattle.laws_calculus.proofs.Explanation.Existing.{some_explanation}
 use Rattle.laws_calculus.proofs.explanations.explanation_laws.Goals as goal
 
 pub returns-clause-shows : goal.returns-clause-shows
@@ -21,3 +22,6 @@ returns-clause-certified g = settled_certifies
 
 pub returns-clause-one : goal.returns-clause-one
 returns-clause-one g = one_explanation
+
+pub returns-clause-some : goal.returns-clause-some
+returns-clause-some g = some_explanation
