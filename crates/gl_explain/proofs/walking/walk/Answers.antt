@@ -56,3 +56,9 @@ returns-in-Ok-Full-clause-part g c = c.turn.ensures.part (key_tree c.args.root.n
 
 pub returns-in-Err-clause-part : goal.returns-in-Err-clause-part
 returns-in-Err-clause-part g c = c.turn.ensures.part (key_tree c.args.root.now) c.args.steps.now c.turns.invariant.walking
+
+pub returns-in_err-stack-clause-part : goal.returns-in_err-stack-clause-part
+returns-in_err-stack-clause-part g c = no_part (world_of c.args.evaluator.now) (key_tree c.args.root.now ∷ []) c.args.steps.now
+
+pub returns-in_err-marks-clause-part : goal.returns-in_err-marks-clause-part
+returns-in_err-marks-clause-part g c = no_part (world_of c.args.evaluator.now) (key_tree c.args.root.now ∷ []) c.args.steps.now
