@@ -3,10 +3,10 @@ use Rattle.std.proofs.Common.{◌≡◌, false, [], ◌∷◌, refl}
 use Rattle.gl_ast.specs.View.{fun_tree}
 use Rattle.gl_ast.specs.declared.Fun.{Fun}
 use Rattle.gl_ast.specs.declared.Fun.TheVariants as fun
+use Rattle.gl_calculus.specs.Formulas.Fit.{takes_any}
 use Rattle.gl_calculus.specs.Values.ErrKind.{ErrKind}
 use Rattle.gl_calculus.specs.Values.Functions.{apply}
 use Rattle.gl_calculus.specs.Values.Value as V
-use Rattle.gl_demand.specs.Arity.{takes_any}
 
 pub not_on_one : (f : Fun) (v : V.Value) → takes_any (fun_tree f) ≡ false → (f ≡ fun.Not → ⊥) → (f ≡ fun.IsError → ⊥) → (f ≡ fun.IsBlank → ⊥) → (f ≡ fun.Abs → ⊥) → (f ≡ fun.Len → ⊥) → (f ≡ fun.Rows → ⊥) → (f ≡ fun.Columns → ⊥) → (f ≡ fun.Transpose → ⊥) → (f ≡ fun.Unique → ⊥) → V.Value.One (V.Scalar.Err ErrKind.Value) ≡ apply (fun_tree f) (v ∷ [])
 unfolding apply

@@ -1,14 +1,14 @@
 //! The functions of formulas whose arguments are all evaluated.
-ghost use Rattle.std.specs.Prelude.{◌≡◌, ◌≤◌, IsTrue, IfOk, IfErr, false, [], ◌∷◌, length, map};
+ghost use Rattle.std.specs.Prelude.{◌≡◌, IsTrue, IfOk, IfErr, false, [], ◌∷◌, length, map};
 ghost use Rattle.gl_ast.specs.View.{fun_tree};
-ghost use Rattle.gl_calculus.specs.Grid.Limits.{max_arguments};
 ghost use Rattle.gl_calculus.specs.Evaluation.Sound.{is_sound_value};
+ghost use Rattle.gl_calculus.specs.Formulas.Fit.{takes_any};
 ghost use Rattle.gl_calculus.specs.Values.ErrKind as E;
 ghost use Rattle.gl_calculus.specs.Values.Functions as F;
 ghost use Rattle.gl_calculus.specs.Values.Value as V;
 ghost use Rattle.gl_funs.specs.Elements.{AreSound};
 ghost use Rattle.gl_value.specs.View.{value_tree};
-ghost use Rattle.gl_demand.specs.{Arity.takes_any, declared.trail.Halt.Halt};
+ghost use Rattle.gl_demand.specs.{Fit.Takes, declared.trail.Halt.Halt};
 
 use crate::trail::{Eval, Halt};
 use gl_arrays::{
@@ -24,33 +24,27 @@ use gl_plane::NoMemory;
 use gl_value::{ErrKind, Scalar, Value};
 use std::alloc::Global;
 
-/// The most arguments of a function that takes any number of them.
-const MAX_ARGUMENTS: usize = 16;
-
 /// The value of a function whose arguments are all evaluated.
 ///
-/// A number of arguments that the grammar allows to none is `#VALUE!`. More arguments than a well
-/// formed formula has, and stacks of no value, are refused.
+/// A number of arguments that the grammar allows to none is `#VALUE!`.
 pub fn apply(alloc: Global, fun: Fun, values: &[Value]) -> Eval<Value>
+    requires number { Takes (fun_tree fun) (length values.now) }
     requires sound { AreSound values.now }
     ensures value { IfOk result (λ v.
         value_tree v ≡ F.apply (fun_tree fun) (map value_tree values.now)) }
     ensures err { IfErr result (λ h. h ≡ Halt.NoMemory) }
     ensures sound { IfOk result (λ v. IsTrue (is_sound_value (value_tree v))) }
 {
-    if values.len() > MAX_ARGUMENTS {
-        return Err(Halt::NoMemory);
-    }
     match applied(alloc, fun, values) {
         Ok(v) => Ok(v),
         Err(NoMemory) => Err(Halt::NoMemory),
     }
 }
 
-/// The value of a function on at most `MAX_ARGUMENTS` arguments.
+/// The same, or `NoMemory`.
 #[tactic(auto, using(gl_value::specs::Forms::trees), unfolding(gl_calculus::specs::Values::Functions::apply))]
 fn applied(alloc: Global, fun: Fun, values: &[Value]) -> Result<Value, NoMemory>
-    requires few { length values.now ≤ max_arguments }
+    requires number { Takes (fun_tree fun) (length values.now) }
     requires sound { AreSound values.now }
     ensures value { IfOk result (λ v.
         value_tree v ≡ F.apply (fun_tree fun) (map value_tree values.now)) }
@@ -63,37 +57,9 @@ fn applied(alloc: Global, fun: Fun, values: &[Value]) -> Result<Value, NoMemory>
         Fun::Max => Ok(Value::One(greatest(values))),
         Fun::And => Ok(Value::One(all(values))),
         Fun::Or => Ok(Value::One(any(values))),
-        Fun::HStack => beside(alloc, values),
-        Fun::VStack => below(alloc, values),
+        Fun::HStack => hstack(alloc, values),
+        Fun::VStack => vstack(alloc, values),
         _ => by_number(alloc, fun, values),
-    }
-}
-
-/// The values side by side. None at all, which would be an empty array, are refused.
-fn beside(alloc: Global, values: &[Value]) -> Result<Value, NoMemory>
-    requires few { length values.now ≤ max_arguments }
-    requires sound { AreSound values.now }
-    ensures value { IfOk result (λ v. value_tree v ≡ F.hstack (map value_tree values.now)) }
-    ensures sound { IfOk result (λ v. IsTrue (is_sound_value (value_tree v))) }
-{
-    if values.len() == 0 {
-        Err(NoMemory)
-    } else {
-        hstack(alloc, values)
-    }
-}
-
-/// The values one under the other. None at all are refused.
-fn below(alloc: Global, values: &[Value]) -> Result<Value, NoMemory>
-    requires few { length values.now ≤ max_arguments }
-    requires sound { AreSound values.now }
-    ensures value { IfOk result (λ v. value_tree v ≡ F.vstack (map value_tree values.now)) }
-    ensures sound { IfOk result (λ v. IsTrue (is_sound_value (value_tree v))) }
-{
-    if values.len() == 0 {
-        Err(NoMemory)
-    } else {
-        vstack(alloc, values)
     }
 }
 

@@ -19,30 +19,18 @@ use gl_value::{Scalar, Value};
 use std::alloc::Global;
 use std::rc::RcStr;
 
-/// A text literal. One longer than `MAX_TEXT` bytes, which no well formed formula has, is refused.
+/// A text literal, which is short.
 #[tactic(auto, using(gl_value::specs::Forms::trees))]
 pub fn text(t: &RcStr) -> Eval<Value>
+    requires short { IsTrue (is_sound_scalar (V.Scalar.Text (rc_str_bytes t.now))) }
     ensures value { IfOk result (λ v.
         value_tree v ≡ V.Value.One (V.Scalar.Text (rc_str_bytes t.now))) }
     ensures err { IfErr result (λ h. h ≡ Halt.NoMemory) }
     ensures sound { IfOk result (λ v. IsTrue (is_sound_value (value_tree v))) }
 {
     match t.clone() {
-        Ok(t) => sound_alone(Value::One(Scalar::Text(t))),
+        Ok(t) => Ok(Value::One(Scalar::Text(t))),
         Err(_) => Err(Halt::NoMemory),
-    }
-}
-
-/// The value, if it is sound.
-fn sound_alone(v: Value) -> Eval<Value>
-    ensures value { IfOk result (λ x. value_tree x ≡ value_tree v) }
-    ensures err { IfErr result (λ h. h ≡ Halt.NoMemory) }
-    ensures sound { IfOk result (λ x. IsTrue (is_sound_value (value_tree x))) }
-{
-    if v.is_sound() {
-        Ok(v)
-    } else {
-        Err(Halt::NoMemory)
     }
 }
 

@@ -1,10 +1,13 @@
-use Rattle.std.proofs.Common.{◌≡◌, ◌∙◌, IfOk, ap, sym, subst, map}
+use Rattle.std.proofs.Common.{◌≡◌, ◌∙◌, IfOk, ap, sym, subst, map, length}
 use Rattle.gl_ast.specs.View.{fun_tree}
+use Rattle.gl_calculus.specs.Formulas.Fit.{takes_any}
 use Rattle.gl_calculus.specs.Values.Functions.{apply}
 use Rattle.gl_calculus.specs.Values.Value as V
 use Rattle.gl_value.specs.Forms.{value_tree-One}
 use Rattle.gl_value.specs.View.{value_tree}
 use Rattle.gl_value.specs.declared.Value.{One}
+use Rattle.gl_demand.specs.Fit.{Takes}
+use Rattle.gl_demand.proofs.Fitting.{few, some_beside, some_below}
 use Rattle.gl_demand.proofs.applying.applied.Goals as goal
 
 pub returns-in-Sum-clause-value : goal.returns-in-Sum-clause-value
@@ -40,9 +43,37 @@ returns-in-Or-clause-value c =
 pub returns-in-HStack-clause-value : goal.returns-in-HStack-clause-value
 unfolding apply
 returns-in-HStack-clause-value c =
-    subst (λ f. IfOk c.beside.result (λ r. value_tree r ≡ apply (fun_tree f) (map value_tree c.args.values.now))) (sym c.in-HStack.is) c.beside.ensures.value
+    subst (λ f. IfOk c.hstack.result (λ r. value_tree r ≡ apply (fun_tree f) (map value_tree c.args.values.now))) (sym c.in-HStack.is) c.hstack.ensures.value
 
 pub returns-in-VStack-clause-value : goal.returns-in-VStack-clause-value
 unfolding apply
 returns-in-VStack-clause-value c =
-    subst (λ f. IfOk c.below.result (λ r. value_tree r ≡ apply (fun_tree f) (map value_tree c.args.values.now))) (sym c.in-VStack.is) c.below.ensures.value
+    subst (λ f. IfOk c.vstack.result (λ r. value_tree r ≡ apply (fun_tree f) (map value_tree c.args.values.now))) (sym c.in-VStack.is) c.vstack.ensures.value
+
+pub sum-requires : goal.sum-requires
+sum-requires c = (few (fun_tree c.args.fun) (length c.args.values.now) c.requires.number (ap (λ f. takes_any (fun_tree f)) c.in-Sum.is), c.requires.sound)
+
+pub count-requires : goal.count-requires
+count-requires c = (few (fun_tree c.args.fun) (length c.args.values.now) c.requires.number (ap (λ f. takes_any (fun_tree f)) c.in-Count.is), c.requires.sound)
+
+pub least-requires : goal.least-requires
+least-requires c = (few (fun_tree c.args.fun) (length c.args.values.now) c.requires.number (ap (λ f. takes_any (fun_tree f)) c.in-Min.is), c.requires.sound)
+
+pub greatest-requires : goal.greatest-requires
+greatest-requires c = (few (fun_tree c.args.fun) (length c.args.values.now) c.requires.number (ap (λ f. takes_any (fun_tree f)) c.in-Max.is), c.requires.sound)
+
+pub all-requires : goal.all-requires
+all-requires c = (few (fun_tree c.args.fun) (length c.args.values.now) c.requires.number (ap (λ f. takes_any (fun_tree f)) c.in-And.is), c.requires.sound)
+
+pub any-requires : goal.any-requires
+any-requires c = (few (fun_tree c.args.fun) (length c.args.values.now) c.requires.number (ap (λ f. takes_any (fun_tree f)) c.in-Or.is), c.requires.sound)
+
+pub hstack-requires : goal.hstack-requires
+hstack-requires c =
+    let n = length c.args.values.now in
+    (some_beside n (subst (λ f. Takes (fun_tree f) n) c.in-HStack.is c.requires.number), few (fun_tree c.args.fun) n c.requires.number (ap (λ f. takes_any (fun_tree f)) c.in-HStack.is), c.requires.sound)
+
+pub vstack-requires : goal.vstack-requires
+vstack-requires c =
+    let n = length c.args.values.now in
+    (some_below n (subst (λ f. Takes (fun_tree f) n) c.in-VStack.is c.requires.number), few (fun_tree c.args.fun) n c.requires.number (ap (λ f. takes_any (fun_tree f)) c.in-VStack.is), c.requires.sound)
