@@ -1,5 +1,5 @@
 -- Calls of which it is known beforehand whether they fail.
-use Rattle.std.proofs.Common.{◌≡◌, ℕ, inl, inr, Bool, Option, None, Some, Result, Ok, Err, MatchResult, refl, sym, subst}
+use Rattle.std.proofs.Common.{ℕ, inl, inr, Bool, Option, None, Some, Result, Ok, Err, MatchResult, refl, sym, subst}
 use Rattle.gl_protocol.specs.Run.Plans.{Plan, is_listed, behind, WritePlan, must_fail, behind_write, EndsAtFault, EndsByPlan}
 use Rattle.gl_port.specs.Plan.{ReadsBy, WritesBy}
 use Rattle.gl_run.specs.Planned.{Unfailed, NoneFailed, LastFailed, SendsByPlan, GoesByPlan}
