@@ -10,7 +10,7 @@ ghost use Rattle.gl_calc.specs.Progress.{next_base, since};
 use crate::table::Table;
 use crate::tables::{Base, Tables};
 use gl_core::Results;
-use gl_plane::{Changes, NoMemory, Oracle, Range};
+use gl_plane::{NoMemory, Oracle, Range};
 use std::alloc::Global;
 
 /// What was touched, and where the oracles differ.
@@ -19,17 +19,17 @@ fn changes(
     before: &Oracle,
     ranges: &[Range],
     w: &Oracle,
-) -> Result<Changes, NoMemory>
+) -> Result<Vec<Range>, NoMemory>
     requires apart { AreApart before.now }
     requires other_apart { AreApart w.now }
     ensures { IfOk result (λ c.
         (a : PlainAddr)
-        → is_covered c a ≡ (is_covered ranges.now a || differs_at [] before.now w.now a)) }
+        → is_covered c.items a ≡ (is_covered ranges.now a || differs_at [] before.now w.now a)) }
 {
-    let mut changes = Changes::new(alloc);
-    changes.add(ranges)?;
+    let mut changes = Vec::new(alloc);
+    changes.extend_from_slice(ranges)?;
     let differences = before.differences(alloc, w)?;
-    changes.add(&differences)?;
+    changes.extend_from_slice(&differences)?;
     Ok(changes)
 }
 

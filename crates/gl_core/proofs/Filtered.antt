@@ -1,5 +1,5 @@
 -- Some of the rows of a ledger.
-use Rattle.std.proofs.Common.{◌≡◌, ℕ, zero, suc, All, ◌<◌, ◌≤◌, Bool, true, false, if◌then◌else◌, List, [], ◌∷◌, ◌++◌, length-append, length, filter, slice_index, Option, Some, None, refl, sym, ap, ◌∙◌, subst, arith, inl, inr}
+use Rattle.std.proofs.Common.{◌≡◌, ℕ, zero, suc, All, ◌<◌, ◌≤◌, Bool, true, false, if◌then◌else◌, List, [], ◌∷◌, ◌++◌, length-append, length, filter, slice_index, Option, Some, None, IfSome, refl, sym, ap, ◌∙◌, subst, arith, inl, inr}
 use Rattle.gl_calculus.specs.Computation.Lists.{Member, AreDistinct}
 use Rattle.gl_calculus.specs.Computation.Notes.{Note}
 use Rattle.gl_calculus.specs.Computation.Notes.{note_keys}
@@ -10,10 +10,12 @@ use Rattle.gl_support.specs.declared.row.Row.{Row}
 use Rattle.gl_demand.specs.declared.outcome.Outcome.{Outcome}
 use Rattle.gl_core.specs.State.{AreSoundNotes, IsSoundNote}
 use Rattle.gl_core.specs.Numbers.{Each, keys_at, named, row_notes, numbers_of, AreBooked, IsBelow, IsIndex, IsPlace, IsRowOf}
+use Rattle.gl_core.specs.Graph.{IsGraphOf}
 use Rattle.gl_core.specs.Ledger.{written, IsLedger}
 use Rattle.gl_core.specs.declared.ledger.Ledger.{Ledger}
 use Rattle.gl_core.proofs.Numbered.{all_by, all_push, map_get, map_push, index_apart, index_within, keys_apart}
 use Rattle.gl_core.proofs.Places.{place_of}
+use Rattle.gl_core.proofs.Graphed.{more_rows}
 
 module _ {X : Type 0} (p : X → Bool) where
   pub filter_member : (xs : List X) (x : X) → Member x (filter p xs) → Member x xs
@@ -110,8 +112,8 @@ some_there p (r ∷ rs) P a = by (p r) (some_there p rs P a.1)
     by false f = f
 
 -- what is left is a ledger
-pub some_rows : (l l' : Ledger) (p : Row Outcome Range → Bool) → IsLedger l → l'.book ≡ l.book → l'.rows.items ≡ filter p l.rows.items → IsIndex (numbers_of l'.rows.items) l'.row_of.items → IsLedger l'
-some_rows l l' p h b r i =
+pub some_rows : (l l' : Ledger) (p : Row Outcome Range → Bool) → IsLedger l → l'.book ≡ l.book → l'.rows.items ≡ filter p l.rows.items → IsIndex (numbers_of l'.rows.items) l'.row_of.items → IfSome l'.graph (IsGraphOf (filter p l.rows.items)) → IsLedger l'
+some_rows l l' p h b r i g =
     let few = filter_length p l.rows.items in
     let size : length l'.rows.items ≡ length (filter p l.rows.items) = ap length r in
     record {
@@ -120,6 +122,7 @@ some_rows l l' p h b r i =
       index = i;
       sound = λ n m. h.sound n (note_member l.book p l.rows.items n (subst (λ (x : List (Row Outcome Range)). Member n (row_notes l.book x)) r (subst (λ (x : List K.Key). Member n (row_notes x l'.rows.items)) b m)));
       few = omega (arith, few, size, h.few);
+      graph = subst (λ (x : List (Row Outcome Range)). IfSome l'.graph (IsGraphOf x)) (sym r) g;
     }
 
 -- the keys of the notes of rows
@@ -147,24 +150,26 @@ numbers_length [] = refl
 numbers_length (r ∷ rs) = ap suc (numbers_length rs)
 
 -- the same rows with places read anew
-pub same_rows : (l l' : Ledger) → IsLedger l → l'.book ≡ l.book → l'.rows.items ≡ l.rows.items → IsIndex (numbers_of l.rows.items) l'.row_of.items → IsLedger l'
-same_rows l l' h b r i = record {
+pub same_rows : (l l' : Ledger) → IsLedger l → l'.book ≡ l.book → l'.rows.items ≡ l.rows.items → IsIndex (numbers_of l.rows.items) l'.row_of.items → IfSome l'.graph (IsGraphOf l.rows.items) → IsLedger l'
+same_rows l l' h b r i g = record {
   book = subst (λ (x : List K.Key). AreBooked x) (sym b) h.book;
   below = subst (λ (x : List K.Key). Each (IsBelow (length x)) l'.rows.items) (sym b) (subst (Each (IsBelow (length l.book))) (sym r) h.below);
   index = subst (λ (x : List (Row Outcome Range)). IsIndex (numbers_of x) l'.row_of.items) (sym r) i;
   sound = subst (λ (x : List K.Key). AreSoundNotes (row_notes x l'.rows.items)) (sym b) (subst (λ (x : List (Row Outcome Range)). AreSoundNotes (row_notes l.book x)) (sym r) h.sound);
   few = (let s : length l'.rows.items ≡ length l.rows.items = ap length r in omega (arith, s, h.few));
+  graph = subst (λ (x : List (Row Outcome Range)). IfSome l'.graph (IsGraphOf x)) (sym r) g;
 }
 
 -- one row more
 pub one_row : (l l' : Ledger) (x : Row Outcome Range) → IsLedger l → l'.book ≡ l.book → l'.rows.items ≡ l.rows.items ++ x ∷ [] → IsIndex (numbers_of l.rows.items ++ x.by ∷ []) l'.row_of.items → IsBelow (length l.book) x →
-    IsSoundNote (named l.book (record { key = x.by; outcome = x.outcome; reads = x.reads.items; looked = x.looked.items })) → length l.rows.items < 4000000000 → IsLedger l'
-one_row l l' x h b r i below s few = record {
+    IsSoundNote (named l.book (record { key = x.by; outcome = x.outcome; reads = x.reads.items; looked = x.looked.items })) → length l.rows.items < 4000000000 → IfSome l'.graph (IsGraphOf l.rows.items) → IsLedger l'
+one_row l l' x h b r i below s few g = record {
   book = subst (λ (y : List K.Key). AreBooked y) (sym b) h.book;
   below = subst (λ (y : List K.Key). Each (IsBelow (length y)) l'.rows.items) (sym b) (subst (Each (IsBelow (length l.book))) (sym r) (all_push (IsBelow (length l.book)) l.rows.items x h.below below));
   index = subst (λ (y : List (Row Outcome Range)). IsIndex (numbers_of y) l'.row_of.items) (sym r) (subst (λ ns. IsIndex ns l'.row_of.items) (sym (map_push (λ (y : Row Outcome Range). y.by) l.rows.items x)) i);
   sound = subst (λ (y : List K.Key). AreSoundNotes (row_notes y l'.rows.items)) (sym b) (subst (λ (y : List (Row Outcome Range)). AreSoundNotes (row_notes l.book y)) (sym r) (λ n m. last l.rows.items n m h.sound));
   few = (let n : length l'.rows.items ≡ length (l.rows.items ++ x ∷ []) = ap length r in let m = length-append l.rows.items (x ∷ []) in omega (arith, n, m, few));
+  graph = subst (λ (y : List (Row Outcome Range)). IfSome l'.graph (IsGraphOf y)) (sym r) (more_rows l.rows.items (x ∷ []) l'.graph g);
 }
   where
     last : (rs : List (Row Outcome Range)) (n : Note K.Key K.Outcome Range) → Member n (row_notes l.book (rs ++ x ∷ [])) → AreSoundNotes (row_notes l.book rs) → IsSoundNote n

@@ -1,5 +1,5 @@
 -- Ledgers that grow.
-use Rattle.std.proofs.Common.{◌≡◌, ℕ, ◌<◌, List, [], ◌∷◌, ◌++◌, length, slice_get, Some, sym, ap, ◌∙◌, subst, arith, length-append, append-nil, append_assoc}
+use Rattle.std.proofs.Common.{◌≡◌, ℕ, ◌<◌, List, [], ◌∷◌, ◌++◌, length, slice_get, Option, Some, IfSome, sym, ap, ◌∙◌, subst, arith, length-append, append-nil, append_assoc}
 use Rattle.gl_calculus.specs.Computation.Lists.{Member}
 use Rattle.gl_calculus.specs.Grid.Grid.{Range}
 use Rattle.gl_calculus.specs.Evaluation.Key as K
@@ -7,8 +7,10 @@ use Rattle.gl_support.specs.declared.row.Row.{Row}
 use Rattle.gl_demand.specs.declared.outcome.Outcome.{Outcome}
 use Rattle.gl_core.specs.State.{AreSoundNotes}
 use Rattle.gl_core.specs.Numbers.{Each, key_at, keys_at, numbers_of, Grows, AreBooked, AreNumbers, IsBelow, IsIndex}
+use Rattle.gl_core.specs.Graph.{IsGraphOf}
 use Rattle.gl_core.specs.Ledger.{written, IsLedger}
 use Rattle.gl_core.specs.Table.{table_of, IsCore}
+use Rattle.gl_core.specs.declared.graph.Graph.{Graph}
 use Rattle.gl_core.specs.declared.ledger.Ledger.{Ledger}
 use Rattle.gl_core.specs.declared.entries.Entries.{Entries}
 use Rattle.gl_core.proofs.Wakes.{get_within, get_front}
@@ -35,13 +37,14 @@ pub within_grown : (ks js : List K.Key) → Grows ks js → (n : ℕ) → n < le
 within_grown ks js (m, e) n h = subst (λ t. n < length t) (sym e) (let l = length-append ks m in omega (arith, l, h))
 
 -- the same rows over more keys
-pub ledger_grown : (l l' : Ledger) → IsLedger l → Grows l.book l'.book → l'.rows.items ≡ l.rows.items → l'.row_of.items ≡ l.row_of.items → AreBooked l'.book → IsLedger l'
-ledger_grown l l' h (m, e) r p b = record {
+pub ledger_grown : (l l' : Ledger) → IsLedger l → Grows l.book l'.book → l'.rows.items ≡ l.rows.items → l'.row_of.items ≡ l.row_of.items → l'.graph ≡ l.graph → AreBooked l'.book → IsLedger l'
+ledger_grown l l' h (m, e) r p g b = record {
   book = b;
   below = subst (λ (x : List (Row Outcome Range)). Each (IsBelow (length l'.book)) x) (sym r) (subst (λ (x : List K.Key). Each (IsBelow (length x)) l.rows.items) (sym e) (rows_below_more l.book m l.rows.items h.below));
   index = subst (λ (x : List (Row Outcome Range)). IsIndex (numbers_of x) l'.row_of.items) (sym r) (subst (IsIndex (numbers_of l.rows.items)) (sym p) h.index);
   sound = subst AreSoundNotes (sym (written_grown l l' m h e r)) h.sound;
   few = (let s : length l'.rows.items ≡ length l.rows.items = ap length r in omega (arith, s, h.few));
+  graph = subst (λ (x : List (Row Outcome Range)). IfSome l'.graph (IsGraphOf x)) (sym r) (subst (λ (x : Option Graph). IfSome x (IsGraphOf l.rows.items)) (sym g) h.graph);
 }
 
 module _ (l l' : Ledger) (e : Entries) (c : IsCore l e) (h : IsLedger l') (g : Grows l.book l'.book) (r : l'.rows.items ≡ l.rows.items) where

@@ -1,9 +1,10 @@
--- Lists that have all there is: as many seeds as keys, or as many notes as keys that have outcomes.
-use Rattle.std.proofs.Common.{◌≡◌, ◌⊎◌, ◌≢◌, ℕ, zero, suc, ◌<◌, ◌≤◌, Bool, true, false, nat_eq, if◌then◌else◌, List, [], ◌∷◌, length, filter, slice_get, Some, refl, sym, ap, ◌∙◌, subst, inl, inr, arith, append-nil, eqb-true}
+-- Lists that have all there is: as many seeds with notes as notes, or as many notes as keys that have outcomes.
+use Rattle.std.proofs.Common.{◌≡◌, ℕ, zero, suc, ◌+◌, ◌<◌, ◌≤◌, Bool, true, false, nat_eq, if◌then◌else◌, List, [], ◌∷◌, length, filter, take, slice_get, Option, Some, None, is_some, refl, sym, ap, ◌∙◌, subst, inl, inr, arith, append-nil, eqb-true}
 use Rattle.std.specs.List.{list_all}
 use Rattle.gl_calculus.specs.Computation.Lists.{Member, AreDistinct}
 use Rattle.gl_calculus.specs.Computation.Notes.{Note, Here}
 use Rattle.gl_machine.specs.InOrder.{AreOrdered}
+use Rattle.laws_calculus.proofs.Forecast.Nodes.{filter_part}
 use Rattle.laws_calculus.proofs.Query.Quiet.{distinct_within}
 use Rattle.gl_calculus.specs.Grid.Grid.{Range}
 use Rattle.gl_calculus.proofs.Tests.{both}
@@ -11,7 +12,7 @@ use Rattle.gl_support.specs.Reach.{has}
 use Rattle.gl_support.specs.Rows.{notes_of}
 use Rattle.gl_support.specs.declared.row.Row.{Row}
 use Rattle.gl_demand.specs.declared.outcome.Outcome.{Outcome}
-use Rattle.gl_core.specs.Numbers.{Each, numbers_of}
+use Rattle.gl_core.specs.Numbers.{Each, numbers_of, IsRowOf}
 use Rattle.gl_core.specs.Ledger.{IsLedger}
 use Rattle.gl_core.specs.Resuming.{IsClosure}
 use Rattle.gl_core.specs.Table.{IsCore, is_row, has_outcome}
@@ -21,9 +22,8 @@ use Rattle.gl_core.specs.declared.status.Status.{Status}
 use Rattle.gl_core.specs.declared.status.Status.TheVariants.{Idle, Waiting, Resolved}
 use Rattle.gl_core.proofs.Wakes.{get_there, get_within}
 use Rattle.gl_core.proofs.Places.{member_at, place_of}
-use Rattle.gl_core.proofs.Trees.{same_or_other}
-use Rattle.gl_core.proofs.Numbered.{all_in, get_map}
-use Rattle.gl_core.proofs.Filtered.{numbers_below, numbers_length}
+use Rattle.gl_core.proofs.Numbered.{get_map}
+use Rattle.gl_core.proofs.Filtered.{numbers_length}
 use Rattle.gl_core.proofs.Cores.{indexed}
 use Rattle.gl_core.proofs.Resolved.{has_at, known_apart}
 use Rattle.gl_core.proofs.Marks.{has_there, there_has, read_noted}
@@ -43,43 +43,66 @@ fills xs ys d w h n m = by (has xs n) refl
         let q = distinct_within (n ∷ xs) ys (out, d) within in
         absurd (omega (arith, q, h))
 
--- ---- as many seeds as keys
+-- ---- as many seeds with notes as notes
 
-abbrev below : ℕ → List ℕ
-below zero = []
-below (suc n) = n ∷ below n
+module _ (ys : List ℕ) where
+  noted_member : (xs : List ℕ) (n : ℕ) → Member n (filter (has ys) xs) → Member n xs × Member n ys
+  noted_member xs n m = let (i, t) = filter_part (has ys) xs n m in (i, there_has ys n t)
 
-below_there : (n k : ℕ) → k < n → Member k (below n)
-below_there zero k h = absurd (omega (arith, h))
-below_there (suc n) k h = by (same_or_other k n) (below_there n k)
-  where
-    by : (k ≡ n) ⊎ (k ≢ n) → (k < n → Member k (below n)) → Member k (below (suc n))
-    by (inl e) f = inl e
-    by (inr d) f = inr (f (omega (arith, h, d)))
-
-length-below : (n : ℕ) → length (below n) ≡ n
-length-below zero = refl
-length-below (suc n) = ap suc (length-below n)
+  noted_apart : (xs : List ℕ) → AreDistinct xs → AreDistinct (filter (has ys) xs)
+  noted_apart [] d = tt
+  noted_apart (x ∷ xs) d = by (has ys x) (noted_apart xs d.1)
+    where
+      by : (b : Bool) → AreDistinct (filter (has ys) xs) → AreDistinct (if b then x ∷ filter (has ys) xs else filter (has ys) xs)
+      by true f = (λ m. d.0 (noted_member xs x m).0, f)
+      by false f = f
 
 -- then nothing else can be reached
-pub all_seeds : (l : Ledger) → IsLedger l → AreOrdered [] (notes_of l.rows.items) → (seeds : List ℕ) → Each (λ n. n < length l.book) seeds → AreDistinct seeds → length seeds ≡ length l.book → IsClosure l seeds seeds
+pub all_seeds : (l : Ledger) → IsLedger l → AreOrdered [] (notes_of l.rows.items) → (seeds : List ℕ) → Each (λ n. n < length l.book) seeds → AreDistinct seeds → length (filter (has (numbers_of l.rows.items)) seeds) ≡ length l.rows.items → IsClosure l seeds seeds
 all_seeds l h o seeds b d e = record {
   rest = [];
   first = sym (append-nil seeds);
   below = b;
   apart = d;
   reached = λ k m. (k, m, Here);
-  closed = λ n i m j r. every j (all_in (λ k. k < length l.book) (numbers_of l.rows.items) (numbers_below (length l.book) l.rows.items h.below) j (noted n i j r));
+  closed = λ n i m j r. every j (noted n i j r);
   noted = noted;
 }
   where
-    noted : (n : Note ℕ Outcome Range) → Member n (notes_of l.rows.items) → (j : ℕ) → Member j n.reads → Member j (numbers_of l.rows.items)
+    ns : List ℕ
+    ns = numbers_of l.rows.items
+
+    noted : (n : Note ℕ Outcome Range) → Member n (notes_of l.rows.items) → (j : ℕ) → Member j n.reads → Member j ns
     noted = read_noted l.rows.items o
 
-    every : (k : ℕ) → k < length l.book → Member k seeds
-    every k q =
-        let n = length-below (length l.book) in
-        fills seeds (below (length l.book)) d (λ j m. below_there (length l.book) j (all_in (λ i. i < length l.book) seeds b j m)) (omega (arith, n, e)) k (below_there (length l.book) k q)
+    every : (k : ℕ) → Member k ns → Member k seeds
+    every k m = (noted_member ns seeds k (fills (filter (has ns) seeds) ns (noted_apart ns seeds d) (λ j i. (noted_member ns seeds j i).1) (let q = numbers_length l.rows.items in omega (arith, q, e)) k m)).0
+
+-- the next number
+pub count_next : (ys xs : List ℕ) (i n : ℕ) → slice_get xs i ≡ Some n → length (filter (has ys) (take (i + 1) xs)) ≡ length (filter (has ys) (take i xs)) + (if has ys n then 1 else 0)
+count_next ys xs i n e = ap (λ (t : ℕ). length (filter (has ys) (take t xs))) (let a : i + 1 ≡ suc i = omega arith in a) ∙ by xs i e
+  where
+    more : (b : Bool) (x : ℕ) (us vs : List ℕ) (k : ℕ) → length us ≡ length vs + k → length (if b then x ∷ us else us) ≡ length (if b then x ∷ vs else vs) + k
+    more true x us vs k q = omega (arith, q)
+    more false x us vs k q = q
+
+    one : (b : Bool) (x : ℕ) → length (if b then x ∷ [] else []) ≡ 0 + (if b then 1 else 0)
+    one true x = refl
+    one false x = refl
+
+    by : (xs : List ℕ) (i : ℕ) → slice_get xs i ≡ Some n → length (filter (has ys) (take (suc i) xs)) ≡ length (filter (has ys) (take i xs)) + (if has ys n then 1 else 0)
+    by [] i e = absurd (cc e)
+    by (x ∷ xs) zero e = let d : x ≡ n = cc in one (has ys x) x ∙ ap (λ (m : ℕ). 0 + (if has ys m then 1 else 0)) d
+    by (x ∷ xs) (suc i) e = more (has ys x) x (filter (has ys) (take (suc i) xs)) (filter (has ys) (take i xs)) (if has ys n then 1 else 0) (by xs i e)
+
+-- a number has a row or not
+pub has_by_row : (rs : List (Row Outcome Range)) (n : ℕ) (v : Option ℕ) → IsRowOf rs n v → has (numbers_of rs) n ≡ is_some v
+has_by_row rs n None h = by (has (numbers_of rs) n) refl
+  where
+    by : (b : Bool) → has (numbers_of rs) n ≡ b → b ≡ false
+    by true e = absurd (h (there_has (numbers_of rs) n e))
+    by false e = refl
+has_by_row rs n (Some r) (x, e, b) = subst (λ (m : ℕ). has (numbers_of rs) m ≡ true) b (has_there (numbers_of rs) x.by (member_at (numbers_of rs) r x.by (get_map (λ (y : Row Outcome Range). y.by) rs r x e)))
 
 -- ---- as many notes as keys that have outcomes
 

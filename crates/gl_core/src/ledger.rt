@@ -1,22 +1,23 @@
 //! Notes by numbers.
-ghost use Rattle.std.specs.Prelude.{◌≡◌, ◌<◌, ◌-◌, ◌^◌, ◌++◌, ◌∷◌, ℕ, [], Some, IsTrue, length, map};
-ghost use Rattle.std.specs.Prelude.{slice_get, OnOk, OnErr, IfOk};
+ghost use Rattle.std.specs.Prelude.{◌≡◌, ◌<◌, ◌≤◌, ◌-◌, ◌^◌, ◌++◌, ◌∷◌, ℕ, [], Some, IsTrue};
+ghost use Rattle.std.specs.Prelude.{length, map, option_map, slice_get, OnOk, OnErr, IfOk};
 ghost use Rattle.gl_calculus.specs.Computation.Lists.{Member, AreDistinct};
-ghost use Rattle.gl_machine.specs.InOrder.{kept_after};
+ghost use Rattle.gl_machine.specs.InOrder.{AreOrdered, kept_after};
 ghost use Rattle.gl_calculus.specs.Evaluation.Key.{same_key};
 ghost use Rattle.gl_calculus.specs.Evaluation.Sound.{is_sound_key};
 ghost use Rattle.gl_plane.specs.Changes.{reaches};
 ghost use Rattle.gl_demand.specs.{View.key_tree, View.read_tree, Sound.AreSoundKeys, Walk.keys_of};
 ghost use Rattle.gl_core.specs.Numbers.{Each, named, numbers_of, AreNumbers, Grows, IsIndex};
 ghost use Rattle.gl_core.specs.{Numbers.IsRowOf, KeyNumbers.AreTold};
-ghost use Rattle.gl_core.specs.{State.IsSoundNote, Ledger.written, Ledger.IsLedger};
+ghost use Rattle.gl_core.specs.{State.IsSoundNote, Graph.fewer, Ledger.written, Ledger.IsLedger};
 
 use crate::book::{Book, is_top};
+use crate::graph::{Graph, affected, marks_of, shorten};
 use crate::index::{forget, give_place, place_in, put};
 use gl_cells::Hint;
 use gl_demand::{Key, Outcome, Read};
-use gl_plane::{Changes, NoMemory, Range, Share};
-use gl_support::{Row, keep_unmarked, mark};
+use gl_plane::{NoMemory, Range, Share};
+use gl_support::{Row, keep_unmarked};
 use std::alloc::Global;
 
 /// The most notes of a ledger.
@@ -29,12 +30,19 @@ pub struct Ledger {
     pub rows: Vec<Row<Outcome, Range>>,
     // the places of the keys' rows
     pub row_of: Vec<u32>,
+    // none before it is first searched
+    pub graph: Option<Graph>,
 }
 
 // One call wherever it is dropped, in place of one for each part.
 impl Drop for Ledger {
     fn drop(self) {
-        let Ledger { book, rows, row_of } = self;
+        let Ledger {
+            book,
+            rows,
+            row_of,
+            graph,
+        } = self;
     }
 }
 
@@ -62,6 +70,7 @@ impl Ledger {
             book: Book::new(alloc),
             rows: Vec::new(alloc),
             row_of: Vec::new(alloc),
+            graph: None,
         }
     }
 
@@ -205,34 +214,41 @@ impl Ledger {
 
     /// Drops the notes that rest on something that was changed. After `NoMemory` the notes are as
     /// before.
-    pub fn keep(&mut self, alloc: Global, changes: &Changes) -> Result<(), NoMemory>
-        requires { IsLedger self.old }
+    pub fn keep(&mut self, alloc: Global, changes: &[Range]) -> Result<(), NoMemory>
+        requires kept { IsLedger self.old }
+        requires ordered { AreOrdered [] (written self.old) }
         ensures ok { OnOk result (
             written self.new ≡ kept_after same_key (reaches changes.now) [] (written self.old)) }
         ensures err { OnErr result (written self.new ≡ written self.old) }
         ensures kept { IsLedger self.new }
     {
-        let gone = mark(alloc, &self.rows, self.book.len(), changes)?;
+        let numbers = self.book.len();
+        let gone = affected(alloc, &mut self.graph, &self.rows, numbers, changes)?;
+        let marks = marks_of(alloc, numbers, &gone)?;
         let count = self.rows.len();
-        keep_unmarked(&mut self.rows, &gone);
+        keep_unmarked(&mut self.rows, &marks);
         if self.rows.len() == count {
             // each note has the place that it had
             return Ok(());
         }
-        number_rows(&mut self.row_of, &self.rows);
+        self.renumber(count);
         Ok(())
     }
 
-    /// The places of the rows anew, some of which are gone.
-    pub fn renumber(&mut self)
+    /// The places of the rows anew, where some of so many are gone.
+    pub fn renumber(&mut self, count: usize)
         requires there { Each (λ n. n < length self.old.row_of.items)
             (numbers_of self.old.rows.items) }
         requires apart { AreDistinct (numbers_of self.old.rows.items) }
         requires few { length self.old.rows.items < 2 ^ 32 - 1 }
+        requires fewer { length self.old.rows.items ≤ count }
         ensures index { IsIndex (numbers_of self.new.rows.items) self.new.row_of.items }
         ensures rows { self.new.rows.items ≡ self.old.rows.items }
         ensures book { self.new.book ≡ self.old.book }
+        ensures graph { self.new.graph
+            ≡ option_map (fewer (count - length self.old.rows.items)) self.old.graph }
     {
         number_rows(&mut self.row_of, &self.rows);
+        shorten(&mut self.graph, count - self.rows.len());
     }
 }

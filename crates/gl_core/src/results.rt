@@ -17,7 +17,7 @@ use crate::converting::copy_ledger;
 use crate::ledger::Ledger;
 use crate::outcomes::row_outcome;
 use gl_demand::{Key, Outcome};
-use gl_plane::{Changes, NoMemory};
+use gl_plane::{NoMemory, Range};
 use std::alloc::Global;
 use std::marker::Model;
 
@@ -142,7 +142,7 @@ impl Results {
     /// Drops the notes that rest on something that was changed: each that looked at a changed
     /// address, and each that read a key whose note goes. After `NoMemory` the results are as
     /// before.
-    pub fn keep(&mut self, alloc: Global, changes: &Changes) -> Result<(), NoMemory>
+    pub fn keep(&mut self, alloc: Global, changes: &[Range]) -> Result<(), NoMemory>
         ensures ok { OnOk result (
             self.new ≡ kept_after same_key (reaches changes.now) [] self.old) }
         ensures the { OnOk result (AreTheKept (reaches changes.now) self.old self.new) }

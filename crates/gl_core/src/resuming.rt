@@ -143,6 +143,20 @@ fn with_marked(
     Ok(all)
 }
 
+/// How many of the numbers have notes.
+fn count_noted(ledger: &Ledger, numbers: &[u32]) -> usize
+    requires { IsLedger ledger.now }
+    ensures { result ≡ length (filter (has (numbers_of ledger.now.rows.items)) numbers.now) }
+{
+    let mut count = 0usize;
+    for i in 0..numbers.len() {
+        if ledger.row(numbers[i]).is_some() {
+            count += 1;
+        }
+    }
+    count
+}
+
 /// The numbers of the seeds, and those that they reach through notes.
 fn reached(alloc: Global, seeds: Vec<u32>, ledger: &Ledger) -> Result<Vec<u32>, NoMemory>
     requires kept { IsLedger ledger.now }
@@ -151,8 +165,8 @@ fn reached(alloc: Global, seeds: Vec<u32>, ledger: &Ledger) -> Result<Vec<u32>, 
     requires apart { AreDistinct seeds.items }
     ensures { IfOk result (λ all. IsClosure ledger.now seeds.items all.items) }
 {
-    if seeds.len() == ledger.book.len() {
-        // each key is a seed
+    if count_noted(ledger, &seeds) == ledger.rows.len() {
+        // each note is that of a seed
         return Ok(seeds);
     }
     let mut marks = wanted(alloc, &ledger.rows, ledger.book.len(), &seeds)?;

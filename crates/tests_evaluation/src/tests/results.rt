@@ -10,7 +10,7 @@ use crate::tests::runs::{Sight, fresh, outcome_seen, run, seen_as};
 use crate::tests::turns::{cell, evaluator_of};
 use gl_core::{Quiet, Results};
 use gl_demand::{Evaluator, Silent, Steps};
-use gl_plane::{Changes, Oracle};
+use gl_plane::Oracle;
 use std::alloc::Global;
 use std::test::Fail;
 use tests_common::{range, sheet_of};
@@ -78,10 +78,9 @@ pub fn kept_after(at: &Evaluator<'_>, results: Results, place: &str) -> Result<R
     requires { AreTrue same_key (program (world_of at.now)) results }
     ensures { IfOk result (AreTrue same_key (program (world_of at.now))) }
 {
-    let mut changes = Changes::new(at.alloc);
-    changes.add(&[range(place)?])?;
+    let changed = range(place)?;
     let mut kept = results;
-    kept.keep(at.alloc, &changes)?;
+    kept.keep(at.alloc, &[changed])?;
     Ok(kept)
 }
 
@@ -200,6 +199,46 @@ fn stay(alloc: Global, row: &Staying) -> Result<bool, Fail> {
 fn outcomes_stay(rt: HostRuntime) -> Result<(), Fail> {
     for row in STAYING {
         assert!(rt; stay(rt.alloc(), row)?, "{}", row.0);
+    }
+    Ok(())
+}
+
+/// A range, one that changes after a run behind that, and the cells whose outcomes stay then.
+type StayingAgain = (&'static str, &'static str, &'static [(&'static str, i64)]);
+
+const STAYING_AGAIN: &[StayingAgain] = &[
+    // C1 is noted anew, and rests on A1 as before
+    ("C1:C1", "A1:A1", &[("D1", 7)]),
+    ("A1:A1", "B1:B1", &[("D1", 7)]),
+    ("A1:D1", "C1:C1", &[("B1", 6), ("D1", 7)]),
+    ("D1:D1", "A1:D1", &[]),
+    ("B1:B1", "E5:F9", &[("B1", 6), ("C1", 7), ("D1", 7)]),
+];
+
+/// The results of a run behind one change that stay behind another have just these outcomes.
+fn stay_again(at: &Evaluator<'_>, row: &StayingAgain, kind: u8) -> Result<bool, Fail>
+    requires { kind ≤ 2 }
+{
+    let (first, second, want) = *row;
+    let kept = results_behind(at, CHAIN, first, kind)?;
+    let ran = run_with(at, CHAIN, kept, kind)?;
+    have(&kept_after(at, ran.results, second)?, want)
+}
+
+#[test]
+fn outcomes_stay_again(rt: HostRuntime) -> Result<(), Fail> {
+    let w = Oracle::new(rt.alloc());
+    let cells = sheet_of(rt.alloc(), LINES)?;
+    let at = evaluator_of(rt.alloc(), &cells, &w);
+    for row in STAYING_AGAIN {
+        for kind in 0u8..3 {
+            assert!(rt;
+                stay_again(&at, row, kind)?,
+                "{} and {} by {kind}",
+                row.0,
+                row.1
+            );
+        }
     }
     Ok(())
 }

@@ -1,4 +1,4 @@
-use Rattle.std.proofs.Common.{◌≡◌, ◌<◌, List, nat_eq, filter, length, sym, ap, subst, arith, ◌∙◌}
+use Rattle.std.proofs.Common.{◌≡◌, ◌<◌, ◌+◌, ◌-◌, List, Option, IfSome, nat_eq, filter, length, sym, ap, subst, arith, ◌∙◌}
 use Rattle.std.specs.List.{list_all}
 use Rattle.gl_calculus.specs.Computation.Lists.{AreDistinct}
 use Rattle.gl_calculus.specs.Grid.Grid.{Range}
@@ -6,9 +6,12 @@ use Rattle.gl_calculus.proofs.Tests.{both}
 use Rattle.gl_support.specs.declared.row.Row.{Row}
 use Rattle.gl_demand.specs.declared.outcome.Outcome.{Outcome}
 use Rattle.gl_core.specs.Numbers.{Each, numbers_of}
+use Rattle.gl_core.specs.Graph.{IsGraphOf}
 use Rattle.gl_core.specs.Table.{is_row, has_outcome}
+use Rattle.gl_core.specs.declared.graph.Graph.{Graph}
 use Rattle.gl_core.proofs.Filtered.{numbers_there, numbers_apart, some_there, some_rows, filter_apart, filter_length}
 use Rattle.gl_core.proofs.Cores.{indexed}
+use Rattle.gl_core.proofs.Graphed.{fewer_rows}
 use Rattle.gl_core.proofs.Whole.{all_kept}
 use Rattle.gl_core.proofs.quiet.keep_known.Goals as goal
 
@@ -35,17 +38,29 @@ renumber-requires-clause-few c =
     let s : length c.keep_resolved.new.rows.items ≡ length (filter p l.rows.items) = ap length c.keep_resolved.ensures in
     omega (arith, n, s, c.requires.ledger.few)
 
+pub renumber-requires-clause-fewer : goal.renumber-requires-clause-fewer
+renumber-requires-clause-fewer c =
+    let l = c.args.ledger.now in
+    let p = λ (r : Row Outcome Range). has_outcome c.args.entries.now r.by in
+    let n = filter_length p l.rows.items in
+    omega (arith, n, ap length c.keep_resolved.ensures, c.len-count.ensures, l.rows.ok.0)
+
 pub returns-then-are_resolved-clause-rows : goal.returns-then-are_resolved-clause-rows
 returns-then-are_resolved-clause-rows c =
     let l = c.args.ledger.now in
     let e = c.args.entries.now in
-    let b = both (nat_eq (length e.known.items) c.len.result) (list_all is_row e.statuses.items.items) (sym c.are_resolved.ensures ∙ c.if-are_resolved.true) in
-    all_kept l e c.requires b.1 c.len.result b.0 (c.len.ensures ∙ l.rows.ok.0)
+    let b = both (nat_eq (length e.known.items) c.len-count.result) (list_all is_row e.statuses.items.items) (sym c.are_resolved.ensures ∙ c.if-are_resolved.true) in
+    all_kept l e c.requires b.1 c.len-count.result b.0 (c.len-count.ensures ∙ l.rows.ok.0)
 
 pub returns-clause-rows : goal.returns-clause-rows
 returns-clause-rows c = c.renumber.ensures.rows ∙ c.keep_resolved.ensures
 
 pub returns-clause-kept : goal.returns-clause-kept
 returns-clause-kept c =
+    let l = c.args.ledger.now in
     let p = λ (r : Row Outcome Range). has_outcome c.args.entries.now r.by in
-    some_rows c.args.ledger.now c.renumber.new.self p c.requires.ledger c.renumber.ensures.book (c.renumber.ensures.rows ∙ c.keep_resolved.ensures) c.renumber.ensures.index
+    let n = filter_length p l.rows.items in
+    let gone = c.len-count.result - length c.keep_resolved.new.rows.items in
+    let all : length l.rows.items ≡ length (filter p l.rows.items) + gone = omega (arith, n, ap length c.keep_resolved.ensures, c.len-count.ensures, l.rows.ok.0) in
+    some_rows l c.renumber.new.self p c.requires.ledger c.renumber.ensures.book (c.renumber.ensures.rows ∙ c.keep_resolved.ensures) c.renumber.ensures.index
+    (subst (λ (g : Option Graph). IfSome g (IsGraphOf (filter p l.rows.items))) (sym c.renumber.ensures.graph) (fewer_rows p l.rows.items l.graph gone all c.requires.ledger.graph))

@@ -10,7 +10,7 @@ use Rattle.gl_core.proofs.ledger.Ledger.add.Goals as goal
 pub returns-in_err-push-clause-kept : goal.returns-in_err-push-clause-kept
 returns-in_err-push-clause-kept c =
     let l = c.args.self.now in
-    same_rows l (record { book = l.book; rows = c.push.new.self; row_of = c.give_place.new.places }) c.requires.kept refl c.in_err-push.ensures.items (index_read (numbers_of l.rows.items) l.row_of.items c.give_place.new.places.items c.give_place.ensures.same c.requires.kept.index)
+    same_rows l (record { book = l.book; rows = c.push.new.self; row_of = c.give_place.new.places; graph = l.graph }) c.requires.kept refl c.in_err-push.ensures.items (index_read (numbers_of l.rows.items) l.row_of.items c.give_place.new.places.items c.give_place.ensures.same c.requires.kept.index) c.requires.kept.graph
 
 pub returns-clause-kept : goal.returns-clause-kept
 returns-clause-kept c =
@@ -20,4 +20,4 @@ returns-clause-kept c =
     let i = index_push (numbers_of l.rows.items) c.give_place.new.places.items c.args.by read c.in_ok-give_place.ensures.place c.requires.new in
     let n : c.len-r.result ≡ length (numbers_of l.rows.items) = c.len-r.ensures ∙ l.rows.ok.0 ∙ sym (numbers_length l.rows.items) in
     let at : c.put.new.places.items ≡ set c.give_place.new.places.items c.args.by (length (numbers_of l.rows.items) + 1) = c.put.ensures ∙ ap (λ m. set c.give_place.new.places.items c.args.by (m + 1)) n in
-    one_row l (record { book = l.book; rows = c.push.new.self; row_of = c.put.new.places }) x c.requires.kept refl c.in_ok-push.ensures.items (subst (IsIndex (numbers_of l.rows.items ++ c.args.by ∷ [])) (sym at) i) (c.requires.there, c.requires.reads) c.requires.sound (omega (arith, c.len-r.ensures, l.rows.ok.0, c.if-r-ge-MOST.false))
+    one_row l (record { book = l.book; rows = c.push.new.self; row_of = c.put.new.places; graph = l.graph }) x c.requires.kept refl c.in_ok-push.ensures.items (subst (IsIndex (numbers_of l.rows.items ++ c.args.by ∷ [])) (sym at) i) (c.requires.there, c.requires.reads) c.requires.sound (omega (arith, c.len-r.ensures, l.rows.ok.0, c.if-r-ge-MOST.false)) c.requires.kept.graph

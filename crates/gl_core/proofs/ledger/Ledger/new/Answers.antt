@@ -15,4 +15,5 @@ returns-clause-kept c =
       index = subst (λ rs. IsIndex (numbers_of rs) c.new-3.result.items) rows (subst (λ (ns : List ℕ). IsIndex [] ns) (sym c.new-3.ensures.items) none_indexed);
       sound = subst (λ rs. AreSoundNotes (row_notes c.new.result rs)) rows (λ n m. absurd m);
       few = omega (arith, ap length c.new-2.ensures.items);
+      graph = tt;
     }
