@@ -2,7 +2,6 @@
 use Rattle.std.proofs.Common.{◌≡◌, ℕ, ◌+◌, ◌-◌, ◌^◌, ◌≤◌, ◌<◌, List, [], ◌∷◌, ◌||◌, Bool, length, inl, inr, true, false, cond, Some, refl, sym, ap, subst, ◌∙◌, arith}
 use Rattle.gl_calculus.specs.Computation.Lists.{Member, MoreThan}
 use Rattle.gl_machine.specs.Quiet.{IsQuiet}
-use Rattle.gl_machine.specs.InOrder.{AreOrdered}
 use Rattle.gl_calculus.specs.Computation.Demanded.{Demanded}
 use Rattle.gl_machine.specs.Machine.{Entry, Status, Idle, Waiting, Resolved, at}
 use Rattle.gl_calculus.specs.Computation.Notes.{Note, Here}
@@ -142,8 +141,8 @@ module _ (W : World) (core : Held) (h : IsStarted W core) (n m : ℕ) where
   pub few_demanded : (MoreThan max_demanded (Demanded (program W) (seeds_of core)) → ⊥) → SpendsWork W → ⊥
   few_demanded f more = f (subst (λ ks. MoreThan max_demanded (Demanded (program W) ks)) (sym h.seeds) more)
 
-  pub still_started : (q : Held) → seeds_of q ≡ seeds_of core → IsFor W q → AreOrdered [] (notes_in q) → IsStarted W q
-  still_started q s f o = record { seeds = s ∙ h.seeds; ordered = o; for_it = f }
+  pub still_started : (q : Held) → seeds_of q ≡ seeds_of core → IsFor W q → IsStarted W q
+  still_started q s f = record { seeds = s ∙ h.seeds; for_it = f }
 
   -- a demanded key without a note isn't kept
   anew : (b : Table × List Addr) → AreKept b W.oracle (notes_in core) → (k : K.Key) → IsUnnoted W (seeds_of core) (is_noted (notes_in core)) k → IsAnew W b k

@@ -1,12 +1,11 @@
 //! One round over the whole sheet.
 ghost use Rattle.gl_calculus.specs.Evaluation.World.{world};
-ghost use Rattle.std.specs.Prelude.{◌≡◌, [], IfOk, IfErr, Err, ◌⊎◌};
-ghost use Rattle.gl_machine.specs.InOrder.{AreOrdered};
+ghost use Rattle.std.specs.Prelude.{◌≡◌, IfOk, IfErr, Err, ◌⊎◌};
 ghost use Rattle.gl_calculus.specs.Formulas.Formula.{Version as PlainVersion, Cells as Sheet};
 ghost use Rattle.gl_calculus.specs.Formulas.Formula.{formula_addresses};
 ghost use Rattle.gl_calculus.specs.Values.Value.{Oracle as Permits};
 ghost use Rattle.gl_calculus.specs.Grid.Grid.{AreInOrder};
-ghost use Rattle.gl_core.specs.State.{notes_in, IsFor};
+ghost use Rattle.gl_core.specs.State.{IsFor};
 ghost use Rattle.gl_calc.specs.{Kept.IsKeptBy, Starting.IsEvaluated, Round.Gives, Round.Fails};
 ghost use Rattle.gl_calc.specs.{Engine.rule_in};
 
@@ -51,7 +50,6 @@ fn finished(
     w: &Oracle,
 ) -> Result<Sizes, RoundFault>
     requires placed { AreInOrder places.now }
-    requires ordered { AreOrdered [] (notes_in quiet) }
     requires for_it { (version : PlainVersion)
         × (S : Sheet)
         × (v : Permits)

@@ -78,7 +78,7 @@ rest_is s x m =
     let key : x.key ≡ j = ap (λ (y : Note ℕ (Unit {0}) Range). y.key) e ∙ z in
     e ∙ ap (λ n. note n (items_at s.reads.items j) (items_at s.looked.items j)) z ∙ ap (λ n. note n (items_at s.reads.items n) (items_at s.looked.items n)) (sym key)
 
-of_row : (rs : List (Row Outcome Range)) (n : Note ℕ Outcome Range) → Member n (notes_of rs) → (r : Row Outcome Range) × Member r rs × (n ≡ note_of r)
+pub of_row : (rs : List (Row Outcome Range)) (n : Note ℕ Outcome Range) → Member n (notes_of rs) → (r : Row Outcome Range) × Member r rs × (n ≡ note_of r)
 of_row [] n m = absurd m
 of_row (r ∷ rs) n (inl e) = (r, inl refl, e)
 of_row (r ∷ rs) n (inr m) = let (x, i, e) = of_row rs n m in (x, inr i, e)

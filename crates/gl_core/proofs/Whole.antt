@@ -3,7 +3,7 @@ use Rattle.std.proofs.Common.{◌≡◌, ℕ, zero, suc, ◌+◌, ◌<◌, ◌�
 use Rattle.std.specs.List.{list_all}
 use Rattle.gl_calculus.specs.Computation.Lists.{Member, AreDistinct}
 use Rattle.gl_calculus.specs.Computation.Notes.{Note, Here}
-use Rattle.gl_machine.specs.InOrder.{AreOrdered}
+use Rattle.gl_machine.specs.Remembered.{AreClosed}
 use Rattle.laws_calculus.proofs.Forecast.Nodes.{filter_part}
 use Rattle.laws_calculus.proofs.Query.Quiet.{distinct_within}
 use Rattle.gl_calculus.specs.Grid.Grid.{Range}
@@ -26,7 +26,8 @@ use Rattle.gl_core.proofs.Numbered.{get_map}
 use Rattle.gl_core.proofs.Filtered.{numbers_length}
 use Rattle.gl_core.proofs.Cores.{indexed}
 use Rattle.gl_core.proofs.Resolved.{has_at, known_apart}
-use Rattle.gl_core.proofs.Marks.{has_there, there_has, read_noted}
+use Rattle.gl_core.proofs.Marks.{has_there, there_has}
+use Rattle.gl_core.proofs.Queued.{read_noted}
 
 -- distinct members of a list that are as many as it has are all of it
 fills : (xs ys : List ℕ) → AreDistinct xs → ((n : ℕ) → Member n xs → Member n ys) → length ys ≤ length xs → (n : ℕ) → Member n ys → Member n xs
@@ -58,8 +59,8 @@ module _ (ys : List ℕ) where
       by false f = f
 
 -- then nothing else can be reached
-pub all_seeds : (l : Ledger) → IsLedger l → AreOrdered [] (notes_of l.rows.items) → (seeds : List ℕ) → Each (λ n. n < length l.book) seeds → AreDistinct seeds → length (filter (has (numbers_of l.rows.items)) seeds) ≡ length l.rows.items → IsClosure l seeds seeds
-all_seeds l h o seeds b d e = record {
+pub all_seeds : (l : Ledger) → IsLedger l → AreClosed (notes_of l.rows.items) → (seeds : List ℕ) → Each (λ n. n < length l.book) seeds → AreDistinct seeds → length (filter (has (numbers_of l.rows.items)) seeds) ≡ length l.rows.items → IsClosure l seeds seeds
+all_seeds l h c seeds b d e = record {
   rest = [];
   first = sym (append-nil seeds);
   below = b;
@@ -73,7 +74,7 @@ all_seeds l h o seeds b d e = record {
     ns = numbers_of l.rows.items
 
     noted : (n : Note ℕ Outcome Range) → Member n (notes_of l.rows.items) → (j : ℕ) → Member j n.reads → Member j ns
-    noted = read_noted l.rows.items o
+    noted = read_noted l.rows.items c
 
     every : (k : ℕ) → Member k ns → Member k seeds
     every k m = (noted_member ns seeds k (fills (filter (has ns) seeds) ns (noted_apart ns seeds d) (λ j i. (noted_member ns seeds j i).1) (let q = numbers_length l.rows.items in omega (arith, q, e)) k m)).0

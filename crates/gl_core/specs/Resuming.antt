@@ -1,9 +1,10 @@
 -- What a round knows at its start.
-use Rattle.std.specs.Prelude.{◌≡◌, ℕ, ◌<◌, ◌++◌, List, length}
+use Rattle.std.specs.Prelude.{◌≡◌, ℕ, ◌<◌, ◌++◌, List, Bool, length}
 use Rattle.gl_calculus.specs.Computation.Lists.{Member, AreDistinct}
 use Rattle.gl_calculus.specs.Computation.Notes.{Note, IsReached}
 use Rattle.gl_calculus.specs.Grid.Grid.{Range}
 use Rattle.gl_calculus.specs.Evaluation.Key as K
+use Rattle.gl_support.specs.Reach.{is_marked, has}
 use Rattle.gl_support.specs.Rows.{notes_of}
 use Rattle.gl_demand.specs.declared.outcome.Outcome.{Outcome}
 use Rattle.gl_core.specs.Numbers.{Each, keys_at, numbers_of}
@@ -24,3 +25,23 @@ pub record IsResumed (l : Ledger) (seeds : List K.Key) (all : List ℕ) : Type 0
   pub numbers : List ℕ
   pub seeded : keys_at l.book numbers ≡ seeds
   pub closure : IsClosure l numbers all
+
+-- distinct numbers below a count, of which each is marked, and no other is
+pub record IsQueue (count : ℕ) (marks : List Bool) (all : List ℕ) : Type 0 where
+  pub below : Each (λ n. n < count) all
+  pub apart : AreDistinct all
+  pub marked : (k : ℕ) → is_marked marks k ≡ has all k
+
+-- some of the numbers came to a list, which has all of them then
+pub record Gets (numbers old new : List ℕ) : Type 0 where
+  pub more : List ℕ
+  pub first : new ≡ old ++ more
+  pub from : (k : ℕ) → Member k more → Member k numbers
+  pub all : (k : ℕ) → Member k numbers → Member k new
+
+-- the same of what a number's note read
+pub record GetsReads (notes : List (Note ℕ Outcome Range)) (number : ℕ) (old new : List ℕ) : Type 0 where
+  pub more : List ℕ
+  pub first : new ≡ old ++ more
+  pub from : (k : ℕ) → Member k more → (n : Note ℕ Outcome Range) × Member n notes × (n.key ≡ number) × Member k n.reads
+  pub all : (n : Note ℕ Outcome Range) → Member n notes → n.key ≡ number → (k : ℕ) → Member k n.reads → Member k new

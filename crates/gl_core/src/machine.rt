@@ -190,7 +190,6 @@ impl Core {
             (program (world_of evaluator.now)) results }
         ensures seeds { IfOk result (λ core. seeds_of core ≡ map (K.Cell V.Top) places.now) }
         ensures notes { IfOk result (λ core. notes_in core ≡ results) }
-        ensures ordered { IfOk result (λ core. AreOrdered [] (notes_in core)) }
         ensures for_it { IfOk result (λ core.
             IsFor (world_of evaluator.now) core) }
         ensures work { IfErr result (λ e.

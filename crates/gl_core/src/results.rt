@@ -1,13 +1,11 @@
 //! The results of a round that are kept for the next one.
 ghost use Rattle.std.specs.Prelude.{◌≡◌, [], length, option_map, OnOk, OnErr, IfOk, IfSome};
 ghost use Rattle.std.specs.Option.{option_copied};
-ghost use Rattle.gl_machine.specs.InOrder.{AreOrdered, kept_after};
 ghost use Rattle.gl_calculus.specs.Computation.Notes.{note_keys};
 ghost use Rattle.gl_calculus.specs.Computation.Lists.{AreDistinct};
 ghost use Rattle.gl_calculus.specs.Computation.Query.{Ready};
 ghost use Rattle.gl_machine.specs.Remembered.{AreClosed};
 ghost use Rattle.gl_machine.specs.Remembered.{AreTheKept};
-ghost use Rattle.gl_calculus.specs.Evaluation.Key.{same_key};
 ghost use Rattle.gl_plane.specs.Changes.{reaches};
 ghost use Rattle.gl_demand.specs.{View.key_tree, View.outcome_tree, Sound.IsSoundFound};
 ghost use Rattle.gl_core.specs.{Ledger.written, Ledger.IsLedger, Results.outcome_in};
@@ -26,7 +24,7 @@ use std::marker::Model;
 const SPARE: u64 = 512;
 
 /// The notes of keys, each with the key's outcome, the keys that it read and the ranges that it
-/// looked at, in the order of noting: what a note read stands before it.
+/// looked at, in any order: what a note read has a note too.
 pub struct Results {
     ledger: Ledger,
     // of the keys that the round knew, its seeds first: guesses for the next one
@@ -100,7 +98,6 @@ impl Results {
     pub fn len(&self) -> usize
         ensures count { result ≡ length self.now }
         ensures apart { AreDistinct (note_keys self.now) }
-        ensures ordered { AreOrdered [] self.now }
     {
         self.ledger.rows.len()
     }
@@ -143,8 +140,6 @@ impl Results {
     /// address, and each that read a key whose note goes. After `NoMemory` the results are as
     /// before.
     pub fn keep(&mut self, alloc: Global, changes: &[Range]) -> Result<(), NoMemory>
-        ensures ok { OnOk result (
-            self.new ≡ kept_after same_key (reaches changes.now) [] self.old) }
         ensures the { OnOk result (AreTheKept (reaches changes.now) self.old self.new) }
         ensures closed { AreClosed self.old }
         ensures err { OnErr result (self.new ≡ self.old) }

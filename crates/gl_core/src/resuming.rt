@@ -1,15 +1,13 @@
 //! What a round knows at its start.
-ghost use Rattle.std.specs.Prelude.{◌≡◌, ◌<◌, ◌++◌, ◌&&◌, ◌∷◌, [], ℕ, List, All, Some, not};
-ghost use Rattle.std.specs.Prelude.{if◌then◌else◌, length, map, filter, slice_get, IfOk, OnOk};
-ghost use Rattle.std.specs.Prelude.{IfErr, IfSome, vec_len};
+ghost use Rattle.std.specs.Prelude.{◌≡◌, ◌<◌, ℕ, List, Some, length, map, filter, slice_get};
+ghost use Rattle.std.specs.Prelude.{IfOk, IfErr, IfSome};
 ghost use Rattle.gl_calculus.specs.Computation.Lists.{AreDistinct};
-ghost use Rattle.gl_machine.specs.InOrder.{AreOrdered};
+ghost use Rattle.gl_machine.specs.Remembered.{AreClosed};
 ghost use Rattle.gl_calculus.specs.Grid.Limits.{max_demanded};
-ghost use Rattle.gl_calculus.specs.Grid.Grid.{Range};
 ghost use Rattle.gl_calculus.specs.Evaluation.Key as K;
 ghost use Rattle.gl_calculus.specs.Values.Value as V;
-ghost use Rattle.gl_support.specs.{declared.row.Row.Row, Reach.is_marked, Reach.has, Rows.notes_of};
-ghost use Rattle.gl_demand.specs.{declared.outcome.Outcome.Outcome, Marks.mark_trees};
+ghost use Rattle.gl_support.specs.{Reach.has, Rows.notes_of};
+ghost use Rattle.gl_demand.specs.Marks.{mark_trees};
 ghost use Rattle.gl_demand.specs.View.{key_tree};
 ghost use Rattle.gl_core.specs.Numbers.{Each, numbers_of, AreNumbers, Grows};
 ghost use Rattle.gl_core.specs.{Ledger.written, Ledger.IsLedger, Marks.TellNothing, Table.IsCore};
@@ -18,11 +16,11 @@ ghost use Rattle.gl_core.specs.{Table.AreBegun, Resuming.IsClosure, Resuming.IsR
 use crate::answers::CoreFault;
 use crate::beginning::begun;
 use crate::book::Book;
+use crate::closure::closure;
 use crate::entries::Entries;
 use crate::ledger::Ledger;
-use gl_demand::{Key, MAX_DEMANDED, Outcome};
-use gl_plane::{Addr, NoMemory, Range};
-use gl_support::{Row, wanted};
+use gl_demand::{Key, MAX_DEMANDED};
+use gl_plane::{Addr, NoMemory};
 use gl_value::Env;
 use std::alloc::Global;
 
@@ -102,47 +100,6 @@ fn top_numbers(
     Ok(numbers)
 }
 
-/// None of these is marked any more.
-fn unmark(marks: &mut Vec<bool>, numbers: &[u32])
-    requires { All (λ k. k < vec_len marks.old) numbers.now }
-    ensures marks { (k : ℕ) → is_marked marks.new.items k
-        ≡ (is_marked marks.old.items k && not (has numbers.now k)) }
-    ensures size { vec_len marks.new ≡ vec_len marks.old }
-{
-    for n in numbers {
-        marks[*n as usize] = false;
-    }
-}
-
-/// The number too, where it is marked.
-fn add_marked(all: &mut Vec<u32>, marks: &[bool], n: u32) -> Result<(), NoMemory>
-    requires { n < length marks.now }
-    ensures { OnOk result
-        (all.new.items ≡ all.old.items ++ (if is_marked marks.now n then n ∷ [] else [])) }
-{
-    if marks[n as usize] {
-        all.push(n)?;
-    }
-    Ok(())
-}
-
-/// The numbers, and those of the rows that are marked.
-fn with_marked(
-    numbers: Vec<u32>,
-    marks: &[bool],
-    rows: &[Row<Outcome, Range>],
-) -> Result<Vec<u32>, NoMemory>
-    requires { Each (λ n. n < length marks.now) (numbers_of rows.now) }
-    ensures { IfOk result (λ all. all.items ≡ numbers.items
-        ++ numbers_of (filter (λ (r : Row Outcome Range). is_marked marks.now r.by) rows.now)) }
-{
-    let mut all = numbers;
-    for row in rows {
-        add_marked(&mut all, marks, row.by)?;
-    }
-    Ok(all)
-}
-
 /// How many of the numbers have notes.
 fn count_noted(ledger: &Ledger, numbers: &[u32]) -> usize
     requires { IsLedger ledger.now }
@@ -160,7 +117,7 @@ fn count_noted(ledger: &Ledger, numbers: &[u32]) -> usize
 /// The numbers of the seeds, and those that they reach through notes.
 fn reached(alloc: Global, seeds: Vec<u32>, ledger: &Ledger) -> Result<Vec<u32>, NoMemory>
     requires kept { IsLedger ledger.now }
-    requires ordered { AreOrdered [] (notes_of ledger.now.rows.items) }
+    requires closed { AreClosed (notes_of ledger.now.rows.items) }
     requires below { Each (λ n. n < length ledger.now.book) seeds.items }
     requires apart { AreDistinct seeds.items }
     ensures { IfOk result (λ all. IsClosure ledger.now seeds.items all.items) }
@@ -169,9 +126,7 @@ fn reached(alloc: Global, seeds: Vec<u32>, ledger: &Ledger) -> Result<Vec<u32>, 
         // each note is that of a seed
         return Ok(seeds);
     }
-    let mut marks = wanted(alloc, &ledger.rows, ledger.book.len(), &seeds)?;
-    unmark(&mut marks, &seeds);
-    with_marked(seeds, &marks, &ledger.rows)
+    closure(alloc, seeds, ledger)
 }
 
 /// The numbers that are known at the start.
@@ -182,7 +137,7 @@ fn known(
     ledger: &mut Ledger,
 ) -> Result<Vec<u32>, NoMemory>
     requires kept { IsLedger ledger.old }
-    requires ordered { AreOrdered [] (written ledger.old) }
+    requires closed { AreClosed (written ledger.old) }
     requires apart { AreDistinct (map (K.Cell V.Top) places.now) }
     ensures known { IfOk result
         (λ all. IsResumed ledger.new (map (K.Cell V.Top) places.now) all.items) }
@@ -202,7 +157,7 @@ pub fn resumed(
     ledger: &mut Ledger,
 ) -> Result<Entries, CoreFault>
     requires kept { IsLedger ledger.old }
-    requires ordered { AreOrdered [] (written ledger.old) }
+    requires closed { AreClosed (written ledger.old) }
     requires apart { AreDistinct (map (K.Cell V.Top) places.now) }
     ensures known { IfOk result
         (λ e. IsResumed ledger.new (map (K.Cell V.Top) places.now) e.known.items) }

@@ -1,12 +1,11 @@
 //! Runs that begin with the results of an earlier one, over one sheet.
 ghost use Rattle.gl_calculus.specs.Evaluation.Evaluation.{program};
-ghost use Rattle.std.specs.Prelude.{◌≤◌, [], IfOk};
-ghost use Rattle.gl_machine.specs.InOrder.{AreOrdered};
+ghost use Rattle.std.specs.Prelude.{◌≤◌, IfOk};
 ghost use Rattle.gl_machine.specs.Quiet.{IsQuiet};
 ghost use Rattle.gl_machine.specs.Remembered.{AreTrue};
 ghost use Rattle.gl_calculus.specs.Evaluation.Key.{same_key};
 ghost use Rattle.gl_demand.specs.Evaluators.{world_of};
-ghost use Rattle.gl_core.specs.State.{state_of, seeds_of, notes_in, IsFor};
+ghost use Rattle.gl_core.specs.State.{state_of, seeds_of, IsFor};
 
 use crate::tests::runs::{Sight, are_seeds, run, seen_as};
 use crate::tests::turns::cell;
@@ -75,7 +74,6 @@ pub fn resumed(at: &Evaluator<'_>, places: &[Addr], results: Results) -> Result<
     requires { AreTrue same_key (program (world_of at.now)) results }
     ensures for_it { IfOk result (λ core.
         IsFor (world_of at.now) core) }
-    ensures ordered { IfOk result (λ core. AreOrdered [] (notes_in core)) }
 {
     if places.len() > MAX_DEMANDED {
         return Err("too many seeds".into());
@@ -101,7 +99,6 @@ pub fn seen_of(alloc: Global, quiet: &Quiet, count: usize) -> Result<Vec<Sight>,
 
 /// The results of a run: they are true.
 fn results_of(at: &Evaluator<'_>, quiet: Quiet) -> Results
-    requires ordered { AreOrdered [] (notes_in quiet) }
     requires quiet { IsQuiet same_key (program (world_of at.now)) (seeds_of quiet) (state_of quiet) }
     requires for_it { IsFor (world_of at.now) quiet }
     ensures { AreTrue same_key (program (world_of at.now)) result }

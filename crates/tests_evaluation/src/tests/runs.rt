@@ -1,8 +1,7 @@
 //! Runs of a core over a sheet, by each pick rule.
 ghost use Rattle.gl_calculus.specs.Evaluation.Evaluation.{program};
-ghost use Rattle.std.specs.Prelude.{◌≡◌, ◌≤◌, [], IfOk, IsTrue, map};
+ghost use Rattle.std.specs.Prelude.{◌≡◌, ◌≤◌, IfOk, IsTrue, map};
 ghost use Rattle.gl_calculus.specs.Computation.Lists.{Member, AreDistinct};
-ghost use Rattle.gl_machine.specs.InOrder.{AreOrdered};
 ghost use Rattle.gl_machine.specs.Quiet.{IsQuiet};
 ghost use Rattle.gl_machine.specs.Remembered.{AreTrue};
 ghost use Rattle.gl_calculus.specs.Evaluation.Key.{same_key};
@@ -139,8 +138,6 @@ pub fn run<L: Watch>(
     ensures seeds { IfOk result (λ q. seeds_of q ≡ seeds_of core) }
     ensures stays { IfOk result (λ q.
         IsFor (world_of at.now) q) }
-    ensures ordered { IfOk result (λ q.
-        AreOrdered [] (notes_in core) → AreOrdered [] (notes_in q)) }
 {
     let order = Order::new(by_kind);
     core.run_all(

@@ -27,7 +27,7 @@ pub resume-requires-clause-proper : goal.resume-requires-clause-proper
 resume-requires-clause-proper g c = λ k m. keys_proper (sheet c.args.evaluator.now.cells.now) c.requires.ordered k (subst (λ ps. Member k (map (Cell Top) ps)) c.requires.all m)
 
 pub run-requires-clause-started : goal.run-requires-clause-started
-run-requires-clause-started g c = record { seeds = c.in-Ok.ensures.seeds ∙ ap (map (Cell Top)) c.requires.all; ordered = c.in-Ok.ensures.ordered; for_it = c.in-Ok.ensures.for_it }
+run-requires-clause-started g c = record { seeds = c.in-Ok.ensures.seeds ∙ ap (map (Cell Top)) c.requires.all; for_it = c.in-Ok.ensures.for_it }
 
 pub returns-in-Ok-clause-steps : goal.returns-in-Ok-clause-steps
 returns-in-Ok-clause-steps g c =

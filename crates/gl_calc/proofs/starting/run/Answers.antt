@@ -12,7 +12,7 @@ returns-in-Ok-clause-evaluated g c =
     record {
       round = quiet_round W core h n m c.in-Ok.quiet c.in-Ok.ensures.quiet;
       finished = few_demanded W core h n m c.in-Ok.ensures.no_work;
-      started = still_started W core h n m c.in-Ok.quiet c.in-Ok.ensures.seeds c.in-Ok.ensures.stays (c.in-Ok.ensures.ordered h.ordered);
+      started = still_started W core h n m c.in-Ok.quiet c.in-Ok.ensures.seeds c.in-Ok.ensures.stays;
     }
 
 pub returns-in-Ok-clause-steps : goal.returns-in-Ok-clause-steps

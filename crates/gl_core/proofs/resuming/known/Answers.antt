@@ -1,21 +1,21 @@
-use Rattle.std.proofs.Common.{List, [], sym, subst}
+use Rattle.std.proofs.Common.{List, sym, subst}
 use Rattle.gl_calculus.specs.Computation.Lists.{AreDistinct}
-use Rattle.gl_machine.specs.InOrder.{AreOrdered}
+use Rattle.gl_machine.specs.Remembered.{AreClosed}
 use Rattle.gl_calculus.specs.Evaluation.Key as K
 use Rattle.gl_calculus.specs.Calculation.Memory.{Notes}
 use Rattle.gl_core.proofs.Places.{if_ok}
 use Rattle.gl_core.proofs.Cores.{written_grown}
 use Rattle.gl_core.proofs.Seeded.{apart_back}
-use Rattle.gl_core.proofs.Marks.{ordered_rows}
+use Rattle.gl_core.proofs.Queued.{closed_rows}
 use Rattle.gl_core.proofs.resuming.known.Goals as goal
 
-pub reached-requires-clause-ordered : goal.reached-requires-clause-ordered
-reached-requires-clause-ordered c =
+pub reached-requires-clause-closed : goal.reached-requires-clause-closed
+reached-requires-clause-closed c =
     let l = c.args.ledger.now in
     let l' = c.top_numbers.new.ledger in
     let g = c.top_numbers.ensures.grows in
     let h = c.top_numbers.ensures.kept in
-    ordered_rows l'.book h.book.apart l'.rows.items h.below [] tt (subst (λ (ns : Notes). AreOrdered [] ns) (sym (written_grown l l' g.0 c.requires.kept g.1 c.top_numbers.ensures.rows)) c.requires.ordered)
+    closed_rows l'.book h.book.apart l'.rows.items h.below (subst (λ (ns : Notes). AreClosed ns) (sym (written_grown l l' g.0 c.requires.kept g.1 c.top_numbers.ensures.rows)) c.requires.closed)
 
 pub reached-requires-clause-below : goal.reached-requires-clause-below
 reached-requires-clause-below c = c.in_ok-seeds.ensures.numbers.1

@@ -9,8 +9,8 @@ begun-requires-clause-apart c = c.in-Ok.ensures.known.closure.apart
 pub known-requires-clause-kept : goal.known-requires-clause-kept
 known-requires-clause-kept c = c.requires.kept
 
-pub known-requires-clause-ordered : goal.known-requires-clause-ordered
-known-requires-clause-ordered c = c.requires.ordered
+pub known-requires-clause-closed : goal.known-requires-clause-closed
+known-requires-clause-closed c = c.requires.closed
 
 pub known-requires-clause-apart : goal.known-requires-clause-apart
 known-requires-clause-apart c = c.requires.apart

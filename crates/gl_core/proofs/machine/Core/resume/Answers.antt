@@ -1,4 +1,4 @@
-use Rattle.std.proofs.Common.{◌≡◌, [], length, map, ap, sym, subst, ◌∙◌}
+use Rattle.std.proofs.Common.{◌≡◌, length, map, ap, sym, subst, ◌∙◌}
 use Rattle.gl_machine.specs.Remembered.{AreTrue}
 use Rattle.gl_calculus.specs.Values.Value.{Top}
 use Rattle.gl_calculus.specs.Evaluation.Key as K
@@ -7,7 +7,6 @@ use Rattle.gl_calculus.specs.Evaluation.Evaluation.{program}
 use Rattle.gl_calculus.specs.Calculation.Memory.{Notes}
 use Rattle.gl_ast.specs.View.{version_tree}
 use Rattle.gl_cells.specs.Sheet.{sheet}
-use Rattle.gl_machine.specs.InOrder.{AreOrdered}
 use Rattle.gl_core.specs.State.{first_keys, IsFor}
 use Rattle.gl_core.specs.Table.{table_of, held}
 use Rattle.gl_core.proofs.Numbered.{length-map}
@@ -15,14 +14,11 @@ use Rattle.gl_core.proofs.Resumed.{resumed_seeds, for_resumed, too_many}
 use Rattle.gl_core.proofs.machine.Core.resume.Goals as goal
 use Rattle.gl_demand.specs.Evaluators.{world_of}
 
-pub resumed-requires-clause-ordered : goal.resumed-requires-clause-ordered
-resumed-requires-clause-ordered c = c.into_ledger-ledger.ensures.results.ordered
+pub resumed-requires-clause-closed : goal.resumed-requires-clause-closed
+resumed-requires-clause-closed c = c.into_ledger-ledger.ensures.results.closed
 
 pub returns-in-Ok-clause-notes : goal.returns-in-Ok-clause-notes
 returns-in-Ok-clause-notes c = c.resumed.ensures.notes ∙ c.into_ledger-ledger.ensures.notes
-
-pub returns-in-Ok-clause-ordered : goal.returns-in-Ok-clause-ordered
-returns-in-Ok-clause-ordered c = subst (λ (ns : Notes). AreOrdered [] ns) (sym c.resumed.ensures.notes) c.into_ledger-ledger.ensures.results.ordered
 
 pub returns-in-Ok-clause-seeds : goal.returns-in-Ok-clause-seeds
 returns-in-Ok-clause-seeds c =

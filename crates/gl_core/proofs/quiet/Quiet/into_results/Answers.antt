@@ -5,13 +5,13 @@ use Rattle.gl_calculus.specs.Calculation.Memory.{Notes}
 use Rattle.gl_calculus.specs.Evaluation.World.{world}
 use Rattle.gl_core.specs.Results.{AreResults}
 use Rattle.gl_core.proofs.Filtered.{notes_apart}
-use Rattle.gl_core.proofs.Kept.{the_notes, resolved_ordered}
+use Rattle.gl_core.proofs.Kept.{the_notes, resolved_closed}
 use Rattle.gl_core.proofs.quiet.Quiet.into_results.Goals as goal
 
 pub of-requires-clause-results : goal.of-requires-clause-results
 of-requires-clause-results c =
     let (version, S, w, h) = c.requires.for_it in
-    subst (λ (ns : Notes). AreResults ns) (sym c.resolved_notes-ledger.ensures.kept) (resolved_ordered (world version S w) c.args.self h c.requires.ordered c.resolved_notes-ledger.ensures.sound)
+    subst (λ (ns : Notes). AreResults ns) (sym c.resolved_notes-ledger.ensures.kept) (resolved_closed (world version S w) c.args.self h c.resolved_notes-ledger.ensures.sound)
 
 pub returns-clause-notes : goal.returns-clause-notes
 returns-clause-notes c = λ version S w f q.

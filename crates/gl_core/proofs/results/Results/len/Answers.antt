@@ -1,6 +1,5 @@
-use Rattle.std.proofs.Common.{[], length, ap, sym, subst, ◌∙◌}
+use Rattle.std.proofs.Common.{length, ap, sym, subst, ◌∙◌}
 use Rattle.gl_calculus.specs.Computation.Lists.{AreDistinct}
-use Rattle.gl_machine.specs.InOrder.{AreOrdered}
 use Rattle.gl_calculus.specs.Computation.Notes.{note_keys}
 use Rattle.gl_calculus.specs.Calculation.Memory.{Notes}
 use Rattle.gl_core.proofs.Filtered.{notes_apart, length-written}
@@ -13,6 +12,3 @@ returns-clause-count c =
 
 pub returns-clause-apart : goal.returns-clause-apart
 returns-clause-apart c = subst (λ (ns : Notes). AreDistinct (note_keys ns)) c.self.view_is (notes_apart c.self.inside.ledger c.self.invariant.0)
-
-pub returns-clause-ordered : goal.returns-clause-ordered
-returns-clause-ordered c = subst (λ (ns : Notes). AreOrdered [] ns) c.self.view_is c.self.invariant.1.ordered

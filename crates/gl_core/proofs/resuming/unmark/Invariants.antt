@@ -1,9 +1,0 @@
-use Rattle.std.proofs.Common.{◌≡◌, ◌&&◌, not, ℕ, take, vec_len}
-use Rattle.gl_support.specs.Reach.{is_marked, has}
-use Rattle.gl_core.proofs.resuming.unmark.Given as goal
-
-abbrev pub invariant-loop-n : goal.invariant-loop-n
-invariant-loop-n l = record {
-  marks : (k : ℕ) → is_marked l.marks.items k ≡ (is_marked l.fn.marks.items k && not (has (take l.n-index l.numbers) k));
-  size : vec_len l.marks ≡ vec_len l.fn.marks;
-}
