@@ -1,16 +1,13 @@
 -- Numbers in lists, and the numbers of rows.
-use Rattle.std.proofs.Common.{◌≡◌, ◌⊎◌, ℕ, ◌<◌, Bool, true, false, ◌||◌, nat_eq, List, [], ◌∷◌, ◌++◌, length, refl, sym, ap, subst, inl, inr, eqb-true, eq-eqb}
-use Rattle.gl_calculus.specs.Computation.Lists.{Member, AreDistinct}
+use Rattle.std.proofs.Common.{◌≡◌, ◌⊎◌, ℕ, Bool, true, false, ◌||◌, nat_eq, List, [], ◌∷◌, ◌++◌, refl, ap, inl, inr, eqb-true, eq-eqb}
+use Rattle.gl_calculus.specs.Computation.Lists.{Member}
 use Rattle.gl_calculus.specs.Computation.Notes.{Note}
-use Rattle.gl_machine.specs.InOrder.{AreOrdered}
 use Rattle.gl_calculus.specs.Grid.Grid.{Range}
-use Rattle.gl_calculus.specs.Evaluation.Key as K
 use Rattle.gl_support.specs.Reach.{has}
 use Rattle.gl_support.specs.Rows.{notes_of}
 use Rattle.gl_support.specs.declared.row.Row.{Row}
 use Rattle.gl_demand.specs.declared.outcome.Outcome.{Outcome}
-use Rattle.gl_core.specs.Numbers.{Each, key_at, keys_at, row_notes, numbers_of, IsBelow}
-use Rattle.gl_core.proofs.Numbered.{all_in, number_in, key_in}
+use Rattle.gl_core.specs.Numbers.{numbers_of}
 
 -- ---- numbers in lists
 
@@ -63,11 +60,3 @@ pub note_number : (rs : List (Row Outcome Range)) (n : Note ℕ Outcome Range) �
 note_number [] n m = absurd m
 note_number (r ∷ rs) n (inl e) = inl (ap (λ (x : Note ℕ Outcome Range). x.key) e)
 note_number (r ∷ rs) n (inr m) = inr (note_number rs n m)
-
--- rows are in order where their notes are
-pub ordered_rows : (ks : List K.Key) → AreDistinct ks → (rs : List (Row Outcome Range)) → Each (IsBelow (length ks)) rs → (before : List ℕ) → Each (λ n. n < length ks) before → AreOrdered (keys_at ks before) (row_notes ks rs) → AreOrdered before (notes_of rs)
-ordered_rows ks d [] a before b o = tt
-ordered_rows ks d (r ∷ rs) a before b o = (
-  λ j m. number_in ks d j (all_in (λ n. n < length ks) r.reads.items a.0.1 j m) before b (o.0 (key_at ks j) (key_in ks j r.reads.items m)),
-  ordered_rows ks d rs a.1 (r.by ∷ before) (a.0.0, b) o.1,
-)

@@ -13,7 +13,7 @@ use Rattle.gl_support.specs.Rows.{note_of, notes_of}
 use Rattle.gl_support.specs.declared.row.Row.{Row}
 use Rattle.gl_support.proofs.Places.{marked_set}
 use Rattle.gl_demand.specs.declared.outcome.Outcome.{Outcome}
-use Rattle.gl_core.specs.Numbers.{Each, key_at, named, row_notes, numbers_of, IsBelow}
+use Rattle.gl_core.specs.Numbers.{Each, key_at, keys_at, named, row_notes, numbers_of, IsBelow}
 use Rattle.gl_core.specs.Resuming.{IsClosure, IsQueue, Gets, GetsReads}
 use Rattle.gl_core.specs.declared.ledger.Ledger.{Ledger}
 use Rattle.gl_core.proofs.Places.{member_at, place_of, one_place}
@@ -95,7 +95,7 @@ same_row rs d x y i j e =
     let same : Some x ≡ Some y = sym a ∙ ap (slice_get rs) one ∙ b in
     cc same
 
-row_note : (rs : List (Row Outcome Range)) (x : Row Outcome Range) → Member x rs → Member (note_of x) (notes_of rs)
+pub row_note : (rs : List (Row Outcome Range)) (x : Row Outcome Range) → Member x rs → Member (note_of x) (notes_of rs)
 row_note [] x m = absurd m
 row_note (r ∷ rs) x (inl e) = inl (ap (λ (y : Row Outcome Range). note_of y) e)
 row_note (r ∷ rs) x (inr m) = inr (row_note rs x m)
@@ -180,15 +180,30 @@ queue_closed l seeds all marks count i b w h c q = record {
 
 -- ---- notes that are closed
 
-named_note : (ks : List K.Key) (rs : List (Row Outcome Range)) (x : Note K.Key K.Outcome Range) → Member x (row_notes ks rs) → (n : Note ℕ Outcome Range) × Member n (notes_of rs) × (x ≡ named ks n)
+pub named_note : (ks : List K.Key) (rs : List (Row Outcome Range)) (x : Note K.Key K.Outcome Range) → Member x (row_notes ks rs) → (n : Note ℕ Outcome Range) × Member n (notes_of rs) × (x ≡ named ks n)
 named_note ks [] x m = absurd m
 named_note ks (r ∷ rs) x (inl e) = (note_of r, inl refl, e)
 named_note ks (r ∷ rs) x (inr m) = let (n, i, e) = named_note ks rs x m in (n, inr i, e)
 
-note_named : (ks : List K.Key) (rs : List (Row Outcome Range)) (n : Note ℕ Outcome Range) → Member n (notes_of rs) → Member (named ks n) (row_notes ks rs)
+pub note_named : (ks : List K.Key) (rs : List (Row Outcome Range)) (n : Note ℕ Outcome Range) → Member n (notes_of rs) → Member (named ks n) (row_notes ks rs)
 note_named ks [] n m = absurd m
 note_named ks (r ∷ rs) n (inl e) = inl (ap (named ks) e)
 note_named ks (r ∷ rs) n (inr m) = inr (note_named ks rs n m)
+
+pub key_of_number : (ks : List K.Key) (ns : List ℕ) (k : K.Key) → Member k (keys_at ks ns) → (n : ℕ) × Member n ns × (key_at ks n ≡ k)
+key_of_number ks [] k m = absurd m
+key_of_number ks (n ∷ ns) k (inl e) = (n, inl refl, sym e)
+key_of_number ks (n ∷ ns) k (inr m) = let (j, i, e) = key_of_number ks ns k m in (j, inr i, e)
+
+pub number_below : (c : ℕ) (rs : List (Row Outcome Range)) → Each (IsBelow c) rs → (n : Note ℕ Outcome Range) → Member n (notes_of rs) → n.key < c
+number_below c rs a n m =
+    let (r, i, e) = of_row rs n m in
+    subst (λ (q : ℕ). q < c) (sym (ap (λ (u : Note ℕ Outcome Range). u.key) e)) (all_in (IsBelow c) rs a r i).0
+
+pub read_below : (c : ℕ) (rs : List (Row Outcome Range)) → Each (IsBelow c) rs → (n : Note ℕ Outcome Range) → Member n (notes_of rs) → (j : ℕ) → Member j n.reads → j < c
+read_below c rs a n m j r =
+    let (x, i, e) = of_row rs n m in
+    all_in (λ p. p < c) x.reads.items (all_in (IsBelow c) rs a x i).1 j (subst (λ (u : Note ℕ Outcome Range). Member j u.reads) e r)
 
 -- rows are closed where their notes are
 pub closed_rows : (ks : List K.Key) → AreDistinct ks → (rs : List (Row Outcome Range)) → Each (IsBelow (length ks)) rs → AreClosed (row_notes ks rs) → AreClosed (notes_of rs)
@@ -196,14 +211,4 @@ closed_rows ks d rs a c n m j r =
     let (x, i, e) = c (named ks n) (note_named ks rs n m) (key_at ks j) (key_in ks j n.reads r) in
     let (y, k, f) = named_note ks rs x i in
     let same : key_at ks y.key ≡ key_at ks j = sym (ap (λ (u : Note K.Key K.Outcome Range). u.key) f) ∙ e in
-    (y, k, one_number ks d y.key j (number_below y k) (read_below n m j r) same)
-  where
-    number_below : (y : Note ℕ Outcome Range) → Member y (notes_of rs) → y.key < length ks
-    number_below y k =
-        let (z, i, e) = of_row rs y k in
-        subst (λ (q : ℕ). q < length ks) (sym (ap (λ (u : Note ℕ Outcome Range). u.key) e)) (all_in (IsBelow (length ks)) rs a z i).0
-
-    read_below : (y : Note ℕ Outcome Range) → Member y (notes_of rs) → (q : ℕ) → Member q y.reads → q < length ks
-    read_below y k q r =
-        let (z, i, e) = of_row rs y k in
-        all_in (λ p. p < length ks) z.reads.items (all_in (IsBelow (length ks)) rs a z i).1 q (subst (λ (u : Note ℕ Outcome Range). Member q u.reads) e r)
+    (y, k, one_number ks d y.key j (number_below (length ks) rs a y k) (read_below (length ks) rs a n m j r) same)

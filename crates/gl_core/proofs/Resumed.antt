@@ -37,6 +37,7 @@ use Rattle.gl_core.proofs.Wakes.{get_there, get_within}
 use Rattle.gl_core.proofs.Places.{member_at, place_of, at_place, keys_entries}
 use Rattle.gl_core.proofs.Numbered.{get_map, length-map, key_in, keys_apart, outcome_is}
 use Rattle.gl_core.proofs.Cores.{readable, known_apart, known_length, known_statuses, known_at, state_length, marks_length}
+use Rattle.gl_core.proofs.Queued.{note_named, key_of_number}
 use Rattle.gl_core.proofs.Reading.{nothing_ahead}
 
 take_front : {X : Type 0} (xs ys : List X) → take (length xs) (xs ++ ys) ≡ xs
@@ -47,20 +48,10 @@ keys_both : (ks : List K.Key) (ns ms : List ℕ) → keys_at ks (ns ++ ms) ≡ k
 keys_both ks [] ms = refl
 keys_both ks (n ∷ ns) ms = ap (λ t. key_at ks n ∷ t) (keys_both ks ns ms)
 
-back : (ks : List K.Key) (ns : List ℕ) (k : K.Key) → Member k (keys_at ks ns) → (n : ℕ) × Member n ns × (key_at ks n ≡ k)
-back ks [] k m = absurd m
-back ks (n ∷ ns) k (inl e) = (n, inl refl, sym e)
-back ks (n ∷ ns) k (inr m) = let (j, i, e) = back ks ns k m in (j, inr i, e)
-
-named_member : (ks : List K.Key) (rs : List (Row Outcome Range)) (n : Note ℕ Outcome Range) → Member n (notes_of rs) → Member (named ks n) (row_notes ks rs)
-named_member ks [] n m = absurd m
-named_member ks (r ∷ rs) n (inl e) = inl (ap (named ks) e)
-named_member ks (r ∷ rs) n (inr m) = inr (named_member ks rs n m)
-
 -- what numbers reach, their keys do
 reached_keys : (ks : List K.Key) (rs : List (Row Outcome Range)) (s k : ℕ) → IsReached (notes_of rs) s k → IsReached (row_notes ks rs) (key_at ks s) (key_at ks k)
 reached_keys ks rs s _ Here = Here
-reached_keys ks rs s k (Through n i m e j r) = Through (named ks n) (key_at ks i) (named_member ks rs n m) (ap (key_at ks) e) (key_in ks i n.reads j) (reached_keys ks rs i k r)
+reached_keys ks rs s k (Through n i m e j r) = Through (named ks n) (key_at ks i) (note_named ks rs n m) (ap (key_at ks) e) (key_in ks i n.reads j) (reached_keys ks rs i k r)
 
 module _ (l : Ledger) (seeds : List K.Key) (all : List ℕ) (r : IsResumed l seeds all) (version : Version) (S : Cells) (w : Oracle) (trues : AreTrue same_key (program (world version S w)) (written l)) where
   -- each known key is demanded
@@ -73,7 +64,7 @@ module _ (l : Ledger) (seeds : List K.Key) (all : List ℕ) (r : IsResumed l see
   pub too_many : AreDistinct l.book → max_demanded < length all → MoreThan max_demanded (Demanded (program (world version S w)) seeds)
   too_many apart h =
       let n = length-map (key_at l.book) all in
-      (keys_at l.book all, omega (arith, n, h), keys_apart l.book apart all r.closure.below r.closure.apart, λ k m. (let (j, i, e) = back l.book all k m in subst (Demanded (program (world version S w)) seeds) e (number_demanded j i)))
+      (keys_at l.book all, omega (arith, n, h), keys_apart l.book apart all r.closure.below r.closure.apart, λ k m. (let (j, i, e) = key_of_number l.book all k m in subst (Demanded (program (world version S w)) seeds) e (number_demanded j i)))
 
 module _ (l : Ledger) (e : Entries) (c : IsCore l e) (seeds : List K.Key) (r : IsResumed l seeds e.known.items) (b : AreBegun l.rows.items e.known.items e.statuses.items.items)
     (version : Version) (S : Cells) (w : Oracle) (trues : AreTrue same_key (program (world version S w)) (written l)) (proper : (k : K.Key) → Member k seeds → IsProperKey S k) where
@@ -98,7 +89,7 @@ module _ (l : Ledger) (e : Entries) (c : IsCore l e) (seeds : List K.Key) (r : I
       (p, s, d, f, at_place (outcome_at l.rows.items) (known_keys l e) e.statuses.items.items p (key_at l.book n) s (known_apart l e (readable l e c)) (known_at l e (readable l e c) p n d) f)
 
   known_number : (k : K.Key) → IsKnown same_key (table_of l e) k → (n : ℕ) × Member n e.known.items × (key_at l.book n ≡ k)
-  known_number k (s, d) = back l.book e.known.items k (known_back (known_keys l e) e.statuses.items.items k s d)
+  known_number k (s, d) = key_of_number l.book e.known.items k (known_back (known_keys l e) e.statuses.items.items k s d)
     where
       known_back : (ks : List K.Key) (ss : List Status) (k : K.Key) (s : Machine.Status K.Key K.Outcome) → at same_key (entries (outcome_at l.rows.items) (known_keys l e) ks ss) k ≡ Some s → Member k ks
       known_back [] ss k s d = absurd (cc d)
@@ -133,11 +124,11 @@ module _ (l : Ledger) (e : Entries) (c : IsCore l e) (seeds : List K.Key) (r : I
           let um : Member u (notes_of l.rows.items) = member_at (notes_of l.rows.items) x u (get_map (λ (z : Row Outcome Range). record { key = z.by; outcome = z.outcome; reads = z.reads.items; looked = z.looked.items }) l.rows.items x y f) in
           inr (
             named l.book u,
-            named_member l.book l.rows.items u um,
+            note_named l.book l.rows.items u um,
             ap (key_at l.book) g ∙ i,
             sym q ∙ ap (λ o. Machine.Resolved o) (outcome_is l.rows.items x y f),
             λ j mj.
-                let (a, am, ae) = back l.book y.reads.items j mj in
+                let (a, am, ae) = key_of_number l.book y.reads.items j mj in
                 let (o, z) = resolved_number a (r.closure.closed u um (subst (λ v. Member v e.known.items) (sym g) m) a am) (r.closure.noted u um a am) in
                 (o, ap (at same_key (table_of l e)) (sym ae) ∙ z),
           )
@@ -158,7 +149,7 @@ module _ (l : Ledger) (e : Entries) (c : IsCore l e) (seeds : List K.Key) (r : I
     where
       seed_known : (k : K.Key) → Member k seeds → IsKnown same_key (table_of l e) k
       seed_known k m =
-          let (n, i, q) = back l.book e.known.items k (subst (Member k) (sym known_is) (front seeds (keys_at l.book r.closure.rest) k m)) in
+          let (n, i, q) = key_of_number l.book e.known.items k (subst (Member k) (sym known_is) (front seeds (keys_at l.book r.closure.rest) k m)) in
           let (p, s, d, f, g) = status n i in
           (status_tree (outcome_at l.rows.items) (known_keys l e) s, ap (at same_key (table_of l e)) (sym q) ∙ g)
         where

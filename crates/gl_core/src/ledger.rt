@@ -2,8 +2,7 @@
 ghost use Rattle.std.specs.Prelude.{◌≡◌, ◌<◌, ◌≤◌, ◌-◌, ◌^◌, ◌++◌, ◌∷◌, ℕ, [], Some, IsTrue};
 ghost use Rattle.std.specs.Prelude.{length, map, option_map, slice_get, OnOk, OnErr, IfOk};
 ghost use Rattle.gl_calculus.specs.Computation.Lists.{Member, AreDistinct};
-ghost use Rattle.gl_machine.specs.InOrder.{AreOrdered, kept_after};
-ghost use Rattle.gl_calculus.specs.Evaluation.Key.{same_key};
+ghost use Rattle.gl_machine.specs.Remembered.{AreClosed, AreTheKept};
 ghost use Rattle.gl_calculus.specs.Evaluation.Sound.{is_sound_key};
 ghost use Rattle.gl_plane.specs.Changes.{reaches};
 ghost use Rattle.gl_demand.specs.{View.key_tree, View.read_tree, Sound.AreSoundKeys, Walk.keys_of};
@@ -216,9 +215,9 @@ impl Ledger {
     /// before.
     pub fn keep(&mut self, alloc: Global, changes: &[Range]) -> Result<(), NoMemory>
         requires kept { IsLedger self.old }
-        requires ordered { AreOrdered [] (written self.old) }
-        ensures ok { OnOk result (
-            written self.new ≡ kept_after same_key (reaches changes.now) [] (written self.old)) }
+        requires closed { AreClosed (written self.old) }
+        ensures the { OnOk result (
+            AreTheKept (reaches changes.now) (written self.old) (written self.new)) }
         ensures err { OnErr result (written self.new ≡ written self.old) }
         ensures kept { IsLedger self.new }
     {
