@@ -32,7 +32,7 @@ queue_push count marks all n q h l off = record {
 }
 
 -- the numbers below n
-firsts : ℕ → List ℕ
+abbrev firsts : ℕ → List ℕ
 firsts zero = []
 firsts (suc n) = n ∷ firsts n
 
@@ -147,9 +147,9 @@ queue_next l seeds all all' i n h e q g = record {
   rest = q.rest ++ g.more;
   first = g.first ∙ ap (λ (t : List ℕ). t ++ g.more) q.first ∙ append_assoc seeds q.rest g.more;
   reached = λ k m. in_both all g.more k (subst (λ (t : List ℕ). Member k t) g.first m) (q.reached k) (λ j.
-    let (x, a, b, r) = g.from k j in
-    let (s, c, t) = q.reached n (member_at all i n e) in
-    (s, c, reached_on (notes_of l.rows.items) x s n k a r (sym b) t));
+      let (x, a, b, r) = g.from k j in
+      let (s, c, t) = q.reached n (member_at all i n e) in
+      (s, c, reached_on (notes_of l.rows.items) x s n k a r (sym b) t));
   closed = λ x a m j r. in_both (take i all) (n ∷ []) x.key (subst (λ (t : List ℕ). Member x.key t) front m)
       (λ b. subst (λ (t : List ℕ). Member j t) (sym g.first) (in_first all g.more j (q.closed x a b j r)))
       (λ b. g.all x a (one x.key b) j r);
