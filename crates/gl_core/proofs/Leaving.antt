@@ -43,7 +43,7 @@ module _ (touched : Range → Bool) (ks : List K.Key) (apart : AreDistinct ks) (
       Reads n b m (one_number ks apart k n.key h (number_below (length ks) rs below n m) same) c (gone j d b (read_below (length ks) rs below n m b c) (sym s))
 
   module _ (marks : List Bool) (right : (n : Note ℕ Outcome Range) → Member n (notes_of rs) → is_marked marks n.key ≡ true ↔ IsDropped touched (notes_of rs) n.key) where
-    stays : Row Outcome Range → Bool
+    abbrev stays : Row Outcome Range → Bool
     stays r = not (is_marked marks r.by)
 
     unmarked : (b : Bool) → not b ≡ true → b ≡ true → ⊥
