@@ -43,15 +43,6 @@ module _ {X : Type 0} (p : X → Bool) where
       by true f = omega arith
       by false f = omega arith
 
-  -- where as many are left, all are
-  pub all_pass : (xs : List X) → length (filter p xs) ≡ length xs → filter p xs ≡ xs
-  all_pass [] e = refl
-  all_pass (y ∷ xs) e = by (p y) e (all_pass xs) (filter_length xs)
-    where
-      by : (b : Bool) → length (if b then y ∷ filter p xs else filter p xs) ≡ length (y ∷ xs) → (length (filter p xs) ≡ length xs → filter p xs ≡ xs) → length (filter p xs) ≤ length xs → (if b then y ∷ filter p xs else filter p xs) ≡ y ∷ xs
-      by true e f h = ap (λ t. y ∷ t) (f (omega (arith, e)))
-      by false e f h = absurd (omega (arith, e, h))
-
 number_member : (p : Row Outcome Range → Bool) (rs : List (Row Outcome Range)) (n : ℕ) → Member n (numbers_of (filter p rs)) → Member n (numbers_of rs)
 number_member p [] n m = m
 number_member p (r ∷ rs) n m = by (p r) m (number_member p rs n)

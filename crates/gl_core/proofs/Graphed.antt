@@ -9,16 +9,14 @@ use Rattle.gl_machine.specs.Remembered.{AreClosed, IsDropped}
 use Rattle.laws_calculus.proofs.Query.AmongMore.{dropped_among_more}
 use Rattle.gl_support.specs.Rests.{items_at, rest_of, rest_notes, IsSound}
 use Rattle.gl_support.specs.Rows.{note_of, notes_of}
-use Rattle.gl_support.specs.Reach.{is_marked, has}
 use Rattle.gl_support.specs.declared.rests.Rests.{Rests}
 use Rattle.gl_support.specs.declared.row.Row.{Row}
-use Rattle.gl_support.proofs.Following.{has_member, member_has}
 use Rattle.gl_support.proofs.Resting.{note, note_in, note_is}
 use Rattle.gl_demand.specs.declared.outcome.Outcome.{Outcome}
 use Rattle.gl_core.specs.Graph.{HaveRows, IsGraphOf, fewer}
 use Rattle.gl_core.specs.Numbers.{Each, numbers_of, IsBelow}
 use Rattle.gl_core.specs.declared.graph.Graph.{Graph}
-use Rattle.gl_core.proofs.Numbered.{all_in, get_map}
+use Rattle.gl_core.proofs.Numbered.{get_map}
 use Rattle.gl_core.proofs.Indexing.{take_next, take_whole, before}
 
 -- ---- rows that come and go
@@ -78,6 +76,7 @@ rest_is s x m =
     let key : x.key ≡ j = ap (λ (y : Note ℕ (Unit {0}) Range). y.key) e ∙ z in
     e ∙ ap (λ n. note n (items_at s.reads.items j) (items_at s.looked.items j)) z ∙ ap (λ n. note n (items_at s.reads.items n) (items_at s.looked.items n)) (sym key)
 
+-- the row of a note
 pub of_row : (rs : List (Row Outcome Range)) (n : Note ℕ Outcome Range) → Member n (notes_of rs) → (r : Row Outcome Range) × Member r rs × (n ≡ note_of r)
 of_row [] n m = absurd m
 of_row (r ∷ rs) n (inl e) = (r, inl refl, e)
@@ -168,11 +167,3 @@ module _ (rs : List (Row Outcome Range)) (s : Rests) (h : IsSound s) (a : HaveRo
       let d = dropped_among_more ℕ Outcome (Unit {0}) Range touched (notes_of rs) (rest_notes s) c sub one n m in
       let g = all n.key in
       (λ i. d.0 (g.0 i), λ e. g.1 (d.1 e))
-
--- a row is marked where it is among the numbers
-pub rows_marked : (rs : List (Row Outcome Range)) (n : ℕ) → Each (IsBelow n) rs → (v : List ℕ) (marks : List Bool) (D : ℕ → Type 0) → ((k : ℕ) → k < n → is_marked marks k ≡ has v k) → ((x : Note ℕ Outcome Range) → Member x (notes_of rs) → Member x.key v ↔ D x.key) → (x : Note ℕ Outcome Range) → Member x (notes_of rs) → is_marked marks x.key ≡ true ↔ D x.key
-rows_marked rs n a v marks D e d x m =
-    let (r, i, f) = of_row rs x m in
-    let w = all_in (IsBelow n) rs a r i in
-    let same = e x.key (subst (λ (k : ℕ). k < n) (sym (ap (λ (y : Note ℕ Outcome Range). y.key) f)) w.0) in
-    (λ t. (d x m).0 (member_has v x.key (sym same ∙ t)), λ t. same ∙ has_member v x.key ((d x m).1 t))

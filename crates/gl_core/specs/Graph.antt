@@ -12,6 +12,10 @@ use Rattle.gl_core.specs.declared.graph.Graph.{Graph}
 abbrev pub HaveRows : Rests → List (Row Outcome Range) → Type 0
 HaveRows s rs = (r : Row Outcome Range) → Member r rs → (r.by < length s.reads.items) × (rest_of s r.by ≡ (r.reads.items, r.looked.items))
 
+-- the graph has as many rows
+abbrev pub HasAll : List (Row Outcome Range) → Graph → Type 0
+HasAll rs g = g.rows ≡ length rs
+
 -- the graph has the first of these rows
 pub record IsGraphOf (rs : List (Row Outcome Range)) (g : Graph) : Type 0 where
   pub sound : IsSound g.rests

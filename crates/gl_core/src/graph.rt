@@ -6,10 +6,10 @@ ghost use Rattle.gl_calculus.specs.Computation.Notes.{Note};
 ghost use Rattle.gl_calculus.specs.Grid.Grid.{Range as Plain};
 ghost use Rattle.gl_machine.specs.Remembered.{AreClosed, IsDropped};
 ghost use Rattle.gl_plane.specs.Changes.{reaches};
-ghost use Rattle.gl_support.specs.{Reach.is_marked, Reach.has, Rests.rest_of, Rests.IsSound};
+ghost use Rattle.gl_support.specs.Rests.{rest_of, IsSound};
 ghost use Rattle.gl_support.specs.Rows.{notes_of};
 ghost use Rattle.gl_core.specs.Numbers.{Each, numbers_of, IsBelow};
-ghost use Rattle.gl_core.specs.Graph.{HaveRows, IsGraphOf, fewer};
+ghost use Rattle.gl_core.specs.Graph.{HaveRows, HasAll, IsGraphOf, fewer};
 
 use gl_demand::Outcome;
 use gl_plane::{NoMemory, Range};
@@ -120,25 +120,13 @@ pub fn affected(
         → Member n (notes_of rows.now)
         → Member n.key v.items ↔ IsDropped (reaches changes.now) (notes_of rows.now) n.key) }
     ensures graph { IfSome graph.new (IsGraphOf rows.now) }
+    ensures all { IfSome graph.new (HasAll rows.now) }
 {
     let mut all = taken(alloc, graph)?;
     all.add(alloc, rows, numbers)?;
     let gone = all.rests.affected(alloc, changes)?;
     *graph = Some(all);
     Ok(gone)
-}
-
-/// A mark for each of the numbers below `count`.
-pub fn marks_of(alloc: Global, count: usize, numbers: &[usize]) -> Result<Vec<bool>, NoMemory>
-    ensures { IfOk result (λ m. (k : ℕ) → k < count → is_marked m.items k ≡ has numbers.now k) }
-{
-    let mut marks = vec![in alloc; false; count]?;
-    for n in numbers {
-        if *n < count {
-            marks[*n] = true;
-        }
-    }
-    Ok(marks)
 }
 
 /// So many rows went, and maybe all of them were among the first ones.

@@ -34,6 +34,14 @@ pub fn put(places: &mut Vec<u32>, n: u32, place: usize)
     places[n as usize] = place as u32 + 1;
 }
 
+/// A number has no place any more.
+pub fn take_out(places: &mut Vec<u32>, n: u32)
+    requires { n < length places.old.items }
+    ensures { places.new.items ≡ set places.old.items n 0 }
+{
+    places[n as usize] = 0;
+}
+
 /// No number has a place.
 pub fn forget(places: &mut Vec<u32>)
     ensures none { (q : ℕ) → slice_index places.new.items q ≡ 0 }

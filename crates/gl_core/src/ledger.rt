@@ -1,6 +1,7 @@
 //! Notes by numbers.
-ghost use Rattle.std.specs.Prelude.{◌≡◌, ◌<◌, ◌≤◌, ◌-◌, ◌^◌, ◌++◌, ◌∷◌, ℕ, [], Some, IsTrue};
-ghost use Rattle.std.specs.Prelude.{length, map, option_map, slice_get, OnOk, OnErr, IfOk};
+ghost use Rattle.std.specs.Prelude.{◌≡◌, ◌<◌, ◌≤◌, ◌+◌, ◌-◌, ◌*◌, ◌^◌, ◌++◌, ◌∷◌, ℕ, [], Some};
+ghost use Rattle.std.specs.Prelude.{length, map, option_map, slice_get, slice_index, OnOk, OnErr};
+ghost use Rattle.std.specs.Prelude.{IfOk, IsTrue, vec_len, vec_capacity};
 ghost use Rattle.gl_calculus.specs.Computation.Lists.{Member, AreDistinct};
 ghost use Rattle.gl_machine.specs.Remembered.{AreClosed, AreTheKept};
 ghost use Rattle.gl_calculus.specs.Evaluation.Sound.{is_sound_key};
@@ -9,21 +10,22 @@ ghost use Rattle.gl_demand.specs.{View.key_tree, View.read_tree, Sound.AreSoundK
 ghost use Rattle.gl_core.specs.Numbers.{Each, named, numbers_of, AreNumbers, Grows, IsIndex};
 ghost use Rattle.gl_core.specs.{Numbers.IsRowOf, KeyNumbers.AreTold};
 ghost use Rattle.gl_core.specs.{State.IsSoundNote, Graph.fewer, Ledger.written, Ledger.IsLedger};
+ghost use Rattle.gl_core.specs.Dropped.{DropsRows, IsSearched};
 
 use crate::book::{Book, is_top};
-use crate::graph::{Graph, affected, marks_of, shorten};
-use crate::index::{forget, give_place, place_in, put};
+use crate::graph::{Graph, affected, shorten};
+use crate::index::{forget, give_place, place_in, put, take_out};
 use gl_cells::Hint;
 use gl_demand::{Key, Outcome, Read};
 use gl_plane::{NoMemory, Range, Share};
-use gl_support::{Row, keep_unmarked};
+use gl_support::Row;
 use std::alloc::Global;
 
 /// The most notes of a ledger.
 const MOST: usize = 4_000_000_000;
 
-/// Keys by numbers, and notes in the order of noting, each with the numbers of its key and of the
-/// keys that it read.
+/// Keys by numbers, and notes in any order, each with the numbers of its key and of the keys that it
+/// read.
 pub struct Ledger {
     pub book: Book,
     pub rows: Vec<Row<Outcome, Range>>,
@@ -211,27 +213,83 @@ impl Ledger {
         Ok(())
     }
 
-    /// Drops the notes that rest on something that was changed. After `NoMemory` the notes are as
-    /// before.
-    pub fn keep(&mut self, alloc: Global, changes: &[Range]) -> Result<(), NoMemory>
+    /// The row at a place goes, and the last one takes its place. The numbers of both are noted.
+    fn take(&mut self, r: usize, moved: &mut Vec<u32>) -> Row<Outcome, Range>
+        requires kept { IsSearched self.old }
+        requires there { r < length self.old.rows.items }
+        requires room { vec_len moved.old + 2 ≤ vec_capacity moved.old }
+        ensures row { slice_get self.old.rows.items r ≡ Some result }
+        ensures drops { DropsRows self.old self.new (result.by ∷ [])
+            moved.old.items moved.new.items }
+        ensures kept { IsSearched self.new }
+        ensures room { vec_len moved.new ≡ vec_len moved.old + 2 }
+        ensures capacity { vec_capacity moved.new ≡ vec_capacity moved.old }
+    {
+        let last = self.rows[self.rows.len() - 1].by;
+        let row = self.rows.swap_remove(r);
+        // the last one may be the row itself, which has no place then
+        put(&mut self.row_of, last, r);
+        take_out(&mut self.row_of, row.by);
+        shorten(&mut self.graph, 1);
+        moved.push_reserved(row.by);
+        moved.push_reserved(last);
+        row
+    }
+
+    /// The row of a number goes, if there is one.
+    fn drop_row(&mut self, n: usize, moved: &mut Vec<u32>)
+        requires kept { IsSearched self.old }
+        requires room { vec_len moved.old + 2 ≤ vec_capacity moved.old }
+        ensures drops { DropsRows self.old self.new (n ∷ []) moved.old.items moved.new.items }
+        ensures kept { IsSearched self.new }
+        ensures room { vec_len moved.new ≤ vec_len moved.old + 2 }
+        ensures capacity { vec_capacity moved.new ≡ vec_capacity moved.old }
+    {
+        if n >= self.book.len() {
+            return;
+        }
+        match self.row(n as u32) {
+            Some(r) => drop(self.take(r, moved)),
+            None => {}
+        }
+    }
+
+    /// The rows of these numbers go.
+    fn drop_rows(&mut self, numbers: &[usize], moved: &mut Vec<u32>)
+        requires kept { IsSearched self.old }
+        requires room { vec_len moved.old + 2 * length numbers.now ≤ vec_capacity moved.old }
+        ensures drops { DropsRows self.old self.new numbers.now moved.old.items moved.new.items }
+        ensures kept { IsSearched self.new }
+    {
+        for n in numbers {
+            self.drop_row(*n, moved);
+        }
+    }
+
+    /// Drops the notes that rest on something that was changed, and answers the numbers whose rows
+    /// went or have another place. After `NoMemory` the notes and their places are as before.
+    pub fn keep(&mut self, alloc: Global, changes: &[Range]) -> Result<Vec<u32>, NoMemory>
         requires kept { IsLedger self.old }
         requires closed { AreClosed (written self.old) }
         ensures the { OnOk result (
             AreTheKept (reaches changes.now) (written self.old) (written self.new)) }
+        ensures closed { AreClosed (written self.new) }
+        ensures same { IfOk result (λ v.
+            (n : ℕ)
+            → (Member n v.items → ⊥)
+            → slice_index self.new.row_of.items n ≡ slice_index self.old.row_of.items n) }
+        ensures below { IfOk result (λ v. Each (λ n. n < length self.old.book) v.items) }
         ensures err { OnErr result (written self.new ≡ written self.old) }
+        ensures rows { OnErr result (self.new.rows ≡ self.old.rows) }
+        ensures places { OnErr result (self.new.row_of ≡ self.old.row_of) }
+        ensures book { self.new.book ≡ self.old.book }
         ensures kept { IsLedger self.new }
     {
         let numbers = self.book.len();
         let gone = affected(alloc, &mut self.graph, &self.rows, numbers, changes)?;
-        let marks = marks_of(alloc, numbers, &gone)?;
-        let count = self.rows.len();
-        keep_unmarked(&mut self.rows, &marks);
-        if self.rows.len() == count {
-            // each note has the place that it had
-            return Ok(());
-        }
-        self.renumber(count);
-        Ok(())
+        let mut moved = Vec::with_capacity(alloc, 2 * gone.len())?;
+        self.drop_rows(&gone, &mut moved);
+        Ok(moved)
     }
 
     /// The places of the rows anew, where some of so many are gone.

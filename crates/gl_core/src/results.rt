@@ -4,8 +4,7 @@ ghost use Rattle.std.specs.Option.{option_copied};
 ghost use Rattle.gl_calculus.specs.Computation.Notes.{note_keys};
 ghost use Rattle.gl_calculus.specs.Computation.Lists.{AreDistinct};
 ghost use Rattle.gl_calculus.specs.Computation.Query.{Ready};
-ghost use Rattle.gl_machine.specs.Remembered.{AreClosed};
-ghost use Rattle.gl_machine.specs.Remembered.{AreTheKept};
+ghost use Rattle.gl_machine.specs.Remembered.{AreClosed, AreTheKept};
 ghost use Rattle.gl_plane.specs.Changes.{reaches};
 ghost use Rattle.gl_demand.specs.{View.key_tree, View.outcome_tree, Sound.IsSoundFound};
 ghost use Rattle.gl_core.specs.{Ledger.written, Ledger.IsLedger, Results.outcome_in};
@@ -24,7 +23,7 @@ use std::marker::Model;
 const SPARE: u64 = 512;
 
 /// The notes of keys, each with the key's outcome, the keys that it read and the ranges that it
-/// looked at, in any order: what a note read has a note too.
+/// looked at. Each key that a note read has a note, too. They are in any order.
 pub struct Results {
     ledger: Ledger,
     // of the keys that the round knew, its seeds first: guesses for the next one
@@ -144,6 +143,7 @@ impl Results {
         ensures closed { AreClosed self.old }
         ensures err { OnErr result (self.new ≡ self.old) }
     {
-        self.ledger.keep(alloc, changes)
+        self.ledger.keep(alloc, changes)?;
+        Ok(())
     }
 }
