@@ -28,7 +28,7 @@ take_out-requires c =
     let l = c.args.self.now in
     let x = c.swap_remove-row.result in
     let there = row_there l c.requires.kept.0 c.args.r x (slice_get-get_or l.rows.items c.args.r x c.requires.there ∙ ap Some (sym c.swap_remove-row.ensures.value)) in
-    let size = ap length c.put.ensures ∙ length-set l.row_of.items c.index.result.now.by (c.args.r + 1) in
+    let size = ap length c.put.ensures ∙ length-set l.row_of.items c.index.result.now.by _ in
     omega (arith, size, there)
 
 pub returns-clause-row : goal.returns-clause-row
