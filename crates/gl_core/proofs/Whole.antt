@@ -30,7 +30,7 @@ use Rattle.gl_core.proofs.Marks.{has_there, there_has}
 use Rattle.gl_core.proofs.Queued.{read_noted}
 
 -- distinct members of a list that are as many as it has are all of it
-fills : (xs ys : List ℕ) → AreDistinct xs → ((n : ℕ) → Member n xs → Member n ys) → length ys ≤ length xs → (n : ℕ) → Member n ys → Member n xs
+pub fills : (xs ys : List ℕ) → AreDistinct xs → ((n : ℕ) → Member n xs → Member n ys) → length ys ≤ length xs → (n : ℕ) → Member n ys → Member n xs
 fills xs ys d w h n m = by (has xs n) refl
   where
     within : (k : ℕ) → Member k (n ∷ xs) → Member k ys
@@ -112,12 +112,12 @@ row_at [] p s t e = absurd (cc e)
 row_at (x ∷ ss) zero s t e = let d : x ≡ s = cc in ap is_row (sym d) ∙ (both (is_row x) (list_all is_row ss) t).0
 row_at (x ∷ ss) (suc p) s t e = row_at ss p s (both (is_row x) (list_all is_row ss) t).1 e
 
-row_number : (rs : List (Row Outcome Range)) (r : Row Outcome Range) → Member r rs → Member r.by (numbers_of rs)
+pub row_number : (rs : List (Row Outcome Range)) (r : Row Outcome Range) → Member r rs → Member r.by (numbers_of rs)
 row_number [] r m = absurd m
 row_number (x ∷ rs) r (inl e) = inl (ap (λ (y : Row Outcome Range). y.by) e)
 row_number (x ∷ rs) r (inr m) = inr (row_number rs r m)
 
-filter_whole : {X : Type 0} (p : X → Bool) (xs : List X) → ((x : X) → Member x xs → p x ≡ true) → filter p xs ≡ xs
+pub filter_whole : {X : Type 0} (p : X → Bool) (xs : List X) → ((x : X) → Member x xs → p x ≡ true) → filter p xs ≡ xs
 filter_whole p [] h = refl
 filter_whole p (x ∷ xs) h = by (p x) (h x (inl refl)) (filter_whole p xs (λ y m. h y (inr m)))
   where

@@ -22,6 +22,7 @@ pub record KeysStay (old new : Entries) : Type 0 where
 pub record OnlyMarksChange (old new : Entries) : Type 0 where
   pub keys : KeysStay old new
   pub passed : new.passed.items ≡ old.passed.items
+  pub waited : new.waited.items ≡ old.waited.items
   pub table : IsTable new
 
 -- The key at a place waits for that at another. Without memory its status stays.

@@ -1,5 +1,5 @@
 -- What picks of the key at a place need, and what they do.
-use Rattle.std.specs.Prelude.{◌≡◌, ℕ, ◌<◌, length, slice_get, Option, Some, Result, OnOk, OnErr, IfOk}
+use Rattle.std.specs.Prelude.{◌≡◌, ℕ, ◌<◌, length, slice_get, Option, Some, true, Result, OnOk, OnErr, IfOk}
 use Rattle.gl_calculus.specs.Computation.Lists.{Member}
 use Rattle.gl_calculus.specs.Computation.Query.{Query, Found, Need, found, IsTrueTable}
 use Rattle.gl_machine.specs.Remembered.{AreTrue}
@@ -19,12 +19,13 @@ use Rattle.gl_demand.specs.declared.outcome.Outcome.{Outcome}
 use Rattle.gl_core.specs.Marks.{IsMark, MarksBy}
 use Rattle.gl_core.specs.Numbers.{numbers_of}
 use Rattle.gl_core.specs.Ledger.{written}
-use Rattle.gl_core.specs.Table.{known_keys, table_of, marks_of, IsCore}
+use Rattle.gl_core.specs.Statuses.{has}
+use Rattle.gl_core.specs.Table.{known_keys, table_of, marks_of, waiters, IsCore}
 use Rattle.gl_core.specs.Noting.{Noting}
 use Rattle.gl_core.specs.Answers.{picked_tree}
 use Rattle.gl_core.specs.declared.status.Status.TheVariants.{Idle}
 use Rattle.gl_core.specs.declared.answers.Picked.{Picked}
-use Rattle.gl_core.specs.declared.answers.Picked.TheVariants.{Full}
+use Rattle.gl_core.specs.declared.answers.Picked.TheVariants.{Full, Waits}
 use Rattle.gl_core.specs.declared.ledger.Ledger.{Ledger}
 use Rattle.gl_core.specs.declared.entries.Entries.{Entries}
 
@@ -102,7 +103,7 @@ pub record IsPicked (W : World) (p : ℕ) (l : Ledger) (e : Entries) (r : Result
   pub marks_err : OnErr r (e'.marks.items ≡ e.marks.items)
   pub marks_full : IfOk r (λ a. a ≡ Full → e'.marks.items ≡ e.marks.items)
 
--- The key at a place needs another, `on`. The notes stay, and without memory the state does.
+-- The key at a place needs another, `on`. The notes stay, and without memory the state does. If it waits, it is among those that came to wait.
 pub record NeedsAt (on : K.Key) (p : ℕ) (l : Ledger) (e : Entries) (r : Result Picked NoMemory) (l' : Ledger) (e' : Entries) : Type 0 where
   pub state : OnOk r (TurnsBy (λ k. Need on) p l e l' e')
   pub answer : IfOk r (λ a. picked_tree a ≡ answer_by (Need on) l e)
@@ -111,3 +112,4 @@ pub record NeedsAt (on : K.Key) (p : ℕ) (l : Ledger) (e : Entries) (r : Result
   pub core : IsCore l' e'
   pub marks_err : OnErr r (e'.marks.items ≡ e.marks.items)
   pub marks_full : IfOk r (λ a. a ≡ Full → e'.marks.items ≡ e.marks.items)
+  pub waits : IfOk r (λ a. a ≡ Waits → has (waiters e'.waited.items) p ≡ true)

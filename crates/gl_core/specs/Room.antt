@@ -10,6 +10,7 @@ pub record AllStays (old new : Entries) : Type 0 where
   pub keys : KeysStay old new
   pub passed : new.passed.items ≡ old.passed.items
   pub marks : new.marks.items ≡ old.marks.items
+  pub waited : new.waited.items ≡ old.waited.items
   pub table : IsTable new
 
 -- there is room for one more in each list, and a place for the number

@@ -103,6 +103,7 @@ pub fn begun(alloc: Global, known: Vec<u32>, ledger: &Ledger) -> Result<Entries,
     let waiting = no_lists(alloc, known.len())?;
     let passed = vec![in alloc; 0usize; known.len()]?;
     let marks = no_marks(alloc, known.len())?;
+    let waited = Vec::new(alloc);
     Ok(Entries {
         known,
         at,
@@ -110,5 +111,6 @@ pub fn begun(alloc: Global, known: Vec<u32>, ledger: &Ledger) -> Result<Entries,
         waiting,
         passed,
         marks,
+        waited,
     })
 }

@@ -10,7 +10,7 @@ use Rattle.gl_core.proofs.beginning.begun.Goals as goal
 pub returns-clause-core : goal.returns-clause-core
 returns-clause-core c =
     let l = c.args.ledger.now in
-    let e : Entries = record { known = c.args.known; at = c.in_ok-at.at; statuses = c.in_ok-statuses.statuses; waiting = c.in_ok-waiting.waiting; passed = c.in_ok-passed.passed; marks = c.in_ok-marks.marks } in
+    let e : Entries = record { known = c.args.known; at = c.in_ok-at.at; statuses = c.in_ok-statuses.statuses; waiting = c.in_ok-waiting.waiting; passed = c.in_ok-passed.passed; marks = c.in_ok-marks.marks; waited = c.new-waited.result } in
     let ns = c.args.known.items in
     begun_core l e c.requires.kept c.requires.below
     (subst (λ (x : List ℕ). IsIndex x e.at.items) c.deref.ensures.value c.in_ok-at.ensures)
@@ -21,6 +21,7 @@ returns-clause-core c =
     (sym c.in_ok-passed.passed.ok.0 ∙ c.in_ok-passed.ensures.len ∙ c.len-3.ensures ∙ c.args.known.ok.0)
     (c.in_ok-marks.ensures.size ∙ c.len-4.ensures ∙ c.args.known.ok.0)
     (λ q. ap (λ (xs : List ℕ). slice_index xs q) (c.in_ok-passed.ensures.items_if_clones_equal (λ y e. e)) ∙ zeros c.len-3.result q)
+    c.in_ok-marks.ensures.nothing
 
 pub index_of-requires-clause-there : goal.index_of-requires-clause-there
 index_of-requires-clause-there c = grind (arith, elements)

@@ -1,6 +1,8 @@
-use Rattle.std.proofs.Common.{◌≡◌, subst, ◌∙◌}
+use Rattle.std.proofs.Common.{◌≡◌, ℕ, List, true, sym, subst, ◌∙◌}
 use Rattle.gl_calculus.specs.Computation.Query.{Need}
 use Rattle.gl_core.specs.Answers.{picked_tree}
+use Rattle.gl_core.specs.Statuses.{has}
+use Rattle.gl_core.specs.Table.{waiters}
 use Rattle.gl_core.specs.Picking.{answer_by}
 use Rattle.gl_demand.specs.View.{key_tree}
 use Rattle.gl_demand.specs.Marks.{mark_trees}
@@ -29,6 +31,7 @@ returns-in-Ok-Waits-clause-needs c =
       core = marked_core c.go_on.new.ledger c.go_on.new.entries c.move_mark.new.self needs.core c.move_mark.ensures.others.table c.move_mark.ensures.others.keys.known c.move_mark.ensures.others.keys.statuses c.move_mark.ensures.others.passed;
       marks_err = tt;
       marks_full = λ e. absurd (cc e);
+      waits = λ e. subst (λ (ws : List (ℕ × ℕ)). has (waiters ws) c.args.p ≡ true) (sym c.move_mark.ensures.others.waited) (needs.waits c.in-Ok-Waits.field-0-is);
     }
 
 pub returns-in-Ok-Waits-clause-marks : goal.returns-in-Ok-Waits-clause-marks

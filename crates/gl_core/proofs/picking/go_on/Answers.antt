@@ -1,5 +1,8 @@
-use Rattle.std.proofs.Common.{rules, refl, ◌∙◌}
+use Rattle.std.proofs.Common.{rules, refl, length, ◌<◌, ◌∙◌, arith}
 use Rattle.gl_demand.specs.View.{key_tree}
+use Rattle.gl_demand.specs.Marks.{mark_trees}
+use Rattle.gl_core.specs.Table.{waiters}
+use Rattle.gl_core.proofs.Waited.{needs_listed}
 use Rattle.gl_core.proofs.Cores.{the_key_at}
 use Rattle.gl_core.proofs.Grown.{table_kept_grown, written_kept_grown, core_grown}
 use Rattle.gl_core.proofs.Settling.{gone_core, gone_on}
@@ -22,6 +25,7 @@ returns-in_err-n-clause-needs c =
       core = core_grown l c.number.new.self e core n.kept n.grows n.rows;
       marks_err = any_err c.from_residual.result refl;
       marks_full = search rules;
+      waits = search rules;
     }
 
 pub returns-clause-needs : goal.returns-clause-needs
@@ -44,6 +48,8 @@ returns-clause-needs c =
           c.need.ensures.known_err c.need.ensures.err;
       marks_err = c.need.ensures.marks_err;
       marks_full = c.need.ensures.marks_full;
+      waits = if_ok r c.need.ensures.needs (λ picked need. needs_listed (waiters c.need.new.self.waited.items) e.known.items c.need.new.self.known.items e.statuses.items.items c.need.new.self.statuses.items.items (mark_trees c.need.new.self.marks.items) c.args.p c.in_ok-n.n picked
+          (omega (arith, core.table.statuses, c.requires.place.there)) need c.need.ensures.table.waiters);
     }
 
 pub returns-clause-marks : goal.returns-clause-marks

@@ -1,6 +1,8 @@
-use Rattle.std.proofs.Common.{◌≡◌, set, ap, subst, ◌∙◌}
+use Rattle.std.proofs.Common.{◌≡◌, ℕ, List, true, set, ap, sym, subst, ◌∙◌}
 use Rattle.gl_calculus.specs.Computation.Query.{Need}
 use Rattle.gl_core.specs.Answers.{picked_tree}
+use Rattle.gl_core.specs.Statuses.{has}
+use Rattle.gl_core.specs.Table.{waiters}
 use Rattle.gl_core.specs.Picking.{answer_by}
 use Rattle.gl_demand.specs.View.{key_tree}
 use Rattle.gl_demand.specs.Reading.{ahead_tree}
@@ -30,6 +32,7 @@ returns-in-Ok-Waits-clause-needs c =
       core = marked_core c.go_on.new.ledger c.go_on.new.entries c.mark.new.self needs.core c.mark.ensures.others.table c.mark.ensures.others.keys.known c.mark.ensures.others.keys.statuses c.mark.ensures.others.passed;
       marks_err = tt;
       marks_full = λ e. absurd (cc e);
+      waits = λ e. subst (λ (ws : List (ℕ × ℕ)). has (waiters ws) c.args.p ≡ true) (sym c.mark.ensures.others.waited) (needs.waits c.in-Ok-Waits.field-0-is);
     }
 
 pub returns-in-Ok-Waits-clause-marks : goal.returns-in-Ok-Waits-clause-marks
@@ -42,3 +45,6 @@ returns-in-Ok-clause-needs c = c.in-Ok.ensures.needs
 
 pub returns-in-Ok-clause-marks : goal.returns-in-Ok-clause-marks
 returns-in-Ok-clause-marks c = stay_by (λ m. m ≡ (ahead_tree c.args.ahead, 0)) c.args.p (mark_trees c.args.entries.now.marks.items) (mark_trees c.go_on.new.entries.marks.items) c.in-Ok.ensures.marks
+
+pub mark-requires-clause-waited : goal.mark-requires-clause-waited
+mark-requires-clause-waited c = c.in-Ok-Waits.ensures.needs.waits c.in-Ok-Waits.field-0-is

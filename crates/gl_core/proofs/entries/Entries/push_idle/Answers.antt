@@ -3,7 +3,7 @@ use Rattle.std.specs.declared.alloc.Global.{Global}
 use Rattle.gl_core.specs.Numbers.{IsIndex}
 use Rattle.gl_core.specs.Statuses.{has, row_of}
 use Rattle.gl_demand.specs.Marks.{mark_trees}
-use Rattle.gl_core.specs.Table.{PointBelow}
+use Rattle.gl_core.specs.Table.{PointBelow, AreWaiters, waiters}
 use Rattle.gl_demand.specs.declared.mark.Mark.{Mark}
 use Rattle.gl_core.specs.declared.status.Status.{Status}
 use Rattle.gl_core.specs.declared.status.Status.TheVariants.{Idle}
@@ -11,6 +11,7 @@ use Rattle.gl_core.proofs.Indexing.{zero_last}
 use Rattle.gl_core.proofs.Numbered.{index_push}
 use Rattle.gl_core.proofs.Tables.{pushed_below, pushed_listed, row_push_last}
 use Rattle.gl_core.proofs.Reading.{none_pushed, pushed_stay}
+use Rattle.gl_core.proofs.Waited.{waiters_idle}
 use Rattle.gl_core.proofs.entries.Entries.push_idle.Goals as goal
 
 pub returns-clause-rows : goal.returns-clause-rows
@@ -48,6 +49,8 @@ returns-clause-table c =
       index = subst (λ (xs : List ℕ). IsIndex xs c.put.new.places.items) (sym known) (subst (IsIndex (ns ++ c.args.n ∷ [])) (sym at) i);
       passed = omega (arith, passed, n, t.passed);
       marks = omega (arith, marks, n, t.marks);
+      waiters = subst (λ (xs : List Status). AreWaiters (waiters s.waited.items) xs (mark_trees c.push_reserved-4.new.self.items)) (sym new)
+          (waiters_idle (waiters s.waited.items) ss (mark_trees s.marks.items) (mark_trees c.push_reserved-4.new.self.items) (pushed_stay (mark_trees s.marks.items) (mark_trees c.push_reserved-4.new.self.items) (ap (λ (xs : List Mark). mark_trees xs) marked ∙ none_pushed s.marks.items c.none.result c.none.ensures)) t.waiters);
     }
 
 pub returns-clause-passed : goal.returns-clause-passed
