@@ -4,7 +4,9 @@ ghost use Rattle.gl_machine.specs.Ahead.Reading.{Nothing};
 ghost use Rattle.gl_demand.specs.Marks.{mark_trees};
 ghost use Rattle.gl_core.specs.Table.{waiters, AreWaiters, IsTable, status_by};
 ghost use Rattle.gl_core.specs.Rested.{reopened_at, AreReopened, IsRestOf, AreBegunBut};
-ghost use Rattle.gl_core.specs.Rested.{IsBegunAgain, FollowsTo};
+ghost use Rattle.gl_core.specs.Rested.{IsBegunAgain, FollowsTo, IsRested};
+ghost use Rattle.gl_core.specs.Carry.{IsCarry, CanFollow};
+ghost use Rattle.gl_core.specs.{declared.ledger.Ledger.Ledger};
 ghost use Rattle.gl_core.specs.{Statuses.AreCounted, Ledger.IsLedger};
 
 use crate::entries::Entries;
@@ -13,6 +15,16 @@ use crate::ledger::Ledger;
 use crate::status::Status;
 use crate::statuses::Statuses;
 use gl_demand::Mark;
+use std::alloc::Global;
+
+/// What the known keys of a round leave to the next one.
+#[derive(Drop)]
+pub enum Carry {
+    /// The keys themselves, all of them seeds: each is resolved by its row, or idle.
+    Seeds(Entries),
+    /// Their numbers, those of the seeds first: guesses.
+    Numbers(Vec<u32>),
+}
 
 /// A key that waits is idle again.
 fn reopen(statuses: &mut Statuses, q: usize)
@@ -119,6 +131,38 @@ impl Entries {
     {
         for n in changed {
             self.reread(ledger, *n);
+        }
+    }
+}
+
+impl Carry {
+    /// Of no key.
+    pub fn new(alloc: Global) -> Carry
+        ensures { (l : Ledger) → IsCarry l result }
+    {
+        Carry::Numbers(Vec::new(alloc))
+    }
+
+    /// Of keys of which so many are seeds, and of which each note is.
+    pub fn of(entries: Entries, seeds: usize) -> Carry
+        ensures { (l : Ledger) → IsRested l entries → IsCarry l result }
+    {
+        if entries.known.len() == seeds {
+            Carry::Seeds(entries)
+        } else {
+            Carry::Numbers(entries.into_known())
+        }
+    }
+
+    /// The keys of these numbers, whose rows went or moved, begin again.
+    pub fn follow(&mut self, ledger: &Ledger, changed: &[u32])
+        requires kept { IsLedger ledger.now }
+        requires begun { CanFollow ledger.now changed.now self.old }
+        ensures { IsCarry ledger.now self.new }
+    {
+        match self {
+            Carry::Seeds(entries) => entries.follow(ledger, changed),
+            Carry::Numbers(_) => {}
         }
     }
 }

@@ -197,8 +197,8 @@ impl Core {
             → MoreThan max_demanded
             (Demanded (program (world_of evaluator.now)) (map (K.Cell V.Top) places.now))) }
     {
-        let (mut ledger, before) = results.into_ledger();
-        match resumed(evaluator.alloc, places, &before, &mut ledger) {
+        let (mut ledger, carry) = results.into_parts();
+        match resumed(evaluator.alloc, places, carry, &mut ledger) {
             Ok(entries) => Ok(Core {
                 entries,
                 seeds: places.len(),

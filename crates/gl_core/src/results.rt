@@ -8,8 +8,9 @@ ghost use Rattle.gl_machine.specs.Remembered.{AreClosed, AreTheKept};
 ghost use Rattle.gl_plane.specs.Changes.{reaches};
 ghost use Rattle.gl_demand.specs.{View.key_tree, View.outcome_tree, Sound.IsSoundFound};
 ghost use Rattle.gl_core.specs.{Ledger.written, Ledger.IsLedger, Results.outcome_in};
-ghost use Rattle.gl_core.specs.{Results.AreResults};
+ghost use Rattle.gl_core.specs.{Results.AreResults, Carry.IsCarry};
 
+use crate::carry::Carry;
 use crate::converting::copy_ledger;
 use crate::ledger::Ledger;
 use crate::outcomes::row_outcome;
@@ -26,14 +27,13 @@ const SPARE: u64 = 512;
 /// looked at. Each key that a note read has a note, too. They are in any order.
 pub struct Results {
     ledger: Ledger,
-    // of the keys that the round knew, its seeds first: guesses for the next one
-    numbers: Vec<u32>,
+    carry: Carry,
 }
 
 // One call wherever it is dropped, in place of one for each part.
 impl Drop for Results {
     fn drop(self) {
-        let Results { ledger, numbers } = self;
+        let Results { ledger, carry } = self;
     }
 }
 
@@ -42,6 +42,7 @@ impl Model for Results {
     ghost use Rattle.gl_machine.specs.Codes.{coded_note};
     ghost use Rattle.gl_calculus.specs.Calculation.Memory.{Notes};
     ghost use Rattle.gl_core.specs.{Ledger.written, Ledger.IsLedger, Results.AreResults};
+    ghost use Rattle.gl_core.specs.{Carry.IsCarry};
 
     ghost Value = { Notes };
 
@@ -49,17 +50,22 @@ impl Model for Results {
 
     ghost view = { λ r. written r.ledger };
 
-    ghost invariant = { λ r. IsLedger r.ledger × AreResults (written r.ledger) };
+    ghost invariant = { λ r.
+        IsLedger r.ledger × AreResults (written r.ledger) × IsCarry r.ledger r.carry };
 }
 
 /// The same notes in a book of their keys alone, if there is memory for it.
-fn give_back(alloc: Global, ledger: &mut Ledger)
-    requires { IsLedger ledger.old }
+fn give_back(alloc: Global, ledger: &mut Ledger, carry: &mut Carry)
+    requires kept { IsLedger ledger.old }
+    requires carry { IsCarry ledger.old carry.old }
     ensures notes { written ledger.new ≡ written ledger.old }
     ensures kept { IsLedger ledger.new }
+    ensures carry { IsCarry ledger.new carry.new }
 {
     if let Ok(copy) = copy_ledger(alloc, ledger) {
         *ledger = copy;
+        // the keys of a copy have other numbers
+        *carry = Carry::new(alloc);
     }
 }
 
@@ -70,27 +76,29 @@ impl Results {
     {
         Results {
             ledger: Ledger::new(alloc),
-            numbers: Vec::new(alloc),
+            carry: Carry::new(alloc),
         }
     }
 
-    /// These notes, and the numbers of the keys of their round, those of its seeds first.
-    pub(crate) fn of(ledger: Ledger, numbers: Vec<u32>) -> Results
+    /// These notes, and what the known keys of their round leave to the next one.
+    pub(crate) fn of(ledger: Ledger, carry: Carry) -> Results
         requires kept { IsLedger ledger }
         requires results { AreResults (written ledger) }
+        requires carry { IsCarry ledger carry }
         ensures { result ≡ written ledger }
     {
-        Results { ledger, numbers }
+        Results { ledger, carry }
     }
 
-    /// The notes by numbers, and guesses for the numbers of the next round's seeds, in their order.
-    pub(crate) fn into_ledger(self) -> (Ledger, Vec<u32>)
+    /// The notes by numbers, and what the known keys of their round left.
+    pub(crate) fn into_parts(self) -> (Ledger, Carry)
         ensures notes { written result.0 ≡ self }
         ensures kept { IsLedger result.0 }
         ensures results { AreResults (written result.0) }
+        ensures carry { IsCarry result.0 result.1 }
     {
-        let Results { ledger, numbers } = self;
-        (ledger, numbers)
+        let Results { ledger, carry } = self;
+        (ledger, carry)
     }
 
     /// How many notes there are.
@@ -120,8 +128,8 @@ impl Results {
     {
         let ledger = copy_ledger(alloc, &self.ledger)?;
         // the keys of a copy have other numbers
-        let numbers = Vec::new(alloc);
-        Ok(Results { ledger, numbers })
+        let carry = Carry::new(alloc);
+        Ok(Results { ledger, carry })
     }
 
     /// Gives back the room of keys that are gone: where more than twice as many have numbers as are
@@ -131,7 +139,7 @@ impl Results {
         ensures { self.new ≡ self.old }
     {
         if self.ledger.book.len() as u64 / 2 > known.saturating_add(SPARE) {
-            give_back(alloc, &mut self.ledger);
+            give_back(alloc, &mut self.ledger, &mut self.carry);
         }
     }
 
@@ -143,7 +151,8 @@ impl Results {
         ensures closed { AreClosed self.old }
         ensures err { OnErr result (self.new ≡ self.old) }
     {
-        self.ledger.keep(alloc, changes)?;
+        let changed = self.ledger.keep(alloc, changes)?;
+        self.carry.follow(&self.ledger, &changed);
         Ok(())
     }
 }

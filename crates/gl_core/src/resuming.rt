@@ -1,21 +1,20 @@
 //! What a round knows at its start.
-ghost use Rattle.std.specs.Prelude.{◌≡◌, ◌<◌, ℕ, List, Some, length, map, filter, slice_get};
-ghost use Rattle.std.specs.Prelude.{IfOk, IfErr, IfSome};
+ghost use Rattle.std.specs.Prelude.{◌≡◌, ◌<◌, Some, true, length, map, filter, slice_get};
+ghost use Rattle.std.specs.Prelude.{IfOk, IfSome};
 ghost use Rattle.gl_calculus.specs.Computation.Lists.{AreDistinct};
 ghost use Rattle.gl_machine.specs.Remembered.{AreClosed};
-ghost use Rattle.gl_calculus.specs.Grid.Limits.{max_demanded};
 ghost use Rattle.gl_calculus.specs.Evaluation.Key as K;
 ghost use Rattle.gl_calculus.specs.Values.Value as V;
 ghost use Rattle.gl_support.specs.{Reach.has, Rows.notes_of};
-ghost use Rattle.gl_demand.specs.Marks.{mark_trees};
 ghost use Rattle.gl_demand.specs.View.{key_tree};
-ghost use Rattle.gl_core.specs.Numbers.{Each, numbers_of, AreNumbers, Grows};
-ghost use Rattle.gl_core.specs.{Ledger.written, Ledger.IsLedger, Marks.TellNothing, Table.IsCore};
-ghost use Rattle.gl_core.specs.{Table.AreBegun, Resuming.IsClosure, Resuming.IsResumed};
+ghost use Rattle.gl_core.specs.Numbers.{Each, keys_at, numbers_of, AreNumbers, Grows};
+ghost use Rattle.gl_core.specs.{Ledger.written, Ledger.IsLedger, Rested.IsRested, Carry.IsCarry};
+ghost use Rattle.gl_core.specs.Resuming.{IsClosure, IsResumed, Resumes};
 
 use crate::answers::CoreFault;
 use crate::beginning::begun;
 use crate::book::Book;
+use crate::carry::Carry;
 use crate::closure::closure;
 use crate::entries::Entries;
 use crate::ledger::Ledger;
@@ -150,7 +149,7 @@ fn known(
 
 /// The seeds and what they reach through notes, each resolved where it has a note. Their numbers are
 /// looked for among those of the round before.
-pub fn resumed(
+fn anew(
     alloc: Global,
     places: &[Addr],
     before: &[u32],
@@ -159,17 +158,7 @@ pub fn resumed(
     requires kept { IsLedger ledger.old }
     requires closed { AreClosed (written ledger.old) }
     requires apart { AreDistinct (map (K.Cell V.Top) places.now) }
-    ensures known { IfOk result
-        (λ e. IsResumed ledger.new (map (K.Cell V.Top) places.now) e.known.items) }
-    ensures begun { IfOk result
-        (λ e. AreBegun ledger.new.rows.items e.known.items e.statuses.items.items) }
-    ensures marks { IfOk result (λ e. TellNothing (mark_trees e.marks.items)) }
-    ensures core { IfOk result (IsCore ledger.new) }
-    ensures work { IfErr result (λ e. e ≡ CoreFault.Work
-        → (known : List ℕ) × IsResumed ledger.new (map (K.Cell V.Top) places.now) known
-        × (max_demanded < length known)) }
-    ensures notes { written ledger.new ≡ written ledger.old }
-    ensures kept { IsLedger ledger.new }
+    ensures { Resumes (map (K.Cell V.Top) places.now) ledger.old result ledger.new }
 {
     let Ok(known) = known(alloc, places, before, ledger) else {
         return Err(CoreFault::NoMemory);
@@ -180,5 +169,60 @@ pub fn resumed(
     match begun(alloc, known, ledger) {
         Ok(entries) => Ok(entries),
         Err(NoMemory) => Err(CoreFault::NoMemory),
+    }
+}
+
+/// The known keys are these cells of the sheet, in this order.
+fn are_cells(book: &Book, known: &[u32], places: &[Addr]) -> bool
+    ensures { result ≡ true → keys_at book.now known.now ≡ map (K.Cell V.Top) places.now }
+{
+    if known.len() != places.len() {
+        return false;
+    }
+    for i in 0..known.len() {
+        let n = known[i];
+        if !book.is_at(n as usize, &Key::Cell(Env::Top, places[i])) {
+            return false;
+        }
+    }
+    true
+}
+
+/// The keys of the round before, where they are the seeds, and else the seeds anew.
+fn resumed_seeds(
+    alloc: Global,
+    places: &[Addr],
+    entries: Entries,
+    ledger: &mut Ledger,
+) -> Result<Entries, CoreFault>
+    requires kept { IsLedger ledger.old }
+    requires closed { AreClosed (written ledger.old) }
+    requires apart { AreDistinct (map (K.Cell V.Top) places.now) }
+    requires rested { IsRested ledger.old entries }
+    ensures { Resumes (map (K.Cell V.Top) places.now) ledger.old result ledger.new }
+{
+    if are_cells(&ledger.book, &entries.known, places) {
+        return Ok(entries);
+    }
+    anew(alloc, places, &entries.known, ledger)
+}
+
+/// The seeds and what they reach through notes, each resolved where it has a note, by what the round
+/// before left.
+pub fn resumed(
+    alloc: Global,
+    places: &[Addr],
+    carry: Carry,
+    ledger: &mut Ledger,
+) -> Result<Entries, CoreFault>
+    requires kept { IsLedger ledger.old }
+    requires closed { AreClosed (written ledger.old) }
+    requires apart { AreDistinct (map (K.Cell V.Top) places.now) }
+    requires carry { IsCarry ledger.old carry }
+    ensures { Resumes (map (K.Cell V.Top) places.now) ledger.old result ledger.new }
+{
+    match carry {
+        Carry::Seeds(entries) => resumed_seeds(alloc, places, entries, ledger),
+        Carry::Numbers(before) => anew(alloc, places, &before, ledger),
     }
 }
