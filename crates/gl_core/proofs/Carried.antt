@@ -1,5 +1,5 @@
 -- What came to wait, one after the other, until nothing waits.
-use Rattle.std.proofs.Common.{◌≡◌, ◌⊎◌, ◌<◌, ◌+◌, ◌≢◌, ◌||◌, ℕ, zero, suc, nat_eq, Bool, true, false, cond, List, [], ◌∷◌, length, drop, set, slice_get, Option, Some, None, inl, inr, refl, sym, ap, ◌∙◌, subst, arith}
+use Rattle.std.proofs.Common.{◌≡◌, ◌⊎◌, ◌<◌, ◌+◌, ◌≢◌, ◌||◌, ℕ, zero, suc, nat_eq, Bool, true, false, cond, List, [], ◌∷◌, length, drop, set, slice_get, slice_index_or, Option, Some, None, inl, inr, refl, sym, ap, ◌∙◌, subst, arith}
 use Rattle.std.proofs.lemmas.List.{length-set}
 use Rattle.gl_machine.specs.Ahead.Reading.{Nothing}
 use Rattle.gl_demand.specs.Marks.{PlainMark}
@@ -21,6 +21,14 @@ drop_next {X} xs i x e = by xs i e ∙ ap (λ (n : ℕ). x ∷ drop n xs) (let a
     by [] i e = absurd (cc e)
     by (y ∷ ys) zero e = let d : y ≡ x = cc in ap (λ (z : X). z ∷ ys) d
     by (y ∷ ys) (suc i) e = by ys i e
+
+pub drop_or : {X : Type 0} (xs : List X) (i : ℕ) (x : X) → i < length xs → drop i xs ≡ slice_index_or xs i x ∷ drop (i + 1) xs
+drop_or {X} xs i x h = by xs i h ∙ ap (λ (n : ℕ). slice_index_or xs i x ∷ drop n xs) (let a : suc i ≡ i + 1 = omega arith in a)
+  where
+    by : (xs : List X) (i : ℕ) → i < length xs → drop i xs ≡ slice_index_or xs i x ∷ drop (suc i) xs
+    by [] i h = absurd (omega arith)
+    by (y ∷ ys) zero h = refl
+    by (y ∷ ys) (suc i) h = by ys i (omega arith)
 
 pub drop_all : {X : Type 0} (xs : List X) (i : ℕ) → length xs < i + 1 → drop i xs ≡ []
 drop_all [] zero h = refl

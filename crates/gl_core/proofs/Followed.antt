@@ -35,12 +35,12 @@ more_left ns n m d (inr p) = inr p
 module _ (l : Ledger) (e e' : Entries) (t : IsTable e) (n : ℕ) (ns : List ℕ) (b : AreBegunBut l (n ∷ ns) e) where
   -- a number that is not known
   pub follows_none : (Member n e.known.items → ⊥) → FollowsTo l ns e e
-  follows_none no = record {
+  follows_none unknown = record {
     known = refl;
     marks = refl;
     begun = record {
-      begun = λ p m s d f. more_left ns n m (λ e. no (subst (λ (k : ℕ). Member k e.known.items) e (member_at e.known.items p m d))) (b.begun p m s d f);
-      none = λ p m d f. more_left ns n m (λ e. no (subst (λ (k : ℕ). Member k e.known.items) e (member_at e.known.items p m d))) (b.none p m d f);
+      begun = λ p m s d f. more_left ns n m (λ i. unknown (subst (λ (k : ℕ). Member k e.known.items) i (member_at e.known.items p m d))) (b.begun p m s d f);
+      none = λ p m d f. more_left ns n m (λ i. unknown (subst (λ (k : ℕ). Member k e.known.items) i (member_at e.known.items p m d))) (b.none p m d f);
     };
     table = t;
   }
@@ -113,12 +113,12 @@ all_followed l e e' f below marks all = record {
 
 module _ (l l' : Ledger) (h : IsLedger l) (h' : IsLedger l') (ns : List ℕ) (same : (n : ℕ) → (Member n ns → ⊥) → slice_index l'.row_of.items n ≡ slice_index l.row_of.items n) where
   -- a number that is not among those that changed
-  module _ (n : ℕ) (no : Member n ns → ⊥) where
+  module _ (n : ℕ) (others : Member n ns → ⊥) where
     stands : (r : ℕ) → slice_get (numbers_of l.rows.items) r ≡ Some n → slice_get (numbers_of l'.rows.items) r ≡ Some n
-    stands r d = h'.index.back n r (same n no ∙ h.index.there r n d)
+    stands r d = h'.index.back n r (same n others ∙ h.index.there r n d)
 
     stood : (r : ℕ) → slice_get (numbers_of l'.rows.items) r ≡ Some n → slice_get (numbers_of l.rows.items) r ≡ Some n
-    stood r d = h.index.back n r (sym (same n no) ∙ h'.index.there r n d)
+    stood r d = h.index.back n r (sym (same n others) ∙ h'.index.there r n d)
 
     had : Member n (numbers_of l'.rows.items) → Member n (numbers_of l.rows.items)
     had m = let (r, d) = place_of (numbers_of l'.rows.items) n m in member_at (numbers_of l.rows.items) r n (stood r d)
@@ -135,8 +135,8 @@ module _ (l l' : Ledger) (h : IsLedger l) (h' : IsLedger l') (ns : List ℕ) (sa
 
   pub begun_but : (e : Entries) → IsRested l e → AreBegunBut l' ns e
   begun_but e b = record {
-    begun = λ p n s d f. by n (λ no. still_begun n no s (b.begun p n s d f));
-    none = λ p n d f. by n (λ no. b.none p n d (λ m. f (has_still n no m)));
+    begun = λ p n s d f. by n (λ o. still_begun n o s (b.begun p n s d f));
+    none = λ p n d f. by n (λ o. b.none p n d (λ m. f (has_still n o m)));
   }
     where
       by : (n : ℕ) → {P : Type 0} → ((Member n ns → ⊥) → P) → (has ns n ≡ true) ⊎ P

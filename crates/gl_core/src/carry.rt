@@ -45,8 +45,9 @@ fn reopen(statuses: &mut Statuses, q: usize)
 fn unmark(marks: &mut Vec<Mark>, q: usize)
     ensures { mark_trees marks.new.items ≡ set (mark_trees marks.old.items) q (Nothing, 0) }
 {
-    if let Some(mark) = marks.get_mut(q) {
-        *mark = Mark::none();
+    match marks.get_mut(q) {
+        Some(mark) => *mark = Mark::none(),
+        None => {}
     }
 }
 
@@ -117,8 +118,9 @@ impl Entries {
             → AreBegunBut ledger.now (n ∷ ns) self.old
             → FollowsTo ledger.now ns self.old self.new }
     {
-        if let Some(p) = place_in(&self.at, n) {
-            self.begin_again(p, ledger.row(n));
+        match place_in(&self.at, n) {
+            Some(p) => self.begin_again(p, ledger.row(n)),
+            None => {}
         }
     }
 

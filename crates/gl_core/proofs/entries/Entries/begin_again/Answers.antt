@@ -7,7 +7,7 @@ use Rattle.gl_core.specs.declared.status.Status.TheVariants.{Waiting}
 use Rattle.gl_core.proofs.Reading.{same_marks}
 use Rattle.gl_core.proofs.Waited.{waiters_kept}
 use Rattle.gl_core.proofs.Carried.{waited_before}
-use Rattle.gl_core.proofs.carry.Entries.begin_again.Goals as goal
+use Rattle.gl_core.proofs.entries.Entries.begin_again.Goals as goal
 
 pub set-requires-clause-there : goal.set-requires-clause-there
 set-requires-clause-there c = omega (arith, c.requires.table.statuses, c.requires.there)

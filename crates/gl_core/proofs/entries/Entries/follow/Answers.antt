@@ -3,7 +3,7 @@ use Rattle.gl_core.specs.Rested.{AreBegunBut, FollowsTo}
 use Rattle.gl_core.proofs.Numbered.{get_of_index}
 use Rattle.gl_core.proofs.Carried.{drop_next, drop_all}
 use Rattle.gl_core.proofs.Followed.{follows_more}
-use Rattle.gl_core.proofs.carry.Entries.follow.Goals as goal
+use Rattle.gl_core.proofs.entries.Entries.follow.Goals as goal
 
 pub loop-n-init : goal.loop-n-init
 loop-n-init c = record { left = record { known = refl; marks = refl; begun = c.requires.begun; table = c.requires.table } }
