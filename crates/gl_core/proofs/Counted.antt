@@ -1,18 +1,18 @@
 -- As many rows as known keys that are not idle, where nothing waits: each row is that of a known key.
-use Rattle.std.proofs.Common.{◌≡◌, ℕ, zero, suc, ◌+◌, ◌<◌, ◌≤◌, Bool, true, false, cond, List, [], ◌∷◌, length, filter, slice_get, slice_index, Some, refl, sym, ap, ◌∙◌, subst, inl, inr, arith}
+use Rattle.std.proofs.Common.{◌≡◌, ◌⊎◌, ℕ, zero, suc, ◌+◌, ◌<◌, ◌≤◌, Bool, true, false, cond, nat_eq, List, [], ◌∷◌, length, filter, slice_get, slice_index, Some, refl, sym, ap, ◌∙◌, subst, inl, inr, arith, append-nil}
 use Rattle.gl_calculus.specs.Computation.Lists.{Member, AreDistinct}
-use Rattle.gl_calculus.specs.Computation.Notes.{Note}
+use Rattle.gl_calculus.specs.Computation.Notes.{Note, Here}
 use Rattle.gl_calculus.specs.Grid.Grid.{Range}
-use Rattle.gl_machine.specs.Remembered.{AreClosed}
 use Rattle.gl_support.specs.Rows.{notes_of}
 use Rattle.gl_support.specs.declared.row.Row.{Row}
 use Rattle.gl_demand.specs.declared.outcome.Outcome.{Outcome}
 use Rattle.gl_core.specs.Statuses.{count_idle}
-use Rattle.gl_core.specs.Numbers.{numbers_of}
+use Rattle.gl_core.specs.Numbers.{Each, numbers_of}
 use Rattle.gl_core.specs.Ledger.{IsLedger}
 use Rattle.gl_core.specs.Marks.{TellNothing}
-use Rattle.gl_core.specs.Table.{IsCore, IsResolved, IsBegun, is_row, has_outcome, marks_of}
-use Rattle.gl_core.specs.Rested.{NoneWaits, IsRested}
+use Rattle.gl_core.specs.Table.{IsCore, IsResolved, IsBegun, is_row, has_in, has_outcome, marks_of}
+use Rattle.gl_core.specs.Resuming.{IsClosure}
+use Rattle.gl_core.specs.Rested.{NoneWaits, IsRested, IsRestOf, AreReopened}
 use Rattle.gl_core.specs.declared.ledger.Ledger.{Ledger}
 use Rattle.gl_core.specs.declared.entries.Entries.{Entries}
 use Rattle.gl_core.specs.declared.status.Status.{Status}
@@ -26,7 +26,7 @@ use Rattle.gl_core.proofs.Resolved.{has_at, known_apart}
 use Rattle.gl_core.proofs.Whole.{fills, filter_whole, row_number}
 
 -- the numbers with rows
-resolved_numbers : List ℕ → List Status → List ℕ
+abbrev resolved_numbers : List ℕ → List Status → List ℕ
 resolved_numbers [] ss = []
 resolved_numbers (n ∷ ns) [] = []
 resolved_numbers (n ∷ ns) (s ∷ ss) = cond (is_row s) (n ∷ resolved_numbers ns ss) (resolved_numbers ns ss)
@@ -120,6 +120,18 @@ module _ (l : Ledger) (e : Entries) (h : IsLedger l) (b : IsRested l e) where
       by p d (Waiting q) f g = absurd g
       by p d (Resolved r) f g = (p, r, d, f)
 
+  -- the known keys are all that they reach
+  pub rested_closure : ((n : Note ℕ Outcome Range) → Member n (notes_of l.rows.items) → (j : ℕ) → Member j n.reads → Member j (numbers_of l.rows.items)) → IsClosure l e.known.items e.known.items
+  rested_closure noted = record {
+    rest = [];
+    first = sym (append-nil e.known.items);
+    below = b.below;
+    apart = known_apart e (indexed e b.table);
+    reached = λ k m. (k, m, Here);
+    closed = λ n i m j r. b.all j (noted n i j r);
+    noted = noted;
+  }
+
   pub rested_core : ((n : Note ℕ Outcome Range) → Member n (notes_of l.rows.items) → (j : ℕ) → Member j n.reads → Member j (numbers_of l.rows.items)) → IsCore l e
   rested_core noted = record {
     ledger = h;
@@ -145,3 +157,68 @@ module _ (l : Ledger) (e : Entries) (h : IsLedger l) (b : IsRested l e) where
           by [] r g = absurd (cc g)
           by (y ∷ rs) zero g = let d : y ≡ x = cc in inl (ap note (sym d))
           by (y ∷ rs) (suc r) g = inr (by rs r g)
+
+-- ---- what a core keeps, where nothing waits any more
+
+is_last : (old new : List Status) → AreReopened old new → (p r : ℕ) → slice_get old p ≡ Some (Resolved r) → slice_get new p ≡ Some (Resolved r)
+is_last old new a p r d =
+    let (s, f) = get_there new p (let h = get_within old p (Resolved r) d in omega (arith, h, a.size)) in
+    by s f (a.each p s f)
+  where
+    by : (s : Status) → slice_get new p ≡ Some s → (slice_get old p ≡ Some s) ⊎ ((s ≡ Idle) × (q : ℕ) × (slice_get old p ≡ Some (Waiting q))) → slice_get new p ≡ Some (Resolved r)
+    by s f (inl e) =
+        let g : Some s ≡ Some (Resolved r) = sym e ∙ d in
+        f ∙ g
+    by s f (inr e) = let no : Some (Resolved r) ≡ Some (Waiting e.1) = sym d ∙ e.2 in absurd (cc no)
+
+was_resolved : (old new : List Status) → AreReopened old new → (p r : ℕ) → slice_get new p ≡ Some (Resolved r) → slice_get old p ≡ Some (Resolved r)
+was_resolved old new a p r d = elim (a.each p (Resolved r) d) [
+  | inl e ↦ e
+  | inr e ↦ absurd (cc e.0)
+]
+
+pub rest_core : (l : Ledger) (e e' : Entries) → IsCore l e → IsRestOf e e' → IsCore l e'
+rest_core l e e' c r = record {
+  ledger = c.ledger;
+  table = r.table;
+  below = subst (λ (ns : List ℕ). Each (λ n. n < length l.book) ns) (sym r.known) c.below;
+  resolved = λ p n d. (let (x, f, g) = c.resolved p n (was_resolved ss ss' r.statuses p n d) in (x, f, ap (λ (ns : List ℕ). slice_get ns p) r.known ∙ g));
+  passed = record {
+    reads = λ p n i j x d f g h. resolved j (c.passed.reads p n i j x (ap (λ (ns : List ℕ). slice_get ns p) (sym r.known) ∙ d) f (subst (λ (ns : List ℕ). i < slice_index ns p) r.passed g) h);
+    none = λ p n d f. ap (λ (ns : List ℕ). slice_index ns p) r.passed ∙ c.passed.none p n (ap (λ (ns : List ℕ). slice_get ns p) (sym r.known) ∙ d) f;
+  };
+}
+  where
+    ss : List Status
+    ss = e.statuses.items.items
+
+    ss' : List Status
+    ss' = e'.statuses.items.items
+
+    resolved : (j : ℕ) → IsResolved e j → IsResolved e' j
+    resolved j (p, n, d, f) = (p, n, ap (λ (ns : List ℕ). slice_get ns p) r.known ∙ d, is_last ss ss' r.statuses p n f)
+
+-- the same keys are resolved
+has_still : (ns : List ℕ) (ss ss' : List Status) → AreReopened ss ss' → (n : ℕ) → has_in ns ss' n ≡ has_in ns ss n
+has_still [] ss ss' a n = refl
+has_still (m ∷ ns) [] [] a n = refl
+has_still (m ∷ ns) [] (s ∷ ss') a n = absurd (omega (arith, a.size))
+has_still (m ∷ ns) (s ∷ ss) [] a n = absurd (omega (arith, a.size))
+has_still (m ∷ ns) (s ∷ ss) (s' ∷ ss') a n =
+    let rest : AreReopened ss ss' = record { size = omega (arith, a.size); each = λ q x d. a.each (suc q) x d } in
+    ap (λ (b : Bool). cond (nat_eq n m) b (has_in ns ss' n)) (same (a.each 0 s' refl)) ∙ ap (λ (b : Bool). cond (nat_eq n m) (is_row s) b) (has_still ns ss ss' rest n)
+  where
+    same : (Some s ≡ Some s') ⊎ ((s' ≡ Idle) × (q : ℕ) × (Some s ≡ Some (Waiting q))) → is_row s' ≡ is_row s
+    same (inl e) = let d : s ≡ s' = cc in ap is_row (sym d)
+    same (inr e) =
+        let w : Some s ≡ Some (Waiting e.1) = e.2 in
+        let d : s ≡ Waiting e.1 = cc in
+        ap is_row e.0 ∙ sym (ap is_row d)
+
+filter_alike : {X : Type 0} (p q : X → Bool) (xs : List X) → ((x : X) → p x ≡ q x) → filter p xs ≡ filter q xs
+filter_alike p q [] h = refl
+filter_alike p q (x ∷ xs) h = rw (h x, filter_alike p q xs h) refl
+
+pub rest_filter : (e e' : Entries) → IsRestOf e e' → (rs : List (Row Outcome Range)) → filter (λ (r : Row Outcome Range). has_outcome e' r.by) rs ≡ filter (λ (r : Row Outcome Range). has_outcome e r.by) rs
+rest_filter e e' r rs = filter_alike (λ (x : Row Outcome Range). has_outcome e' x.by) (λ (x : Row Outcome Range). has_outcome e x.by) rs
+    (λ x. ap (λ (ns : List ℕ). has_in ns e'.statuses.items.items x.by) r.known ∙ has_still e.known.items e.statuses.items.items e'.statuses.items.items r.statuses x.by)

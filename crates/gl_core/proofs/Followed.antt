@@ -2,6 +2,7 @@
 use Rattle.std.proofs.Common.{◌≡◌, ◌⊎◌, ◌<◌, ◌+◌, ◌≢◌, ◌||◌, ℕ, suc, nat_eq, Bool, true, false, List, [], ◌∷◌, length, set, slice_get, slice_index, Option, Some, None, inl, inr, refl, sym, ap, ◌∙◌, subst, arith}
 use Rattle.gl_calculus.specs.Computation.Lists.{Member}
 use Rattle.gl_calculus.specs.Grid.Grid.{Range}
+use Rattle.gl_calculus.specs.Evaluation.Key as K
 use Rattle.gl_support.specs.declared.row.Row.{Row}
 use Rattle.gl_demand.specs.declared.outcome.Outcome.{Outcome}
 use Rattle.gl_demand.specs.Marks.{mark_trees}
@@ -11,9 +12,12 @@ use Rattle.gl_core.specs.Numbers.{Each, numbers_of, IsIndex, IsRowOf}
 use Rattle.gl_core.specs.Ledger.{IsLedger}
 use Rattle.gl_core.specs.Marks.{TellNothing}
 use Rattle.gl_core.specs.Table.{IsTable, IsBegun, AreBegun, status_by, marks_of}
+use Rattle.gl_core.specs.Carry.{IsCarry, CanFollow, IsRestedBut}
 use Rattle.gl_core.specs.Rested.{IsRested, AreBegunBut, IsBegunAgain, FollowsTo}
 use Rattle.gl_core.specs.declared.ledger.Ledger.{Ledger}
 use Rattle.gl_core.specs.declared.entries.Entries.{Entries}
+use Rattle.gl_core.specs.declared.carry.Carry.{Carry}
+use Rattle.gl_core.specs.declared.carry.Carry.TheVariants.{Seeds, Numbers}
 use Rattle.gl_core.specs.declared.status.Status.{Status}
 use Rattle.gl_core.specs.declared.status.Status.TheVariants.{Idle, Waiting, Resolved}
 use Rattle.gl_core.proofs.Trees.{same_or_other}
@@ -21,7 +25,8 @@ use Rattle.gl_core.proofs.Tables.{not_same}
 use Rattle.gl_core.proofs.Wakes.{get_set_same, get_set_other, get_within, get_there}
 use Rattle.gl_core.proofs.Places.{member_at, place_of, one_place}
 use Rattle.gl_core.proofs.Numbered.{index_apart, index_there, index_other, map_get, get_map}
-use Rattle.gl_core.proofs.Marks.{has_there, there_has}
+use Rattle.gl_core.proofs.Marks.{has_there}
+use Rattle.gl_core.proofs.Whole.{row_number}
 
 -- what a number begins with by its row
 begun_by : (rows : List (Row Outcome Range)) (n : ℕ) (v : Option ℕ) → IsRowOf rows n v → IsBegun rows n (status_by v)
@@ -145,3 +150,39 @@ module _ (l l' : Ledger) (h : IsLedger l) (h' : IsLedger l') (ns : List ℕ) (sa
           at : (b : Bool) → has ns n ≡ b → (has ns n ≡ true) ⊎ P
           at true e = inl e
           at false e = inr (f (λ m. let no : false ≡ true = sym e ∙ has_there ns n m in cc no))
+
+-- ---- what is left to the next round
+
+-- the number of a row that was there before
+pub numbers_from : (old new : List (Row Outcome Range)) → ((r : Row Outcome Range) → Member r new → Member r old) → (n : ℕ) → Member n (numbers_of new) → Member n (numbers_of old)
+numbers_from old new f n m =
+    let (p, d) = place_of (numbers_of new) n m in
+    let (r, e, i) = map_get (λ (z : Row Outcome Range). z.by) new p n d in
+    subst (λ (k : ℕ). Member k (numbers_of old)) i (row_number old r (f r (member_at new p r e)))
+
+pub can_follow : (l l' : Ledger) → IsLedger l → IsLedger l' → l'.book ≡ l.book → (ns : List ℕ) → ((n : ℕ) → (Member n ns → ⊥) → slice_index l'.row_of.items n ≡ slice_index l.row_of.items n) → ((n : ℕ) → Member n (numbers_of l'.rows.items) → Member n (numbers_of l.rows.items)) →
+    (k : Carry) → IsCarry l k → CanFollow l' ns k
+can_follow l l' h h' b ns same from (Seeds e) r = record {
+  table = r.table;
+  below = subst (λ (ks : List K.Key). Each (λ n. n < length ks) e.known.items) (sym b) r.below;
+  begun = begun_but l l' h h' ns same e r;
+  marks = r.marks;
+  all = λ n m. r.all n (from n m);
+}
+can_follow l l' h h' b ns same from (Numbers xs) r = tt
+
+-- the same of the same book and rows
+pub same_carry : (l l' : Ledger) → l'.book ≡ l.book → l'.rows.items ≡ l.rows.items → (k : Carry) → IsCarry l k → IsCarry l' k
+same_carry l l' b s (Seeds e) r = record {
+  table = r.table;
+  below = subst (λ (ks : List K.Key). Each (λ n. n < length ks) e.known.items) (sym b) r.below;
+  begun = subst (λ (rs : List (Row Outcome Range)). AreBegun rs e.known.items e.statuses.items.items) (sym s) r.begun;
+  none = λ p n d f. r.none p n d (λ m. f (subst (λ (rs : List (Row Outcome Range)). Member n (numbers_of rs)) (sym s) m));
+  marks = r.marks;
+  all = λ n m. r.all n (subst (λ (rs : List (Row Outcome Range)). Member n (numbers_of rs)) s m);
+}
+same_carry l l' b s (Numbers xs) r = tt
+
+-- keys that were followed are left as they are
+pub followed_rested : (l : Ledger) (ns : List ℕ) (e e' : Entries) → IsRestedBut l ns e → FollowsTo l [] e e' → IsRested l e'
+followed_rested l ns e e' b f = all_followed l e e' f b.below b.marks b.all

@@ -107,11 +107,6 @@ has_by_row rs n (Some r) (x, e, b) = subst (λ (m : ℕ). has (numbers_of rs) m 
 
 -- ---- as many notes as keys that have outcomes
 
-row_at : (ss : List Status) (p : ℕ) (s : Status) → list_all is_row ss ≡ true → slice_get ss p ≡ Some s → is_row s ≡ true
-row_at [] p s t e = absurd (cc e)
-row_at (x ∷ ss) zero s t e = let d : x ≡ s = cc in ap is_row (sym d) ∙ (both (is_row x) (list_all is_row ss) t).0
-row_at (x ∷ ss) (suc p) s t e = row_at ss p s (both (is_row x) (list_all is_row ss) t).1 e
-
 pub row_number : (rs : List (Row Outcome Range)) (r : Row Outcome Range) → Member r rs → Member r.by (numbers_of rs)
 row_number [] r m = absurd m
 row_number (x ∷ rs) r (inl e) = inl (ap (λ (y : Row Outcome Range). y.by) e)
@@ -124,30 +119,3 @@ filter_whole p (x ∷ xs) h = by (p x) (h x (inl refl)) (filter_whole p xs (λ y
     by : (b : Bool) → b ≡ true → filter p xs ≡ xs → (if b then x ∷ filter p xs else filter p xs) ≡ x ∷ xs
     by true e f = ap (λ t. x ∷ t) f
     by false e f = absurd (cc e)
-
-module _ (l : Ledger) (e : Entries) (c : IsCore l e) (all : list_all is_row e.statuses.items.items ≡ true) where
-  has_row : (n : ℕ) → Member n e.known.items → (has_outcome e n ≡ true) × Member n (numbers_of l.rows.items)
-  has_row n m =
-      let (p, d) = place_of e.known.items n m in
-      let h = get_within e.known.items p n d in
-      let (s, f) = get_there e.statuses.items.items p (omega (arith, h, c.table.statuses)) in
-      let t = row_at e.statuses.items.items p s all f in
-      (has_at e.known.items e.statuses.items.items p n s (known_apart e (indexed e c.table)) d f ∙ t, by p d s t f)
-    where
-      by : (p : ℕ) → slice_get e.known.items p ≡ Some n → (s : Status) → is_row s ≡ true → slice_get e.statuses.items.items p ≡ Some s → Member n (numbers_of l.rows.items)
-      by p d Idle t f = absurd (cc t)
-      by p d (Waiting q) t f = absurd (cc t)
-      by p d (Resolved r) t f =
-          let (x, i, j) = c.resolved p r f in
-          let same : n ≡ x.by = cc in
-          subst (λ (k : ℕ). Member k (numbers_of l.rows.items)) (sym same) (member_at (numbers_of l.rows.items) r x.by (get_map (λ (y : Row Outcome Range). y.by) l.rows.items r x i))
-
-  -- then each note is of such a key
-  pub all_kept : (n : ℕ) → nat_eq (length e.known.items) n ≡ true → n ≡ length l.rows.items → l.rows.items ≡ filter (λ (r : Row Outcome Range). has_outcome e r.by) l.rows.items
-  all_kept n a b = sym (filter_whole (λ (r : Row Outcome Range). has_outcome e r.by) l.rows.items (λ r m. (has_row r.by (known r.by (row_number l.rows.items r m))).0))
-    where
-      known : (k : ℕ) → Member k (numbers_of l.rows.items) → Member k e.known.items
-      known =
-          let q = numbers_length l.rows.items in
-          let s = eqb-true (length e.known.items) n a in
-          fills e.known.items (numbers_of l.rows.items) (known_apart e (indexed e c.table)) (λ k m. (has_row k m).1) (omega (arith, q, s, b))

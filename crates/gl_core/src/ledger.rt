@@ -279,6 +279,9 @@ impl Ledger {
             → (Member n v.items → ⊥)
             → slice_index self.new.row_of.items n ≡ slice_index self.old.row_of.items n) }
         ensures below { IfOk result (λ v. Each (λ n. n < length self.old.book) v.items) }
+        ensures from { (n : ℕ)
+            → Member n (numbers_of self.new.rows.items)
+            → Member n (numbers_of self.old.rows.items) }
         ensures err { OnErr result (written self.new ≡ written self.old) }
         ensures rows { OnErr result (self.new.rows ≡ self.old.rows) }
         ensures places { OnErr result (self.new.row_of ≡ self.old.row_of) }

@@ -1,18 +1,15 @@
-use Rattle.std.proofs.Common.{◌≡◌, ◌<◌, ◌+◌, ◌-◌, List, Option, IfSome, nat_eq, filter, length, sym, ap, subst, arith, ◌∙◌}
-use Rattle.std.specs.List.{list_all}
+use Rattle.std.proofs.Common.{◌≡◌, ◌<◌, ◌+◌, ◌-◌, List, Option, IfSome, filter, length, sym, ap, subst, arith, ◌∙◌}
 use Rattle.gl_calculus.specs.Computation.Lists.{AreDistinct}
 use Rattle.gl_calculus.specs.Grid.Grid.{Range}
-use Rattle.gl_calculus.proofs.Tests.{both}
 use Rattle.gl_support.specs.declared.row.Row.{Row}
 use Rattle.gl_demand.specs.declared.outcome.Outcome.{Outcome}
 use Rattle.gl_core.specs.Numbers.{Each, numbers_of}
 use Rattle.gl_core.specs.Graph.{IsGraphOf}
-use Rattle.gl_core.specs.Table.{is_row, has_outcome}
+use Rattle.gl_core.specs.Table.{has_outcome}
 use Rattle.gl_core.specs.declared.graph.Graph.{Graph}
 use Rattle.gl_core.proofs.Filtered.{numbers_there, numbers_apart, some_there, some_rows, filter_apart, filter_length}
 use Rattle.gl_core.proofs.Cores.{indexed}
 use Rattle.gl_core.proofs.Graphed.{fewer_rows}
-use Rattle.gl_core.proofs.Whole.{all_kept}
 use Rattle.gl_core.proofs.quiet.keep_known.Goals as goal
 
 pub keep_resolved-requires : goal.keep_resolved-requires
@@ -44,13 +41,6 @@ renumber-requires-clause-fewer c =
     let p = λ (r : Row Outcome Range). has_outcome c.args.entries.now r.by in
     let n = filter_length p l.rows.items in
     omega (arith, n, ap length c.keep_resolved.ensures, c.len-count.ensures, l.rows.ok.0)
-
-pub returns-then-are_resolved-clause-rows : goal.returns-then-are_resolved-clause-rows
-returns-then-are_resolved-clause-rows c =
-    let l = c.args.ledger.now in
-    let e = c.args.entries.now in
-    let b = both (nat_eq (length e.known.items) c.len-count.result) (list_all is_row e.statuses.items.items) (sym c.are_resolved.ensures ∙ c.if-are_resolved.true) in
-    all_kept l e c.requires b.1 c.len-count.result b.0 (c.len-count.ensures ∙ l.rows.ok.0)
 
 pub returns-clause-rows : goal.returns-clause-rows
 returns-clause-rows c = c.renumber.ensures.rows ∙ c.keep_resolved.ensures

@@ -17,6 +17,7 @@ use Rattle.gl_core.specs.Dropped.{AreWithout}
 use Rattle.gl_core.specs.declared.graph.Graph.{Graph}
 use Rattle.gl_core.specs.declared.ledger.Ledger.{Ledger}
 use Rattle.gl_core.proofs.Dropping.{closed_numbers, kept_by_search}
+use Rattle.gl_core.proofs.Followed.{numbers_from}
 use Rattle.gl_core.proofs.Filtered.{numbers_apart, same_rows}
 use Rattle.gl_core.proofs.ledger.Ledger.keep.Goals as goal
 
@@ -73,3 +74,6 @@ returns-clause-closed c =
     let t = reaches c.args.changes.now in
     kept_closed K.Key K.Outcome Range t (written l) (written c.drop_rows.new.self) c.requires.closed
     (kept_by l c.drop_rows.new.self c.requires.kept t c.deref.result.now c.deref.ensures.value c.in_ok-gone.gone.items c.deref-2.result.now c.deref-2.ensures.value c.in_ok-gone.ensures.dropped d.rows d.book)
+
+pub returns-clause-from : goal.returns-clause-from
+returns-clause-from c = λ n m. numbers_from c.args.self.now.rows.items c.drop_rows.new.self.rows.items (λ r i. (c.drop_rows.ensures.drops.rows.0 r i).0) n m

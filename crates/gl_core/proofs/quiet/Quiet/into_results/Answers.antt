@@ -13,6 +13,9 @@ of-requires-clause-results c =
     let (version, S, w, h) = c.requires.for_it in
     subst (λ (ns : Notes). AreResults ns) (sym c.resolved_notes-ledger.ensures.kept) (resolved_closed (world version S w) c.args.self h c.resolved_notes-ledger.ensures.sound)
 
+pub of-requires-clause-carry : goal.of-requires-clause-carry
+of-requires-clause-carry c = c.resolved_notes-ledger.ensures.carry
+
 pub returns-clause-notes : goal.returns-clause-notes
 returns-clause-notes c = λ version S w f q.
     the_notes (world version S w) c.args.self c.resolved_notes-ledger.ensures.sound c.of.result (subst (λ (ns : Notes). AreDistinct (note_keys ns)) (sym c.of.ensures) (notes_apart c.resolved_notes-ledger.result.0 c.resolved_notes-ledger.ensures.ledger)) (c.of.ensures ∙ c.resolved_notes-ledger.ensures.kept) f q

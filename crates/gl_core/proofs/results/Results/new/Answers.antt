@@ -12,7 +12,7 @@ pub invariant_of-result : goal.invariant_of-result
 invariant_of-result c =
     let l = c.new.result in
     let none : written l ≡ [] = ap (λ (rs : List (Row Outcome Range)). row_notes l.book rs) c.new.ensures.rows in
-    (c.new.ensures.kept, subst (λ (ns : Notes). AreResults ns) (sym none) (record { closed = λ n m. absurd m; sound = λ n m. absurd m }))
+    (c.new.ensures.kept, subst (λ (ns : Notes). AreResults ns) (sym none) (record { closed = λ n m. absurd m; sound = λ n m. absurd m }), c.new-2.ensures l)
 
 pub returns : goal.returns
 returns c = ap (λ (rs : List (Row Outcome Range)). row_notes c.new.result.book rs) c.new.ensures.rows

@@ -4,4 +4,4 @@ use Rattle.gl_core.specs.Results.{AreResults}
 use Rattle.gl_core.proofs.results.Results.tidy.Goals as goal
 
 pub invariant_of-self : goal.invariant_of-self
-invariant_of-self c = (c.give_back.ensures.kept, subst (λ (ns : Notes). AreResults ns) (sym c.give_back.ensures.notes) c.self.invariant.1)
+invariant_of-self c = (c.give_back.ensures.kept, subst (λ (ns : Notes). AreResults ns) (sym c.give_back.ensures.notes) c.self.invariant.1, c.give_back.ensures.carry)
