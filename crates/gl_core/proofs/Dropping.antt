@@ -19,7 +19,7 @@ keys_of_rows [] = refl
 keys_of_rows (r ∷ rs) = ap (λ t. r.by ∷ t) (keys_of_rows rs)
 
 -- a row's note is among the notes by numbers, and among those by keys
-pub row_noted : (rs : List (Row Outcome Range)) (r : Row Outcome Range) → Member r rs → Member (note_of r) (notes_of rs)
+row_noted : (rs : List (Row Outcome Range)) (r : Row Outcome Range) → Member r rs → Member (note_of r) (notes_of rs)
 row_noted [] r m = absurd m
 row_noted (x ∷ rs) r (inl e) = inl (ap (λ (y : Row Outcome Range). note_of y) e)
 row_noted (x ∷ rs) r (inr m) = inr (row_noted rs r m)

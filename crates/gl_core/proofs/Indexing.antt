@@ -1,10 +1,9 @@
 -- Lists of numbers, and their places, one after the other.
-use Rattle.std.proofs.Common.{◌≡◌, ℕ, zero, suc, ◌+◌, ◌<◌, ◌≤◌, ◌⊎◌, List, [], ◌∷◌, ◌++◌, length, take, drop, set, slice_get, slice_index, Some, replicate, refl, sym, ap, ◌∙◌, subst, arith, inl, inr}
+use Rattle.std.proofs.Common.{◌≡◌, ℕ, zero, suc, ◌+◌, ◌<◌, ◌≤◌, ◌⊎◌, List, [], ◌∷◌, ◌++◌, length, take, set, slice_get, slice_index, Some, replicate, refl, sym, ap, ◌∙◌, subst, arith, inl, inr}
 use Rattle.gl_calculus.specs.Computation.Lists.{Member, AreDistinct}
 use Rattle.gl_core.specs.Numbers.{IsIndex}
-use Rattle.gl_core.proofs.Trees.{same_or_other}
 use Rattle.gl_core.proofs.Places.{member_at}
-use Rattle.gl_core.proofs.Numbered.{index_push, index_none, index_there, index_other}
+use Rattle.gl_core.proofs.Numbered.{index_push}
 
 pub take_next : {X : Type 0} (xs : List X) (i : ℕ) (x : X) → slice_get xs i ≡ Some x → take (i + 1) xs ≡ take i xs ++ x ∷ []
 take_next {X} xs i x e = ap (λ n. take n xs) (let a : i + 1 ≡ suc i = omega arith in a) ∙ by xs i e
@@ -43,16 +42,7 @@ zeros zero q = refl
 zeros (suc n) zero = refl
 zeros (suc n) (suc q) = zeros n q
 
-pub index_zeros : (n : ℕ) → IsIndex [] (replicate n 0)
-index_zeros n = index_none (replicate n 0) (zeros n)
-
 -- ---- no places
-
-pub zero_more : (xs : List ℕ) (n : ℕ) → ((q : ℕ) → q < n → slice_index xs q ≡ 0) → n < length xs → (q : ℕ) → q < n + 1 → slice_index (set xs n 0) q ≡ 0
-zero_more xs n h l q g = elim (same_or_other q n) [
-  | inl s ↦ ap (slice_index (set xs n 0)) s ∙ index_there xs n 0 l
-  | inr d ↦ index_other xs n q 0 d ∙ h q (omega (arith, g, d))
-]
 
 pub index_past : (xs : List ℕ) (q : ℕ) → length xs ≤ q → slice_index xs q ≡ 0
 index_past [] q h = refl
@@ -77,14 +67,6 @@ all_zero xs n l h q = by (le_or_lt q)
     by : (q < n) ⊎ (n ≤ q) → slice_index xs q ≡ 0
     by (inl g) = h q g
     by (inr g) = index_past xs q (omega (arith, g, l))
-
-pub drop_index : (ns : List ℕ) (i : ℕ) → i < length ns → drop i ns ≡ slice_index ns i ∷ drop (i + 1) ns
-drop_index ns i h = by ns i h ∙ ap (λ m. slice_index ns i ∷ drop m ns) (let a : suc i ≡ i + 1 = omega arith in a)
-  where
-    by : (ns : List ℕ) (i : ℕ) → i < length ns → drop i ns ≡ slice_index ns i ∷ drop (suc i) ns
-    by [] i h = absurd (omega arith)
-    by (n ∷ ns) zero h = refl
-    by (n ∷ ns) (suc i) h = by ns i (omega arith)
 
 pub zero_last : (xs : List ℕ) (q : ℕ) → slice_index (xs ++ 0 ∷ []) q ≡ slice_index xs q
 zero_last [] zero = refl

@@ -31,7 +31,7 @@ pub row_there : (l : Ledger) → IsLedger l → (p : ℕ) (x : Row Outcome Range
 row_there l h p x e = all_in (λ i. i < length l.row_of.items) (numbers_of l.rows.items) (numbers_there l h) x.by (number_of l.rows.items x (member_at l.rows.items p x e))
 
 -- a ledger of some of the rows
-pub fewer_ledger : (l l' : Ledger) → IsLedger l → l'.book ≡ l.book → ((r : Row Outcome Range) → Member r l'.rows.items → Member r l.rows.items) → length l'.rows.items ≤ length l.rows.items → IsIndex (numbers_of l'.rows.items) l'.row_of.items → IfSome l'.graph (IsGraphOf l'.rows.items) → IsLedger l'
+fewer_ledger : (l l' : Ledger) → IsLedger l → l'.book ≡ l.book → ((r : Row Outcome Range) → Member r l'.rows.items → Member r l.rows.items) → length l'.rows.items ≤ length l.rows.items → IsIndex (numbers_of l'.rows.items) l'.row_of.items → IfSome l'.graph (IsGraphOf l'.rows.items) → IsLedger l'
 fewer_ledger l l' h b was few i g = record {
   book = subst (λ (x : List K.Key). AreBooked x) (sym b) h.book;
   below = subst (λ (x : List K.Key). Each (IsBelow (length x)) l'.rows.items) (sym b) (all_by (IsBelow (length l.book)) l'.rows.items (λ r m. all_in (IsBelow (length l.book)) l.rows.items h.below r (was r m)));
@@ -52,7 +52,7 @@ module _ (l l' : Ledger) (s : IsSearched l) (r k : ℕ) (x m : Row Outcome Range
   last_in : Member m l.rows.items
   last_in = member_at l.rows.items k m h.last
 
-  pub taken_index : IsIndex (numbers_of l'.rows.items) l'.row_of.items
+  taken_index : IsIndex (numbers_of l'.rows.items) l'.row_of.items
   taken_index =
       let n = swapped_numbers l.rows.items l'.rows.items r k x m h in
       subst (IsIndex (numbers_of l'.rows.items)) (sym places)

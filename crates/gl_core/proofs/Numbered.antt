@@ -189,9 +189,6 @@ index_push ns places n i h new = record {
 pub index_read : (ns xs ys : List ℕ) → ((q : ℕ) → slice_index ys q ≡ slice_index xs q) → IsIndex ns xs → IsIndex ns ys
 index_read ns xs ys h i = record { there = λ p n e. h n ∙ i.there p n e; back = λ n p e. i.back n p (sym (h n) ∙ e) }
 
-pub index_none : (places : List ℕ) → ((q : ℕ) → slice_index places q ≡ 0) → IsIndex [] places
-index_none places h = record { there = λ p n e. absurd (cc e); back = λ n p e. (let a : 0 ≡ suc p = sym (h n) ∙ e in absurd (cc a)) }
-
 -- a number without a place is not in the list
 pub index_absent : (ns places : List ℕ) (n : ℕ) → IsIndex ns places → slice_index places n ≡ 0 → Member n ns → ⊥
 index_absent ns places n i z m =

@@ -40,7 +40,7 @@ swapped {X} xs ys n j r x m size same short there gone last moved stay = record 
     at : m ≡ get_or xs (n - 1) m
     at = subst (λ (i : ℕ). m ≡ get_or xs (i - 1) m) same last
 
-pub swapped_map : {X Y : Type 0} (f : X → Y) (xs ys : List X) (r k : ℕ) (x m : X) → IsSwapped xs ys r k x m → IsSwapped (map f xs) (map f ys) r k (f x) (f m)
+swapped_map : {X Y : Type 0} (f : X → Y) (xs ys : List X) (r k : ℕ) (x m : X) → IsSwapped xs ys r k x m → IsSwapped (map f xs) (map f ys) r k (f x) (f m)
 swapped_map f xs ys r k x m h = record {
   gone = get_map f xs r x h.gone;
   last = get_map f xs k m h.last;
@@ -51,7 +51,7 @@ swapped_map f xs ys r k x m h = record {
 }
 
 -- where an item that is left stood
-pub stood : {X : Type 0} (xs ys : List X) (r k : ℕ) (x m : X) → IsSwapped xs ys r k x m → (p : ℕ) (y : X) → slice_get ys p ≡ Some y → ((p ≡ r) × (r < k) × (y ≡ m)) ⊎ ((p ≢ r) × (p < k) × (slice_get xs p ≡ Some y))
+stood : {X : Type 0} (xs ys : List X) (r k : ℕ) (x m : X) → IsSwapped xs ys r k x m → (p : ℕ) (y : X) → slice_get ys p ≡ Some y → ((p ≡ r) × (r < k) × (y ≡ m)) ⊎ ((p ≢ r) × (p < k) × (slice_get xs p ≡ Some y))
 stood {X} xs ys r k x m h p y e = by (same_or_other p r)
   where
     inside : p < k
@@ -66,7 +66,7 @@ stood {X} xs ys r k x m h p y e = by (same_or_other p r)
     by (inr d) = inr (d, inside, sym (h.stay p d inside) ∙ e)
 
 -- an item at another place is left
-pub left : {X : Type 0} (xs ys : List X) (r k : ℕ) (x m : X) → IsSwapped xs ys r k x m → (p : ℕ) (y : X) → slice_get xs p ≡ Some y → p ≢ r → Member y ys
+left : {X : Type 0} (xs ys : List X) (r k : ℕ) (x m : X) → IsSwapped xs ys r k x m → (p : ℕ) (y : X) → slice_get xs p ≡ Some y → p ≢ r → Member y ys
 left {X} xs ys r k x m h p y e d = by (same_or_other p k)
   where
     inside : p < suc k
