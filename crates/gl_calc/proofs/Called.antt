@@ -25,7 +25,7 @@ use Rattle.gl_core.specs.Kept.{AreTheNotes}
 use Rattle.gl_core.specs.State.{state_of, seeds_of, IsFor}
 use Rattle.gl_calc.specs.Shown.{IsRound}
 use Rattle.gl_calc.specs.Starting.{IsEvaluated}
-use Rattle.gl_calc.proofs.Finished.{noted_note}
+use Rattle.gl_core.proofs.Kept.{noted_note}
 use Rattle.gl_calc.specs.Progress.{Progress, first_of, rest_of, last_of, either, before_of, base_by, next_base, made_with, beyond_with}
 use Rattle.gl_calc.specs.Kept.{AreKept, IsEarlier, IsReady, IsTaken, IsKeptBy, IsSet}
 use Rattle.gl_calc.specs.Visits.{Collects, StandFirst}

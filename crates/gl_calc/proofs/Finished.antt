@@ -23,6 +23,7 @@ use Rattle.gl_calculus.specs.Steps.Allowance.{Allows, HasReads}
 use Rattle.gl_calculus.specs.Steps.Costs.{IsAnew, Finishes, Breaks}
 use Rattle.gl_calculus.proofs.Tests.{key_equality}
 use Rattle.gl_core.specs.Held.{Held}
+use Rattle.gl_core.proofs.Kept.{noted_note}
 use Rattle.gl_core.specs.State.{State, state_of, seeds_of, notes_in, is_noted, IsFor}
 use Rattle.laws_calculus.proofs.Calculus.Allowances.{no_steps, allows_wider}
 use Rattle.gl_core.specs.Answers.{IsUnnoted}
@@ -40,14 +41,6 @@ noted_in (x ∷ ns) n (inr m) = by (same_key n.key x.key) (noted_in ns n m)
     by : (b : Bool) → is_noted ns n.key ≡ true → (b || is_noted ns n.key) ≡ true
     by true h = refl
     by false h = h
-
-pub noted_note : (ns : Notes) (k : K.Key) → is_noted ns k ≡ true → (n : Note K.Key K.Outcome Range) × Member n ns × (n.key ≡ k)
-noted_note [] k e = absurd (cc e)
-noted_note (x ∷ ns) k e = by (same_key k x.key) refl e (noted_note ns k)
-  where
-    by : (b : Bool) → same_key k x.key ≡ b → (b || is_noted ns k) ≡ true → (is_noted ns k ≡ true → (n : Note K.Key K.Outcome Range) × Member n ns × (n.key ≡ k)) → (n : Note K.Key K.Outcome Range) × Member n (x ∷ ns) × (n.key ≡ k)
-    by true t d r = (x, inl refl, sym (key_equality.0 _ _ t))
-    by false t d r = let (n, m, i) = r d in (n, inr m, i)
 
 -- ---- a key is kept exactly where what is kept has a note of it
 
