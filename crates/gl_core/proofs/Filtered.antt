@@ -5,7 +5,6 @@ use Rattle.gl_calculus.specs.Computation.Notes.{Note}
 use Rattle.gl_calculus.specs.Computation.Notes.{note_keys}
 use Rattle.gl_calculus.specs.Grid.Grid.{Range}
 use Rattle.gl_calculus.specs.Evaluation.Key as K
-use Rattle.gl_support.specs.Rows.{AreBelow}
 use Rattle.gl_support.specs.declared.row.Row.{Row}
 use Rattle.gl_demand.specs.declared.outcome.Outcome.{Outcome}
 use Rattle.gl_core.specs.State.{AreSoundNotes, IsSoundNote}
@@ -75,13 +74,6 @@ pub each_all : {X : Type 0} (P : X → Type 0) (xs : List X) → Each P xs → A
 each_all P [] a k d h = absurd (omega (arith, h))
 each_all P (x ∷ xs) a zero d h = a.0
 each_all P (x ∷ xs) a (suc k) d h = each_all P xs a.1 k d (omega (arith, h))
-
-below_by : (n : ℕ) (rs : List (Row Outcome Range)) → Each (IsBelow n) rs → Each (λ (r : Row Outcome Range). r.by < n) rs
-below_by n [] a = tt
-below_by n (r ∷ rs) a = (a.0.0, below_by n rs a.1)
-
-pub rows_below : (n : ℕ) (rs : List (Row Outcome Range)) → Each (IsBelow n) rs → AreBelow n rs
-rows_below n rs a = each_all (λ (r : Row Outcome Range). r.by < n) rs (below_by n rs a)
 
 pub numbers_below : (n : ℕ) (rs : List (Row Outcome Range)) → Each (IsBelow n) rs → Each (λ m. m < n) (numbers_of rs)
 numbers_below n [] a = tt
