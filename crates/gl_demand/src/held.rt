@@ -168,7 +168,7 @@ pub fn held_near<'a>(cells: &'a Cells, env: &'a Env, a: Addr, hint: &mut Hint) -
 
 /// The address is in the region of the frame.
 #[tactic(auto, using(gl_value::specs::Forms::trees))]
-fn in_region(env: &Env, a: Addr) -> bool
+pub fn in_region(env: &Env, a: Addr) -> bool
     ensures { result ≡ in_region (frame_tree env.now) a }
 {
     match env {
@@ -198,20 +198,5 @@ pub fn cover_in(w: &Oracle, env: &Env, a: Addr) -> Option<(Addr, u16, u16)>
     match env {
         Env::Top => w.cover(a),
         Env::In(_, o) => o.cover(a),
-    }
-}
-
-/// An address that holds this shows a blank: it holds nothing, and no root spills over it.
-pub fn is_blank(w: &Oracle, env: &Env, a: Addr, held: Option<Held>) -> bool
-    ensures held { IsTrue result → option_map held_tree held.entry ≡ None }
-    ensures cover { IsTrue result
-        → (S : Sheet) → cover_in (fact S w.now a) (frame_tree env.now) ≡ None }
-{
-    match held {
-        Some(_) => false,
-        None => match cover_in(w, env, a) {
-            Some(_) => false,
-            None => true,
-        },
     }
 }
