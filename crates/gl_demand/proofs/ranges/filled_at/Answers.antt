@@ -1,4 +1,4 @@
-use Rattle.std.proofs.Common.{◌∙◌, refl, sym, subst}
+use Rattle.std.proofs.Common.{◌∙◌, sym, subst}
 use Rattle.gl_calculus.specs.Evaluation.Facts.{fact}
 use Rattle.gl_calculus.specs.Evaluation.Key.{Cell}
 use Rattle.gl_cells.specs.Sheet.{sheet}
