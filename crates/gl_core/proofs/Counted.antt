@@ -138,9 +138,9 @@ module _ (l : Ledger) (e : Entries) (h : IsLedger l) (b : IsRested l e) where
     table = b.table;
     below = b.below;
     resolved = λ p r d. (
-      let (n, f) = get_there e.known.items p (let a = get_within e.statuses.items.items p (Resolved r) d in omega (arith, a, b.table.statuses)) in
-      let (x, g, i) = b.begun p n (Resolved r) f d in
-      (x, g, f ∙ ap Some (sym i)));
+        let (n, f) = get_there e.known.items p (let a = get_within e.statuses.items.items p (Resolved r) d in omega (arith, a, b.table.statuses)) in
+        let (x, g, i) = b.begun p n (Resolved r) f d in
+        (x, g, f ∙ ap Some (sym i)));
     passed = record {
       reads = λ p r i j x d g k q. noted_resolved j (noted (note x) (note_at r x g) j (member_at x.reads.items i j q));
       none = b.none;
