@@ -126,6 +126,14 @@ if_untouched {E} version K q z x result is reads other nil = by result
         S.Spends.line (reads l (subst (λ (y : Request). Asks l y) is a)) other t
     by (Err e) = tt
 
+-- a fact of each number of steps, at this one
+pub at_steps : {E : Type 0} (version : Version) (K K' : Known) (n : ℕ) (q : Request) (result : Result (Vec ℕ Global) E) → IfOk result (λ reply. (m : ℕ) → LineSpends version K K' m m q reply.items)
+    → IfOk result (λ reply. LineSpends version K K' n n q reply.items)
+at_steps version K K' n q result h =
+    let P : Vec ℕ Global → Type 0 = λ reply. (m : ℕ) → LineSpends version K K' m m q reply.items in
+    let Q : Vec ℕ Global → Type 0 = λ reply. LineSpends version K K' n n q reply.items in
+    IfOk-weaker result P Q (λ reply f. f n) h
+
 pub if_refused : {E : Type 0} (version : Version) (K : Known) (q : Request) (result : Result (Vec ℕ Global) E) (w : Bytes) → IfOk result (λ reply. reply.items ≡ error_line w)
     → IfOk result (λ reply. (n : ℕ) → LineSpends version K K n n q reply.items)
 if_refused {E} version K q result w h =

@@ -89,7 +89,3 @@ ActsOnLines version q old r new = IfOk r (λ reply. OfLines q (λ l. Acts csv_re
 -- the steps that it takes go from n to m
 abbrev pub SpendsOnLines : Version → Request → Script → ℕ → Reply → Script → ℕ → Type 0
 SpendsOnLines version q old n r new m = IfOk r (λ reply. OfLines q (λ l. Spends version (known_of old) (Line l) reply.items (known_of new) n m))
-
--- it takes none
-abbrev pub SpendsNothing : Version → Request → Script → Reply → Script → Type 0
-SpendsNothing version q old r new = IfOk r (λ reply. (n : ℕ) → OfLines q (λ l. Spends version (known_of old) (Line l) reply.items (known_of new) n n))

@@ -14,7 +14,7 @@ use Rattle.gl_calculus.specs.Explanation.Walk.{Claim}
 use Rattle.gl_language.specs.Texts.Text.{Bytes}
 use Rattle.gl_language.specs.Reading.Content.{IsProperContent}
 use Rattle.gl_protocol.specs.Scripts.Commands as C
-use Rattle.gl_protocol.specs.Scripts.Commands.{Is, ImportWords, IsAddress, NoAddress, ReadsLine, words_of, AreShown, SettledReply, error_line}
+use Rattle.gl_protocol.specs.Scripts.Commands.{ImportWords, IsAddress, NoAddress, words_of, AreShown, SettledReply, error_line}
 use Rattle.gl_calculus.specs.Forecast.{Forecast, IsForecast}
 use Rattle.gl_protocol.specs.Replies.Explanations.{note_line, loop_line, explanation_text, forecast_line}
 use Rattle.gl_protocol.specs.Replies.Tables.{line, set_text, edit_text}
@@ -28,7 +28,6 @@ use Rattle.gl_protocol.specs.Run.Records.{csv_records}
 use Rattle.gl_csvin.specs.declared.fault.CsvFault.{CsvFault}
 use Rattle.gl_csvin.specs.declared.fault.CsvFault.TheVariants as csv
 use Rattle.gl_merge.specs.Edit.{IsProperOption}
-use Rattle.gl_script.specs.Command.{Asks}
 use Rattle.gl_script.specs.declared.requests.Request.{Request}
 use Rattle.gl_script.specs.declared.requests.Request.TheVariants as r
 use Rattle.gl_views.specs.Rows.{in_rows}
@@ -69,25 +68,6 @@ abbrev pub IsProperRequest : Request → Type 0
 IsProperRequest (r.Set a c) = IsProperContent (content_tree c)
 IsProperRequest (r.Edit t n a c) = IsTrue (is_stamp t n) × IsProperOption c
 IsProperRequest x = ⊤
-
--- each line that asks the request asks this
-abbrev pub AsksFor : Request → C.Request → Type 0
-AsksFor q x = (l : Bytes) → Asks l q → ReadsLine l (Is x)
-
--- the request asks for no calculation
-abbrev pub IsNoQuery : Request → Type 0
-IsNoQuery (r.Show a) = ⊥
-IsNoQuery (r.View x) = ⊥
-IsNoQuery r.Calc = ⊥
-IsNoQuery r.Oracle = ⊥
-IsNoQuery (r.Why a) = ⊥
-IsNoQuery (r.Explain a) = ⊥
-IsNoQuery x = ⊤
-
--- the query that a request is, if it is one
-abbrev pub IsQueryOf : Request → Option Query → Type 0
-IsQueryOf q None = IsNoQuery q
-IsQueryOf q (Some x) = AsksFor q (query_tree x)
 
 -- a line with the words of an import, whose place is this address, or none
 abbrev pub HasPlace : Bytes → Option Addr → Type 0

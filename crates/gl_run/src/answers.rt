@@ -6,9 +6,8 @@ ghost use Rattle.gl_protocol.specs.Framing.Header.{payload_len};
 ghost use Rattle.gl_protocol.specs.Scripts.Output.{is_line};
 ghost use Rattle.gl_ast.specs.View.{version_tree};
 ghost use Rattle.gl_calculus.specs.Steps.Rule.{PicksBelow};
-ghost use Rattle.gl_run.specs.Replies.{IsNoQuery, IsProperRequest, IsQueryOf};
+ghost use Rattle.gl_run.specs.Replies.{IsProperRequest};
 ghost use Rattle.gl_run.specs.Answering.{StaysOnErr, ActsOn, SpendsOn, ActsOnLines, SpendsOnLines};
-ghost use Rattle.gl_run.specs.Answering.{SpendsNothing};
 ghost use Rattle.gl_run.specs.{Kept.IsKept, Script.script_of};
 ghost use Rattle.gl_calc.specs.{Engine.rule_in};
 
@@ -75,54 +74,7 @@ fn answer_request<F: Fn(u8, u64, u64) -> u64, L: Watch>(
         script.new steps.new }
     ensures err { StaysOnErr script.old result script.new }
 {
-    match query_of(&request) {
-        Some(query) => answer_query(engine, query, script, version, steps),
-        None => answer_other(engine.alloc, script, version, request),
-    }
-}
-
-/// What asks for the calculation.
-fn query_of(request: &Request) -> Option<Query>
-    ensures { IsQueryOf request.now result }
-{
-    match request {
-        Request::Show(a) => Some(Query::Show(*a)),
-        Request::View(range) => Some(Query::View(*range)),
-        Request::Calc => Some(Query::Calc),
-        Request::Oracle => Some(Query::Oracle),
-        Request::Why(a) => Some(Query::Why(*a)),
-        Request::Explain(a) => Some(Query::Explain(*a)),
-        Request::Nothing => None,
-        Request::Set(_, _) => None,
-        Request::Clear(_) => None,
-        Request::Get(_) => None,
-        Request::List => None,
-        Request::Import { .. } => None,
-        Request::Version => None,
-        Request::Quit => None,
-        Request::Site(_) => None,
-        Request::Edit { .. } => None,
-        Request::Export => None,
-        Request::Undo => None,
-        Request::Redo => None,
-        Request::Flow => None,
-    }
-}
-
-/// Does what is asked without the calculation. A header is no line of its own.
-fn answer_other(
-    alloc: Global,
-    script: &mut Script,
-    version: Version,
-    request: Request,
-) -> Result<Vec<u8>, NoMemory>
-    requires other { IsNoQuery request }
-    requires proper { IsProperRequest request }
-    requires kept { IsKept (script_of script.old) }
-    ensures acts { ActsOnLines (version_tree version) request script.old result script.new }
-    ensures spends { SpendsNothing (version_tree version) request script.old result script.new }
-    ensures err { StaysOnErr script.old result script.new }
-{
+    let alloc = engine.alloc;
     match request {
         Request::Nothing => Ok(Vec::new(alloc)),
         Request::Set(a, content) => set(alloc, script, a, content),
@@ -143,12 +95,12 @@ fn answer_other(
         Request::Undo => undo(alloc, script),
         Request::Redo => redo(alloc, script),
         Request::Flow => forecast(alloc, script.calc.cells()),
-        Request::Show(_) => unreachable!(),
-        Request::View(_) => unreachable!(),
-        Request::Calc => unreachable!(),
-        Request::Oracle => unreachable!(),
-        Request::Why(_) => unreachable!(),
-        Request::Explain(_) => unreachable!(),
+        Request::Show(a) => answer_query(engine, Query::Show(a), script, version, steps),
+        Request::View(range) => answer_query(engine, Query::View(range), script, version, steps),
+        Request::Calc => answer_query(engine, Query::Calc, script, version, steps),
+        Request::Oracle => answer_query(engine, Query::Oracle, script, version, steps),
+        Request::Why(a) => answer_query(engine, Query::Why(a), script, version, steps),
+        Request::Explain(a) => answer_query(engine, Query::Explain(a), script, version, steps),
     }
 }
 
