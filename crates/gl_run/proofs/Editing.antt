@@ -5,7 +5,6 @@ use Rattle.std.proofs.lemmas.Bool.Decides.{nat_tests}
 use Rattle.gl_calculus.specs.Grid.Limits.{max_formulas, max_contents}
 use Rattle.gl_calculus.specs.Grid.Grid.{Addr}
 use Rattle.gl_calculus.specs.Formulas.Formula.{Cells, formula_addresses}
-use Rattle.gl_protocol.specs.Scripts.Commands as C
 use Rattle.gl_protocol.specs.Scripts.Commands.{Read, Is, Not, allowed}
 use Rattle.gl_cells.specs.Sheet.{Answers}
 use Rattle.gl_cells.specs.declared.fault.PutFault.{PutFault}

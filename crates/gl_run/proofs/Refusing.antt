@@ -4,7 +4,6 @@ use Rattle.std.proofs.Common.{Option, Some, None, MatchOption, Err, sym, subst}
 use Rattle.gl_calculus.specs.Formulas.Formula.{Version}
 use Rattle.gl_language.specs.Texts.Text.{Bytes}
 use Rattle.gl_protocol.specs.Framing.Framing.{Line}
-use Rattle.gl_protocol.specs.Scripts.Commands as C
 use Rattle.gl_protocol.specs.Scripts.Commands.{Not, ReadsLine}
 use Rattle.gl_protocol.specs.Scripts.Script.{Script}
 use Rattle.gl_protocol.specs.Scripts.Acts as T

@@ -1,4 +1,4 @@
-use Rattle.std.proofs.Common.{◌≡◌, ℕ, Vec, Global, ap, sym, subst, ◌∙◌, arith}
+use Rattle.std.proofs.Common.{◌≡◌, ℕ, Vec, Global, ap, sym, subst, ◌∙◌}
 use Rattle.std.proofs.lemmas.Result.{IfOk-weaker}
 use Rattle.gl_calculus.specs.Explanation.Certificate as E
 use Rattle.gl_calculus.specs.Explanation.Certificate.{Explains, verdict}

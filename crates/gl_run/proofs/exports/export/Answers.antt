@@ -1,7 +1,6 @@
 use Rattle.std.specs.Prelude.{codes}
 use Rattle.std.proofs.Common.{◌≡◌, ℕ, Vec, Global, option_map, ap}
 use Rattle.std.proofs.lemmas.Result.{IfOk-weaker}
-use Rattle.gl_protocol.specs.Scripts.Commands as C
 use Rattle.gl_protocol.specs.Scripts.Commands.{error_line}
 use Rattle.gl_protocol.specs.Replies.Tables.{export_text}
 use Rattle.gl_merge.specs.Replica.{registers_of, replica_tree}
