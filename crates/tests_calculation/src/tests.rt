@@ -1,6 +1,7 @@
 // The tests, a file for each concept.
 mod anew;
 mod calculations;
+mod edits;
 mod explanations;
 mod held;
 mod histories;
